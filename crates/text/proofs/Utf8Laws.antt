@@ -10,16 +10,16 @@ use native.Mathlib.Numerals.{add-one}
 use lib.Dec.{leb, ltb}
 use lib.ListN.{length, getD, take, drop, length-drop, drop-of-length-le}
 use lib.Seq.{take-all, drop-append-le, drop-cons, split-at}
-use borrow.Author.Tests.{lt-ltb, le-ltb, le-leb, lt-leb, leb-true, leb-false, ltb-true, ltb-false}
+use borrow.Author.Tests.{le-leb, lt-leb, leb-true, ltb-true, ltb-false}
 use Rattle.text.specs.Utf8.{Range, _to_, UTF8-tail, UTF8-char, within, fits, charLen, chars, utf8, scalar, encode, encodeAll, allScalar}
-use Rattle.text.proofs.Utf8Steps.{and-left, and-right, fits-le, hit, miss, charLen-le, utf8-nil, utf8-none, utf8-char}
+use Rattle.text.proofs.Utf8Steps.{and-left, and-right, charLen-le, utf8-nil, utf8-none, utf8-char}
 
 -- The cases of RFC 3629 that are often got wrong: a surrogate, D800, is not UTF-8, and the last character number, 10FFFF, is.
-surrogate : utf8 (0xED ∷ 0xA0 ∷ 0x80 ∷ []) ≡ false
+pub surrogate : utf8 (0xED ∷ 0xA0 ∷ 0x80 ∷ []) ≡ false
 unfolding utf8 chars charLen UTF8-char fits within
 surrogate = refl
 
-last : utf8 (0xF4 ∷ 0x8F ∷ 0xBF ∷ 0xBF ∷ []) ≡ true
+pub last : utf8 (0xF4 ∷ 0x8F ∷ 0xBF ∷ 0xBF ∷ []) ≡ true
 unfolding utf8 chars charLen UTF8-char fits within
 last = refl
 
@@ -232,3 +232,153 @@ pub utf8-complete : (cs : List ℕ) → allScalar cs ≡ true → utf8 (encodeAl
 unfolding encodeAll allScalar
 utf8-complete [] h = utf8-nil
 utf8-complete (c ∷ cs) h = rw (encoded-char c (encodeAll cs) (and-left (scalar c) (allScalar cs) h)) (utf8-complete cs (and-right (scalar c) (allScalar cs) h))
+
+-- From octets to numbers. The first k octets of s are the encoding of a character number: so it is where a row of k ranges fits, and hence for the char at the head.
+abbrev Head : List ℕ → ℕ → Type 0
+Head s k = (c : ℕ) × (scalar c ≡ true) × (s ≡ encode c ++ drop k s)
+
+abbrev Good : List Range → Type 0
+Good r = (s : List ℕ) → Fits r s → Head s (length r)
+
+abbrev AllGood : List (List Range) → Type 0
+AllGood [] = Unit {0}
+AllGood (r ∷ rows) = Good r × AllGood rows
+
+scalar-low : (c : ℕ) → c ≤ 0xD7FF → scalar c ≡ true
+unfolding scalar
+scalar-low c h = rw (le-leb c 0xD7FF h)
+
+scalar-high : (c : ℕ) → 0xE000 ≤ c → c ≤ 0x10FFFF → scalar c ≡ true
+unfolding scalar
+scalar-high c l h = rw (lt-leb c 0xD7FF (omega arith), le-leb 0xE000 c l, le-leb c 0x10FFFF h)
+
+-- the octets of c, from the numbers in them
+octets-2 : (c a b : ℕ) → c ≡ (a - 0xC0) * 64 + (b - 0x80) → Fits (0xC2 to 0xDF ∷ UTF8-tail ∷ []) (a ∷ b ∷ []) → encode c ≡ a ∷ b ∷ []
+octets-2 c a b e f =
+    let p : 0xC0 + c / 64 ≡ a = omega arith in
+    let q : 0x80 + c % 64 ≡ b = omega arith in
+    encode-2 c (omega arith) (omega arith) ∙ rw (p, q)
+
+octets-3 : (c a b d : ℕ) → c ≡ (a - 0xE0) * 4096 + (b - 0x80) * 64 + (d - 0x80) → Fits (0xE0 to 0xEF ∷ UTF8-tail ∷ UTF8-tail ∷ []) (a ∷ b ∷ d ∷ []) → 0x7FF < c → encode c ≡ a ∷ b ∷ d ∷ []
+octets-3 c a b d e f h =
+    let p : 0xE0 + c / 4096 ≡ a = omega arith in
+    let q : 0x80 + c / 64 % 64 ≡ b = omega arith in
+    let r : 0x80 + c % 64 ≡ d = omega arith in
+    encode-3 c h (omega arith) ∙ rw (p, q, r)
+
+octets-4 : (c a b d g : ℕ) → c ≡ (a - 0xF0) * 262144 + (b - 0x80) * 4096 + (d - 0x80) * 64 + (g - 0x80) → Fits (0xF0 to 0xF4 ∷ UTF8-tail ∷ UTF8-tail ∷ UTF8-tail ∷ []) (a ∷ b ∷ d ∷ g ∷ []) → 0xFFFF < c → encode c ≡ a ∷ b ∷ d ∷ g ∷ []
+octets-4 c a b d g e f h =
+    let p : 0xF0 + c / 262144 ≡ a = omega arith in
+    let q : 0x80 + c / 4096 % 64 ≡ b = omega arith in
+    let r : 0x80 + c / 64 % 64 ≡ d = omega arith in
+    let t : 0x80 + c % 64 ≡ g = omega arith in
+    encode-4 c h ∙ rw (p, q, r, t)
+
+-- the rows, by how many octets they have; `ok` is what is particular to a row
+good-1 : Good (0x00 to 0x7F ∷ [])
+good-1 [] f = absurd f
+good-1 (a ∷ s) f = (a, scalar-low a (omega arith), rw (encode-1 a (f .1)))
+
+good-2 : Good (0xC2 to 0xDF ∷ UTF8-tail ∷ [])
+good-2 [] f = absurd f
+good-2 (a ∷ []) f = absurd (f .2)
+good-2 (a ∷ b ∷ s) f =
+    let c : ℕ = (a - 0xC0) * 64 + (b - 0x80) in
+    (c, scalar-low c (omega arith), rw (octets-2 c a b refl f))
+
+good-3 : (r q : Range) (ok : (c a b d : ℕ) → c ≡ (a - 0xE0) * 4096 + (b - 0x80) * 64 + (d - 0x80) → Fits (r ∷ q ∷ UTF8-tail ∷ []) (a ∷ b ∷ d ∷ []) → Fits (0xE0 to 0xEF ∷ UTF8-tail ∷ UTF8-tail ∷ []) (a ∷ b ∷ d ∷ []) × (0x7FF < c) × (scalar c ≡ true)) → Good (r ∷ q ∷ UTF8-tail ∷ [])
+good-3 r q ok [] f = absurd f
+good-3 r q ok (a ∷ []) f = absurd (f .2)
+good-3 r q ok (a ∷ b ∷ []) f = absurd (f .2 .2)
+good-3 r q ok (a ∷ b ∷ d ∷ s) f =
+    let c : ℕ = (a - 0xE0) * 4096 + (b - 0x80) * 64 + (d - 0x80) in
+    let k = ok c a b d refl f in
+    (c, k .2, rw (octets-3 c a b d refl (k .0) (k .1)))
+
+good-4 : (r q : Range) (ok : (c a b d g : ℕ) → c ≡ (a - 0xF0) * 262144 + (b - 0x80) * 4096 + (d - 0x80) * 64 + (g - 0x80) → Fits (r ∷ q ∷ UTF8-tail ∷ UTF8-tail ∷ []) (a ∷ b ∷ d ∷ g ∷ []) → Fits (0xF0 to 0xF4 ∷ UTF8-tail ∷ UTF8-tail ∷ UTF8-tail ∷ []) (a ∷ b ∷ d ∷ g ∷ []) × (0xFFFF < c) × (c ≤ 0x10FFFF)) → Good (r ∷ q ∷ UTF8-tail ∷ UTF8-tail ∷ [])
+good-4 r q ok [] f = absurd f
+good-4 r q ok (a ∷ []) f = absurd (f .2)
+good-4 r q ok (a ∷ b ∷ []) f = absurd (f .2 .2)
+good-4 r q ok (a ∷ b ∷ d ∷ []) f = absurd (f .2 .2 .2)
+good-4 r q ok (a ∷ b ∷ d ∷ g ∷ s) f =
+    let c : ℕ = (a - 0xF0) * 262144 + (b - 0x80) * 4096 + (d - 0x80) * 64 + (g - 0x80) in
+    let k = ok c a b d g refl f in
+    (c, scalar-high c (omega (arith, k .1)) (k .2), rw (octets-4 c a b d g refl (k .0) (k .1)))
+
+all-good : AllGood UTF8-char
+unfolding UTF8-char
+all-good = (
+  good-1,
+  (
+    good-2,
+    (
+      good-3 (0xE0 to 0xE0) (0xA0 to 0xBF) (λ c a b d e f. ((omega arith, omega arith, (omega arith, omega arith, f .2 .2)), omega arith, scalar-low c (omega arith))),
+      (
+        good-3 (0xE1 to 0xEC) UTF8-tail (λ c a b d e f. ((omega arith, omega arith, f .2), omega arith, scalar-low c (omega arith))),
+        (
+          good-3 (0xED to 0xED) (0x80 to 0x9F) (λ c a b d e f. ((omega arith, omega arith, (omega arith, omega arith, f .2 .2)), omega arith, scalar-low c (omega arith))),
+          (
+            good-3 (0xEE to 0xEF) UTF8-tail (λ c a b d e f. ((omega arith, omega arith, f .2), omega arith, scalar-high c (omega arith) (omega arith))),
+            (
+              good-4 (0xF0 to 0xF0) (0x90 to 0xBF) (λ c a b d g e f. ((omega arith, omega arith, (omega arith, omega arith, f .2 .2)), omega arith, omega arith)),
+              (
+                good-4 (0xF1 to 0xF3) UTF8-tail (λ c a b d g e f. ((omega arith, omega arith, f .2), omega arith, omega arith)),
+                (
+                  good-4 (0xF4 to 0xF4) (0x80 to 0x8F) (λ c a b d g e f. ((omega arith, omega arith, (omega arith, omega arith, f .2 .2)), omega arith, omega arith)),
+                  tt,
+                ),
+              ),
+            ),
+          ),
+        ),
+      ),
+    ),
+  ),
+)
+
+head : (rows : List (List Range)) → AllGood rows → (s : List ℕ) (k : ℕ) → charLen rows s ≡ suc k → Head s (suc k)
+unfolding charLen
+head [] g s k e = absurd (omega arith)
+head (r ∷ rows) g s k e = go (head rows (g .1) s k) (fits r s) refl e
+  where
+    go : (charLen rows s ≡ suc k → Head s (suc k)) → (t : Bool) → fits r s ≡ t → cond t (length r) (charLen rows s) ≡ suc k → Head s (suc k)
+    go f true t e = rw e at (g .0 s (fits-to r s t))
+    go f false t e = f e
+
+-- s is the encodings of character numbers, one after another
+abbrev Encoded : List ℕ → Type 0
+Encoded s = (cs : List ℕ) × (allScalar cs ≡ true) × (s ≡ encodeAll cs)
+
+sound : (n : ℕ) (s : List ℕ) → length s ≤ n → utf8 s ≡ true → Encoded s
+unfolding allScalar encodeAll
+sound zero [] h v = ([], refl, refl)
+sound (suc n) [] h v = ([], refl, refl)
+sound zero (b ∷ s) h v = absurd (omega arith)
+sound (suc n) (b ∷ s) h v = go (λ k. sound n (drop k s) (omega (arith, length-drop k s))) (charLen UTF8-char (b ∷ s)) refl
+  where
+    go : ((k : ℕ) → utf8 (drop k s) ≡ true → Encoded (drop k s)) → (k : ℕ) → charLen UTF8-char (b ∷ s) ≡ k → Encoded (b ∷ s)
+    go f zero e = absurd (false≢true (sym (utf8-none (b ∷ s) (omega arith) e) ∙ v))
+    go f (suc k) e =
+        let c = head UTF8-char all-good (b ∷ s) k e in
+        let cs = f k (sym (utf8-char (b ∷ s) k e) ∙ v) in
+        (c .0 ∷ cs .0, rw (c .1) (cs .1), c .2 ∙ ap (λ (l : List ℕ). encode (c .0) ++ l) (cs .2))
+
+pub utf8-sound : (s : List ℕ) → utf8 s ≡ true → (cs : List ℕ) × (allScalar cs ≡ true) × (s ≡ encodeAll cs)
+utf8-sound s v = sound (length s) s (omega arith) v
+
+-- Two lists of UTF-8 one after the other: so are the numbers encoded.
+encodeAll-append : (cs ds : List ℕ) → encodeAll (cs ++ ds) ≡ encodeAll cs ++ encodeAll ds
+unfolding encodeAll
+encodeAll-append [] ds = refl
+encodeAll-append (c ∷ cs) ds = rw (encodeAll-append cs ds, append-assoc)
+
+allScalar-append : (cs ds : List ℕ) → allScalar cs ≡ true → allScalar ds ≡ true → allScalar (cs ++ ds) ≡ true
+unfolding allScalar
+allScalar-append [] ds p q = q
+allScalar-append (c ∷ cs) ds p q = rw (and-left (scalar c) (allScalar cs) p) (allScalar-append cs ds (and-right (scalar c) (allScalar cs) p) q)
+
+pub utf8-append : (p q : List ℕ) → utf8 p ≡ true → utf8 q ≡ true → utf8 (p ++ q) ≡ true
+utf8-append p q v w =
+    let a = utf8-sound p v in
+    let b = utf8-sound q w in
+    rw (a .2, b .2, ← encodeAll-append (a .0) (b .0)) (utf8-complete (a .0 ++ b .0) (allScalar-append (a .0) (b .0) (a .1) (b .1)))

@@ -1,13 +1,13 @@
 -- How the definitions of specs/Utf8.antt go on: one range more, one alternative more, one char more.
-use Prim.Native.Nat.{ℕ, zero, suc, _+_, _-_, _<_, _≤_}
-use mathlib.Core.Path.{_≡_, refl, sym, _∙_, ap}
-use mathlib.Core.Bool.{Bool, true, false, cond, _&&_, true≢false, false≢true}
+use Prim.Native.Nat.{ℕ, zero, suc, _<_, _≤_}
+use mathlib.Core.Path.{_≡_, refl, sym, _∙_}
+use mathlib.Core.Bool.{Bool, true, false, cond, _&&_, false≢true}
 use mathlib.Core.List.{List, [], _∷_, _++_}
 use native.Mathlib.Omega.{arith}
-use lib.Dec.{leb, ltb, eqb, leb·suc-suc, eqb·suc-zero}
-use lib.ListN.{length, getD, take, drop, length-drop}
-use borrow.Author.Tests.{lt-ltb, le-ltb, le-leb, lt-leb, eq-eqb, ne-eqb}
-use Rattle.text.specs.Utf8.{Range, _to_, UTF8-tail, UTF8-char, within, octetIn, fits, charLen, chars, utf8}
+use lib.Dec.{leb·suc-suc, eqb·suc-zero}
+use lib.ListN.{length, drop, length-drop}
+use borrow.Author.Tests.{lt-ltb}
+use Rattle.text.specs.Utf8.{Range, UTF8-char, within, octetIn, fits, charLen, chars, utf8}
 
 -- One octet more. An alternative with a range r at its end fits where the ranges before r fit and the octet after theirs lies in r.
 octet-suc : (b : ℕ) (s : List ℕ) (k : ℕ) (r : Range) → octetIn (b ∷ s) (suc k) r ≡ octetIn s k r
