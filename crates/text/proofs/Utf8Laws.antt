@@ -2,7 +2,7 @@
 -- `ascii-cut`, `utf8-take-ascii`, `utf8-drop-ascii`, `utf8-after-ascii`.
 use Prim.Native.Nat.{ℕ, zero, suc, _+_, _*_, _-_, _/_, _%_, _<_, _≤_}
 use mathlib.Core.Path.{_≡_, refl, sym, _∙_, ap}
-use mathlib.Core.Bool.{Bool, true, false, cond, _&&_, _||_, false≢true}
+use mathlib.Core.Bool.{Bool, true, false, cond, _&&_, _||_, false≢true, and-false}
 use mathlib.Core.List.{List, [], _∷_, _++_, append-assoc}
 use mathlib.Core.Logic.{_⊎_, inl, inr, ⊎-elim}
 use native.Mathlib.Omega.{arith}
@@ -123,10 +123,6 @@ passed lo rows zero = true
 passed lo [] (suc k) = true
 passed lo ([] ∷ rows) (suc k) = false
 passed lo ((r ∷ rs) ∷ rows) (suc k) = ltb (r .hi) lo && passed lo rows k
-
-and-false : (a : Bool) → (a && false) ≡ false
-and-false true = refl
-and-false false = refl
 
 over : (r : Range) (a : ℕ) → r .hi < a → within r a ≡ false
 unfolding within
