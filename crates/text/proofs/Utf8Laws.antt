@@ -11,17 +11,8 @@ use lib.Dec.{leb, ltb}
 use lib.ListN.{length, getD, take, drop, length-drop, drop-of-length-le}
 use lib.Seq.{take-all, drop-append-le, drop-cons, split-at}
 use borrow.Author.Tests.{le-leb, lt-leb, leb-true, ltb-true, ltb-false}
-use Rattle.text.specs.Utf8.{Range, _to_, UTF8-tail, UTF8-char, within, fits, charLen, chars, utf8, scalar, encode, encodeAll, allScalar}
+use Rattle.text.specs.Utf8.{Range, _to_, UTF8-tail, UTF8-char, within, fits, charLen, utf8, scalar, encode, encodeAll, allScalar}
 use Rattle.text.proofs.Utf8Steps.{and-left, and-right, charLen-le, utf8-nil, utf8-none, utf8-char}
-
--- The cases of RFC 3629 that are often got wrong: a surrogate, D800, is not UTF-8, and the last character number, 10FFFF, is.
-pub surrogate : utf8 (0xED ∷ 0xA0 ∷ 0x80 ∷ []) ≡ false
-unfolding utf8 chars charLen UTF8-char fits within
-surrogate = refl
-
-pub last : utf8 (0xF4 ∷ 0x8F ∷ 0xBF ∷ 0xBF ∷ []) ≡ true
-unfolding utf8 chars charLen UTF8-char fits within
-last = refl
 
 below : (a b : ℕ) → a < b ⊎ b ≤ a
 below a b = go (ltb a b) refl
