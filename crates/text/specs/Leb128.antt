@@ -1,6 +1,7 @@
 -- Unsigned LEB128 numbers, after DWARF 5, section 7.6. A byte is a natural number; its high bit is set where it is 128 or more. Assumes nothing.
-use Prim.Native.Nat.{ℕ, zero, suc, _+_, _*_, _/_, _%_, _^_}
-use mathlib.Core.List.{List, [], _∷_}
+use Prim.Native.Nat.{ℕ, zero, suc, _+_, _*_, _/_, _%_, _^_, _≤_, _<_}
+use mathlib.Core.Path.{_≡_}
+use mathlib.Core.List.{List, [], _∷_, _++_}
 use mathlib.Core.Bool.{Bool, true, false, cond, _&&_, _||_}
 use lib.ListN.{length, drop}
 use lib.Dec.{ltb, leb}
@@ -40,6 +41,17 @@ number p = cond (well-formed p && (leb (length p) 10 && ltb (leb-value p) (2 ^ 6
 -- the number at an offset
 unfoldable pub decoded : List ℕ → ℕ → Leb
 decoded s at = number (leb-prefix (drop at s))
+
+-- what the standard and document 01 accept: n bytes at the offset are a number v, of at most ten bytes and 64 bits; longer forms than the shortest too
+pub record Accepted (s : List ℕ) (at v n : ℕ) : Type 0 where
+  pub form : List ℕ
+  pub rest : List ℕ
+  pub stands : drop at s ≡ form ++ rest
+  pub formed : well-formed form ≡ true
+  pub value : leb-value form ≡ v
+  pub size : length form ≡ n
+  pub short : n ≤ 10
+  pub small : v < 2 ^ 64
 
 -- what writing leaves: its answer, and the lent bytes
 pub record Written : Type 0 where

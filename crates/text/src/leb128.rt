@@ -31,7 +31,7 @@ fn put_leb128(out: &mut [u8], at: usize, v: u64)
 {
     let mut rest = v;
     let mut i = at;
-    while 128 <= rest {
+    while rest >= 128 {
         out[i] = (rest % 128 + 128) as u8;
         rest = rest / 128;
         i += 1;
@@ -91,12 +91,12 @@ pub fn read_leb128(s: &[u8], at: usize) -> Leb
     if left <= 9 {
         return Leb::Absent;
     }
-    let byte = wide(s[at + 9]);
-    if 1 < byte {
+    let tenth = wide(s[at + 9]);
+    if 1 < tenth {
         return Leb::Absent;
     }
     Leb::Number {
-        value: value + unit * byte,
+        value: value + unit * tenth,
         len: 10,
     }
 }

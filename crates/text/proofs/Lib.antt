@@ -1,0 +1,3 @@
+pub mod Leb128Laws
+mod Leb128Reading
+pub mod Marked
