@@ -1,3 +1,4 @@
 pub mod Laws
 pub mod Sizes
 pub mod Branches
+pub mod Parts
