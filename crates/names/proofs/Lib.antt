@@ -2,3 +2,4 @@ pub mod Laws
 pub mod Sizes
 pub mod Branches
 pub mod Parts
+pub mod Kept

@@ -23,24 +23,24 @@ module _ (P : List ℕ → Type 0) (s : List ℕ) where
         underscored false f = kept
 
         single : (o : Option ℕ) → cut (64 ∷ []) (drop 1 s) ≡ o → prefixed s ≡ true
-          → P (Option·getD (Option·map (λ n. take n (drop 1 s)) o) (cond (starts-with (95 ∷ []) s) (drop 1 s) s))
+            → P (Option·getD (Option·map (λ n. take n (drop 1 s)) o) (cond (starts-with (95 ∷ []) s) (drop 1 s) s))
         single none e f = underscored (starts-with (95 ∷ []) s) f
         single (some n) e f = stdcall f n e
 
         first : (t : Bool) → prefixed s ≡ t
-          → P (cond t (Option·getD (before (64 ∷ []) (drop 1 s)) (cond (starts-with (95 ∷ []) s) (drop 1 s) s)) s)
+            → P (cond t (Option·getD (before (64 ∷ []) (drop 1 s)) (cond (starts-with (95 ∷ []) s) (drop 1 s) s)) s)
         first true f = single (cut (64 ∷ []) (drop 1 s)) refl f
         first false f = kept
 
         double : (o : Option ℕ) → cut (64 ∷ 64 ∷ []) s ≡ o
-          → P (Option·getD (Option·map (λ n. take n s) o)
-          (cond (prefixed s) (Option·getD (before (64 ∷ []) (drop 1 s)) (cond (starts-with (95 ∷ []) s) (drop 1 s) s)) s))
+            → P (Option·getD (Option·map (λ n. take n s) o)
+            (cond (prefixed s) (Option·getD (before (64 ∷ []) (drop 1 s)) (cond (starts-with (95 ∷ []) s) (drop 1 s) s)) s))
         double none e = first (prefixed s) refl
         double (some n) e = vectorcall n e
 
         alone : (t : Bool) → P (cond t s
-          (Option·getD (before (64 ∷ 64 ∷ []) s)
-          (cond (prefixed s) (Option·getD (before (64 ∷ []) (drop 1 s)) (cond (starts-with (95 ∷ []) s) (drop 1 s) s)) s)))
+            (Option·getD (before (64 ∷ 64 ∷ []) s)
+            (cond (prefixed s) (Option·getD (before (64 ∷ []) (drop 1 s)) (cond (starts-with (95 ∷ []) s) (drop 1 s) s)) s)))
         alone true = kept
         alone false = double (cut (64 ∷ 64 ∷ []) s) refl
 
