@@ -1,0 +1,214 @@
+-- The converter over a state S, as the real one is: flat rows in preorder, ranges that hold locations, call locations that hold references.
+-- S stands for all the tables; `Machine` is what the converter asks of them.
+use mathlib.Core.Path.{_≡_}
+use mathlib.Core.Bool.{Bool, true, false, cond}
+use mathlib.Core.Option.{Option, none, some}
+use mathlib.Core.List.{List, [], _∷_, _++_, map}
+use Prim.Native.Nat.{ℕ, zero, suc, _≤_, _<_}
+use lib.Dec.{ltb, leb, eqb}
+use Rattle.model.specs.Model.{_∈_, Span, Line, Row, Forest, Op, tree, symbol, idle, Deep, sort}
+use Rattle.model.specs.Depths.{under, Steps}
+
+-- what is read of a function row (Q), a line row (N) and a symbol (Y)
+pub record Input (Q N Y : Type 0) : Type 0 where
+  pub entry : Q → ℕ
+  pub stop : Q → ℕ
+  pub skipped : Q → Bool  -- size 0, or address above MAX
+  pub inline : Q → Bool
+  pub lines : Q → List N
+  pub span : N → Span  -- line_boundaries
+  pub cut : N → ℕ  -- the address, cut to 32 bits
+  pub sym-skipped : Y → Bool  -- unnamed, or address above MAX
+  pub sym-addr : Y → ℕ
+  pub sym-end : Y → Option ℕ
+
+-- locations L, references to call locations C, what a row keeps while its lines are walked R, and what a symbol's text became P
+pub record Machine (Q N Y R P L C S : Type 0) : Type 0 where
+  pub get : S → ℕ → Option L
+  pub put : ℕ → L → S → S
+  pub begin : Q → S → R × S  -- a row's texts and its function
+  pub locate : Q → R → N → C → S → L × S  -- a line's texts and its file
+  pub enter : L → S → C × S  -- a call location
+  pub bare : Q → R → L
+  pub none-loc : L
+  pub is-none : L → Bool
+  pub base : C
+  pub sym-begin : Y → S → P × S  -- a symbol's text
+  pub sym-locate : Y → P → S → L × S  -- its function
+  pub last : S → Option ℕ  -- the last end, if set
+  pub mark-end : ℕ → S → S  -- a function's end may become the last end
+  pub mark-symbol : ℕ → S → S  -- a symbol's address may clear it
+
+pub record Ref (C : Type 0) : Type 0 where
+  pub addr : ℕ
+  pub ref : C
+
+pub record WalkedM (C S : Type 0) : Type 0 where
+  pub state : S
+  pub calls : List (Ref C)
+  pub left : List Span
+  pub at : ℕ
+
+pub record LoopedM (C S : Type 0) : Type 0 where
+  pub state : S
+  pub calls : List (Ref C)
+
+pub record CursorM (C : Type 0) : Type 0 where
+  pub now : C
+  pub next : List (Ref C)
+
+pub data OpM (Q Y : Type 0) : Type 0 where
+  treeM : Q → List (Deep Q) → OpM Q Y  -- the root, and the rows after it
+  symbolM : Y → OpM Q Y
+
+module _ {C : Type 0} where
+  unfoldable pub advanceM : ℕ → C → List (Ref C) → CursorM C
+  advanceM a w [] = record { now = w; next = [] }
+  advanceM a w (c ∷ cs) = elim (leb (c .addr) a) [ true ↦ advanceM a (c .ref) cs | false ↦ record { now = w; next = c ∷ cs } ]
+
+  unfoldable pub set-atM : ℕ → List (Ref C) → (ℕ → List (Ref C)) → ℕ → List (Ref C)
+  set-atM d cs ctx = λ j. cond (eqb j d) cs (ctx j)
+
+module _ {Q N Y : Type 0} (I : Input Q N Y) where
+  unfoldable pub kid-spansM : ℕ → List (Deep Q) → List Span
+  kid-spansM d [] = []
+  kid-spansM d (r ∷ rs) =
+      cond (leb (r .depth) d) [] (cond (eqb (r .depth) (suc d)) (map (I .span) (I .lines (r .item)) ++ kid-spansM d rs) (kid-spansM d rs))
+
+module _ {Q N Y R P L C S : Type 0} (I : Input Q N Y) (M : Machine Q N Y R P L C S) where
+  -- t, if a is vacant or empty in s, and else s
+  unfoldable pub unless-held : ℕ → S → S → S
+  unless-held a t s = elim (M .get s a) [ none ↦ t | some w ↦ cond (M .is-none w) t s ]
+
+  unfoldable pub put-end : ℕ → S → S
+  put-end a s = elim (M .get s a) [ none ↦ M .put a (M .none-loc) s | some w ↦ s ]
+
+  unfoldable pub walkM : L → ℕ → ℕ → List Span → S → WalkedM C S
+  walkM l e a [] s =
+      elim (ltb a e) [
+        | true ↦ record { state = M .put a l s; calls = []; left = []; at = e }
+        | false ↦ record { state = s; calls = []; left = []; at = a }
+      ]
+  walkM l e a (r ∷ rs) s =
+      let s₁ : S = cond (ltb a (r .from)) (M .put a l s) s in
+      elim (ltb a e) [
+        | true ↦ elim (ltb (r .from) e) [
+          | true ↦
+              let c = M .enter l s₁ in
+              let w = walkM l e (r .to) rs (c .1) in
+              record { state = w .state; calls = record { addr = r .from; ref = c .0 } ∷ w .calls; left = w .left; at = w .at }
+          | false ↦ record { state = s₁; calls = []; left = r ∷ rs; at = e }
+        ]
+        | false ↦ record { state = s; calls = []; left = r ∷ rs; at = a }
+      ]
+
+  unfoldable pub loopM : Q → R → List N → C → List (Ref C) → List Span → ℕ → S → LoopedM C S
+  loopM q r [] w cs rs at s = record { state = s; calls = [] }
+  loopM q r (n ∷ ns) w cs rs at s =
+      elim (ltb (I .cut n) at) [
+        | true ↦ loopM q r ns w cs rs at s
+        | false ↦
+            let c = advanceM (I .span n .from) w cs in
+            let l = M .locate q r n (c .now) s in
+            let o = walkM (l .0) (I .span n .to) (I .span n .from) rs (l .1) in
+            let p = loopM q r ns (c .now) (c .next) (o .left) (o .at) (o .state) in
+            record { state = p .state; calls = o .calls ++ p .calls }
+      ]
+
+  -- after a row's own lines: the entry, unless it is inline; the last end, and then the end mapping
+  unfoldable pub entryM : Q → R → S → S
+  entryM q r s = elim (I .inline q) [ true ↦ s | false ↦ unless-held (I .entry q) (M .put (I .entry q) (M .bare q r) s) s ]
+
+  unfoldable pub closingM : Q → R → S → S
+  closingM q r s = put-end (I .stop q) (M .mark-end (I .stop q) (entryM q r s))
+
+  unfoldable pub rowM : Q → List Span → List (Ref C) → S → LoopedM C S
+  rowM q ss [] s = record { state = s; calls = [] }
+  rowM q ss (c ∷ cs) s =
+      elim (I .skipped q) [
+        | true ↦ record { state = s; calls = [] }
+        | false ↦
+            let b = M .begin q s in
+            let o = loopM q (b .0) (I .lines q) (c .ref) cs (sort ss) 0 (b .1) in
+            record { state = closingM q (b .0) (o .state); calls = o .calls }
+      ]
+
+  unfoldable pub convertM : List (Deep Q) → (ℕ → List (Ref C)) → S → S
+  convertM [] ctx s = s
+  convertM (r ∷ rs) ctx s =
+      let o = rowM (r .item) (kid-spansM I (r .depth) rs) (ctx (r .depth)) s in
+      convertM rs (set-atM (suc (r .depth)) (o .calls) ctx) (o .state)
+
+  unfoldable pub startM : ℕ → List (Ref C)
+  startM zero = record { addr = 0; ref = M .base } ∷ []
+  startM (suc d) = []
+
+  unfoldable pub named-symbolM : Y → S → S
+  named-symbolM y s =
+      let b = M .sym-begin y s in
+      let l = M .sym-locate y (b .0) (b .1) in
+      let t = M .mark-symbol (I .sym-addr y) (unless-held (I .sym-addr y) (M .put (I .sym-addr y) (l .0) (l .1)) (b .1)) in
+      elim (I .sym-end y) [ none ↦ t | some e ↦ put-end e t ]
+
+  -- one that is unnamed or above MAX is accepted and changes nothing
+  unfoldable pub convert-symbolM : Y → S → S
+  convert-symbolM y s = elim (I .sym-skipped y) [ true ↦ s | false ↦ named-symbolM y s ]
+
+  unfoldable pub convert-opM : OpM Q Y → S → S
+  convert-opM (treeM q rs) s = convertM (record { depth = 0; item = q } ∷ rs) startM s
+  convert-opM (symbolM y) s = convert-symbolM y s
+
+  unfoldable pub runM : List (OpM Q Y) → S → S
+  runM [] s = s
+  runM (o ∷ os) s = runM os (convert-opM o s)
+
+  -- the writer's sentinel at the last end
+  unfoldable pub finishM : S → S
+  finishM s = elim (M .last s) [ none ↦ s | some a ↦ put-end a s ]
+
+-- ── What the input means, ideally ──
+
+pub record Means (Q N Y F : Type 0) : Type 0 where
+  pub frame : Q → N → F  -- of a row's line
+  pub bare-frame : Q → F  -- of a row alone
+  pub sym-frame : Y → F
+
+module _ {Q N Y F : Type 0} (I : Input Q N Y) (T : Means Q N Y F) where
+  abbrev pub line-of : Q → N → Line F
+  line-of q n = record { span = I .span n; frame = T .frame q n }
+
+  abbrev pub row-of : Q → Row F
+  row-of q = record { entry = I .entry q; stop = I .stop q; bare = T .bare-frame q; lines = map (line-of q) (I .lines q) }
+
+  abbrev pub deep-of : Deep Q → Deep (Row F)
+  deep-of r = record { depth = r .depth; item = row-of (r .item) }
+
+  abbrev pub kids-of : List (Deep Q) → Forest F
+  kids-of rs = under 1 (map deep-of rs)
+
+  abbrev pub op-of : OpM Q Y → Op F
+  op-of (treeM q rs) = tree (row-of q) (kids-of rs)
+  op-of (symbolM y) = cond (I .sym-skipped y) idle (symbol (I .sym-addr y) (I .sym-end y) (T .sym-frame y))
+
+-- at depth 0 a row isn't inline, and below it is
+abbrev pub inner : ℕ → Bool
+inner zero = false
+inner (suc d) = true
+
+module _ {Q N Y : Type 0} (I : Input Q N Y) where
+  -- a row at depth d that isn't skipped, with no line whose address is cut or clamped
+  pub record Sound (d : ℕ) (q : Q) : Type 0 where
+    pub flag : I .inline q ≡ inner d
+    pub kept : I .skipped q ≡ false
+    pub uncut : (n : N) → n ∈ I .lines q → I .cut n ≡ I .span n .from
+
+  -- the depths are a tree's, and its rows are sound
+  pub record SoundTree (q : Q) (rs : List (Deep Q)) : Type 0 where
+    pub root : Sound 0 q
+    pub rows : (r : Deep Q) → r ∈ rs → Sound (r .depth) (r .item)
+    pub steps : Steps 1 rs
+    pub deeper : (r : Deep Q) → r ∈ rs → 1 ≤ r .depth
+
+  abbrev pub SoundOp : OpM Q Y → Type 0
+  SoundOp (treeM q rs) = SoundTree q rs
+  SoundOp (symbolM y) = Unit {0}
