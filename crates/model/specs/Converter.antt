@@ -1,14 +1,36 @@
 -- THE PLAIN CONVERTER: document 01's "Converter" over lists of rows, with no index, no capacity and no words. References are `Option`s: `none` stands for
 -- the MAX that the file has. The loops are those of `Machine`; here is what they do to the tables.
-use mathlib.Core.Bool.{Bool, true, false, cond}
+use mathlib.Core.Bool.{Bool, true, false, cond, _&&_}
 use mathlib.Core.Option.{Option, none, some}
 use mathlib.Core.List.{List, [], _∷_, map}
-use Prim.Native.Nat.{ℕ, zero, suc}
+use Prim.Native.Nat.{ℕ}
 use lib.Dec.{ltb, eqb}
-use Rattle.model.specs.Machine.{Machine, OpM, runM, finishM}
-use Rattle.model.specs.Table.{Entry}
-use Rattle.model.specs.Intern.{Interned, intern}
-use Rattle.model.specs.Rows.{MAX, cut32, Text, LineRow, FunctionRow, SymbolRow, Given, op, input}
+use Rattle.model.specs.Basics.{Deep, Entry, intern}
+use Rattle.model.specs.Rows.{MAX, cut32, Text, LineRow, FunctionRow, SymbolRow, Given, tree-rows, symbol-row, function-end, skipped, boundaries, symbol-skipped, symbol-end}
+use Rattle.model.specs.Machine.{Input, Machine, OpM, treeM, symbolM, runM}
+
+-- ── What the loops read of the rows ──
+
+abbrev pub input : Input FunctionRow LineRow SymbolRow
+input = record {
+  entry = λ q. q .address;
+  stop = function-end;
+  skipped = skipped;
+  inline = λ q. q .inline;
+  lines = λ q. q .lines;
+  span = boundaries;
+  cut = λ n. cut32 (n .address);  -- "Following lines whose address, cut to 32 bits (not clamped), is below it are skipped"
+  sym-skipped = symbol-skipped;
+  sym-addr = λ y. y .address;
+  sym-end = symbol-end;
+}
+
+abbrev pub deep : FunctionRow → Deep FunctionRow
+deep q = record { depth = q .depth; item = q }
+
+abbrev pub op : Given → OpM FunctionRow SymbolRow
+op (tree-rows q rs) = treeM q (map deep rs)
+op (symbol-row y) = symbolM y
 
 -- how the converter was begun: the two switches, what is UTF-8, and `undecorate_win_symbol`
 pub record Setup : Type 0 where
@@ -54,9 +76,6 @@ nothing = record { texts = []; files = []; functions = []; calls = []; ranges = 
 
 -- ── Equality tests ─────────────────────────────────────────────────────────────────────────────────────────────────────
 
-abbrev pub both? : Bool → Bool → Bool
-both? a b = cond a b false
-
 abbrev pub opt-eq : Option ℕ → Option ℕ → Bool
 opt-eq none none = true
 opt-eq none (some j) = false
@@ -67,24 +86,25 @@ abbrev pub text-eq : Text → Text → Bool
 text-eq [] [] = true
 text-eq [] (b ∷ t) = false
 text-eq (a ∷ s) [] = false
-text-eq (a ∷ s) (b ∷ t) = both? (eqb a b) (text-eq s t)
+text-eq (a ∷ s) (b ∷ t) = eqb a b && text-eq s t
 
 abbrev pub file-eq : File → File → Bool
 file-eq x y =
-    both? (opt-eq (x .name) (y .name))
-    (both? (opt-eq (x .directory) (y .directory))
-    (both? (opt-eq (x .comp-dir) (y .comp-dir))
-    (both? (opt-eq (x .srcsrv-name) (y .srcsrv-name))
-    (both? (opt-eq (x .srcsrv-dir) (y .srcsrv-dir)) (opt-eq (x .revision) (y .revision))))))
+    opt-eq (x .name) (y .name)
+    && opt-eq (x .directory) (y .directory)
+    && opt-eq (x .comp-dir) (y .comp-dir)
+    && opt-eq (x .srcsrv-name) (y .srcsrv-name)
+    && opt-eq (x .srcsrv-dir) (y .srcsrv-dir)
+    && opt-eq (x .revision) (y .revision)
 
 abbrev pub function-eq : Function → Function → Bool
-function-eq x y = both? (opt-eq (x .name) (y .name)) (both? (eqb (x .entry) (y .entry)) (eqb (x .language) (y .language)))
+function-eq x y = opt-eq (x .name) (y .name) && eqb (x .entry) (y .entry) && eqb (x .language) (y .language)
 
 abbrev pub location-eq : Location → Location → Bool
 location-eq nowhere nowhere = true
 location-eq nowhere (at g o j b) = false
 location-eq (at f n i a) nowhere = false
-location-eq (at f n i a) (at g o j b) = both? (opt-eq f g) (both? (eqb n o) (both? (eqb i j) (opt-eq a b)))
+location-eq (at f n i a) (at g o j b) = opt-eq f g && eqb n o && eqb i j && opt-eq a b
 
 abbrev pub is-nowhere : Location → Bool
 is-nowhere nowhere = true

@@ -1,13 +1,11 @@
 -- The converter over a state S, as the real one is: flat rows in preorder, ranges that hold locations, call locations that hold references.
 -- S stands for all the tables; `Machine` is what the converter asks of them.
-use mathlib.Core.Path.{_≡_}
 use mathlib.Core.Bool.{Bool, true, false, cond}
 use mathlib.Core.Option.{Option, none, some}
 use mathlib.Core.List.{List, [], _∷_, _++_, map}
-use Prim.Native.Nat.{ℕ, zero, suc, _≤_, _<_}
+use Prim.Native.Nat.{ℕ, zero, suc}
 use lib.Dec.{ltb, leb, eqb}
-use Rattle.model.specs.Model.{_∈_, Span, Line, Row, Forest, Op, tree, symbol, idle, Deep, sort}
-use Rattle.model.specs.Depths.{under, Steps}
+use Rattle.model.specs.Basics.{Span, Deep, sort}
 
 -- what is read of a function row (Q), a line row (N) and a symbol (Y)
 pub record Input (Q N Y : Type 0) : Type 0 where
@@ -165,50 +163,3 @@ module _ {Q N Y R P L C S : Type 0} (I : Input Q N Y) (M : Machine Q N Y R P L C
   -- the writer's sentinel at the last end
   unfoldable pub finishM : S → S
   finishM s = elim (M .last s) [ none ↦ s | some a ↦ put-end a s ]
-
--- ── What the input means, ideally ──
-
-pub record Means (Q N Y F : Type 0) : Type 0 where
-  pub frame : Q → N → F  -- of a row's line
-  pub bare-frame : Q → F  -- of a row alone
-  pub sym-frame : Y → F
-
-module _ {Q N Y F : Type 0} (I : Input Q N Y) (T : Means Q N Y F) where
-  abbrev pub line-of : Q → N → Line F
-  line-of q n = record { span = I .span n; frame = T .frame q n }
-
-  abbrev pub row-of : Q → Row F
-  row-of q = record { entry = I .entry q; stop = I .stop q; bare = T .bare-frame q; lines = map (line-of q) (I .lines q) }
-
-  abbrev pub deep-of : Deep Q → Deep (Row F)
-  deep-of r = record { depth = r .depth; item = row-of (r .item) }
-
-  abbrev pub kids-of : List (Deep Q) → Forest F
-  kids-of rs = under 1 (map deep-of rs)
-
-  abbrev pub op-of : OpM Q Y → Op F
-  op-of (treeM q rs) = tree (row-of q) (kids-of rs)
-  op-of (symbolM y) = cond (I .sym-skipped y) idle (symbol (I .sym-addr y) (I .sym-end y) (T .sym-frame y))
-
--- at depth 0 a row isn't inline, and below it is
-abbrev pub inner : ℕ → Bool
-inner zero = false
-inner (suc d) = true
-
-module _ {Q N Y : Type 0} (I : Input Q N Y) where
-  -- a row at depth d that isn't skipped, with no line whose address is cut or clamped
-  pub record Sound (d : ℕ) (q : Q) : Type 0 where
-    pub flag : I .inline q ≡ inner d
-    pub kept : I .skipped q ≡ false
-    pub uncut : (n : N) → n ∈ I .lines q → I .cut n ≡ I .span n .from
-
-  -- the depths are a tree's, and its rows are sound
-  pub record SoundTree (q : Q) (rs : List (Deep Q)) : Type 0 where
-    pub root : Sound 0 q
-    pub rows : (r : Deep Q) → r ∈ rs → Sound (r .depth) (r .item)
-    pub steps : Steps 1 rs
-    pub deeper : (r : Deep Q) → r ∈ rs → 1 ≤ r .depth
-
-  abbrev pub SoundOp : OpM Q Y → Type 0
-  SoundOp (treeM q rs) = SoundTree q rs
-  SoundOp (symbolM y) = Unit {0}

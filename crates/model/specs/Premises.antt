@@ -1,16 +1,15 @@
 -- Document 01's "Well nested" and demand 3's premises, on the rows as they are given; and the frames that demand 3 asks for at an address.
 use mathlib.Core.Path.{_≡_}
-use mathlib.Core.Bool.{Bool, true, false, cond}
+use mathlib.Core.Bool.{true, false, cond}
 use mathlib.Core.Option.{Option, none, some}
 use mathlib.Core.Logic.{_⊎_}
 use mathlib.Core.List.{List, [], _∷_, _++_, map}
 use Prim.Native.Nat.{ℕ, suc, _+_, _≤_, _<_}
 use lib.Dec.{leb, eqb}
-use Rattle.model.specs.Model.{_∈_, Span, Asc, Apart, coversb, Deep}
+use Rattle.model.specs.Basics.{_∈_, Span, Asc, Apart, coversb, Deep}
 use Rattle.model.specs.Rows.{MAX, Text, LineRow, FunctionRow, SymbolRow, Given, tree-rows, symbol-row, line-size}
 use Rattle.model.specs.Converter.{Setup, function-name, line-texts, entry-of}
-use Rattle.model.specs.Frames.{Frame}
-use Rattle.model.specs.Chains.{known, known-six}
+use Rattle.model.specs.Frames.{Frame, known, known-six}
 
 -- "A line covers as many addresses as its size (1 where absent), from its own on"
 abbrev pub reach : LineRow → Span

@@ -1,14 +1,15 @@
 -- The stack by recursion on the tree is the plain one: of all rows, in preorder, those with a line covering x, the deepest first.
-use mathlib.Core.Path.{_≡_, refl, sym, ap, _∙_, subst}
+use mathlib.Core.Path.{_≡_, refl, ap, _∙_, subst}
 use mathlib.Core.Option.{Option, none, some}
-use mathlib.Core.Logic.{_⊎_, inl, inr, _≢_, ⊎-elim}
-use mathlib.Core.List.{List, [], _∷_, _++_, map, reverse, reverse-cons, append-nil}
-use Prim.Native.Nat.{ℕ, zero, suc, _≤_, _<_}
+use mathlib.Core.Logic.{inl, inr, _≢_, ⊎-elim}
+use mathlib.Core.List.{List, [], _∷_, _++_, reverse, reverse-cons, append-nil}
+use Prim.Native.Nat.{ℕ, suc}
 use native.Mathlib.Omega.{arith}
 use lib.ListN.{length}
-use Rattle.model.specs.Model.{_∈_, here, there, Span, Line, Row, Forest, nil, row, spans-of, spans, Asc, Apart, Disjoint, Covers, WellRow, Nested, WellTree, frame-at, stack-at, Deep, preorder, covering, frames, depths, upto}
-use Rattle.model.specs.Spans.{∈-map, map-∈, ∈-left, ∈-right, covered?, Out, apart-right, apart-cross}
-use Rattle.model.specs.Trees.{kids-out, frame-none, frame-some, stack-none, stack-row, stack-skip}
+use Rattle.model.specs.Basics.{_∈_, Span, Apart, Covers, Deep, items, depths, upto}
+use Rattle.model.proofs.Ideal.{Line, Row, Forest, nil, row, spans-of, spans, WellRow, Nested, WellTree, frame-at, stack-at, preorder, covering}
+use Rattle.model.proofs.Spans.{map-∈, ∈-left, ∈-right, covered?, Out, apart-right, apart-cross}
+use Rattle.model.proofs.Trees.{kids-out, frame-none, frame-some, stack-row, stack-skip}
 
 module _ {F : Type 0} where
   covering-append : (x : ℕ) (a b : List (Deep (Row F))) → covering x (a ++ b) ≡ covering x a ++ covering x b
@@ -48,7 +49,7 @@ module _ {F : Type 0} where
 
   -- f's stack is what is found, deepest first, one row at each depth from d on
   pub record Plainly (x d : ℕ) (f : Forest F) : Type 0 where
-    pub stack-is : stack-at f x ≡ reverse (frames (found x d f))
+    pub stack-is : stack-at f x ≡ reverse (items (found x d f))
     pub depths-are : depths (found x d f) ≡ upto d (length (found x d f))
 
   plain-hit : (x d : ℕ) (r : Row F) (kids sibs : Forest F) → WellRow r → (l : Line F) → l ∈ r .lines → Covers (l .span) x

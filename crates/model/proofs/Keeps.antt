@@ -4,19 +4,19 @@ use mathlib.Core.Bool.{Bool, true, false, cond}
 use mathlib.Core.Option.{Option, none, some}
 use mathlib.Core.Logic.{_⊎_, inl, inr, _≢_, ⊎-elim}
 use mathlib.Core.List.{List, [], _∷_}
-use Prim.Native.Nat.{ℕ, zero, suc, _≤_, _<_}
+use Prim.Native.Nat.{ℕ}
 use native.Mathlib.Omega.{arith}
 use lib.ListN.{length}
 use lib.Dec.{ltb}
-use Rattle.model.specs.Maps.{eq-or-ne}
-use Rattle.model.specs.Table.{Entry}
-use Rattle.model.specs.Intern.{Interned, intern, At, Grows, intern-at, intern-grows, intern-new}
-use Rattle.model.specs.Machine.{Machine, Means}
-use Rattle.model.specs.Simulate.{Relates, Laws}
+use Rattle.model.specs.Basics.{Entry, intern}
 use Rattle.model.specs.Rows.{MAX, cut32, Text, LineRow, FunctionRow, SymbolRow}
-use Rattle.model.specs.Converter.{Setup, Six, File, Function, Location, nowhere, at, Tables, nothing, file-eq, function-eq, location-eq, is-nowhere, Stored, store, store-six, range-at, put-range, later, cleared, function-name, symbol-name, line-texts, entry-of, put-at, begin-row, locate-line, begin-symbol, locate-symbol, enter-call, plain}
-use Rattle.model.specs.Frames.{Frame}
-use Rattle.model.specs.Chains.{false-true, file-eq-ok, function-eq-ok, location-eq-ok, known, known-six, Reads, reads-grows, SixReads, six-grows, store-grows, store-reads, six-store-grows, six-store-reads, Larger, FileIs, no-file, a-file, Shows, Chain, off, Caller, root, into, chain-larger, caller-larger, push, Down, CallsDown, chain-down, yes-nowhere, no-nowhere, put-same, put-other, Unique, put-unique}
+use Rattle.model.specs.Converter.{Setup, Six, File, Function, Location, at, Tables, nothing, file-eq, function-eq, location-eq, store, store-six, range-at, put-range, later, cleared, function-name, symbol-name, line-texts, entry-of, put-at, begin-row, locate-line, begin-symbol, locate-symbol, enter-call, plain}
+use Rattle.model.specs.Frames.{Frame, known, known-six}
+use Rattle.model.proofs.Maps.{eq-or-ne}
+use Rattle.model.proofs.Means.{Means}
+use Rattle.model.proofs.Simulate.{Relates, Laws}
+use Rattle.model.proofs.Intern.{At, Grows, intern-at, intern-grows, intern-new}
+use Rattle.model.proofs.Chains.{file-eq-ok, function-eq-ok, location-eq-ok, Reads, reads-grows, SixReads, six-grows, store-grows, store-reads, six-store-grows, six-store-reads, Larger, no-file, a-file, Chain, off, Caller, root, into, chain-larger, caller-larger, push, Down, CallsDown, chain-down, yes-nowhere, no-nowhere, put-same, put-other, Unique, put-unique}
 
 abbrev LastHeld : Option ℕ → List (Entry Location) → Type 0
 LastHeld o t = (a : ℕ) → o ≡ some a → (l : Location) × (range-at t a ≡ some l)

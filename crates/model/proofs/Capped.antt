@@ -1,83 +1,85 @@
 -- The plain converter with capacities: a table that would need more marks it full, and from then on it goes its own way. For every list it is full exactly where the plain
 -- tables need more than a capacity, and holds the plain tables otherwise: 17's condition, before words and indexes.
 use mathlib.Core.Path.{_≡_, refl, sym, ap, _∙_, subst}
-use mathlib.Core.Bool.{Bool, true, false, cond}
+use mathlib.Core.Bool.{Bool, true, false}
 use mathlib.Core.Option.{Option, none, some}
-use mathlib.Core.Logic.{_⊎_, inl, inr, _≢_, ⊎-elim}
-use mathlib.Core.List.{List, [], _∷_, map}
-use Prim.Native.Nat.{ℕ, zero, suc, _≤_, _<_}
+use mathlib.Core.Logic.{_⊎_, inl, inr, ⊎-elim}
+use mathlib.Core.List.{List, map}
+use Prim.Native.Nat.{ℕ, _≤_}
 use native.Mathlib.Omega.{arith}
 use lib.ListN.{length}
 use lib.Dec.{leb}
 use borrow.Author.Tests.{leb-true, le-leb}
-use Rattle.model.specs.Model.{_∈_, Deep}
+use Rattle.model.specs.Rows.{LineRow, FunctionRow, SymbolRow, Given}
 use Rattle.model.specs.Machine.{Machine, OpM, treeM, symbolM, runM}
-use Rattle.model.specs.Rows.{LineRow, FunctionRow, SymbolRow, Given, input, op}
-use Rattle.model.specs.Converter.{Setup, Location, nowhere, at, Tables, nothing, both?, is-nowhere, range-at, put-at, begin-row, locate-line, begin-symbol, locate-symbol, enter-call, later, cleared, plain, converted}
-use Rattle.model.specs.Chains.{false-true, both-true}
-use Rattle.model.specs.Counts.{text-bytes, Grown, grown-refl, grown-trans, put-grown, begin-grown, locate-grown, enter-grown, symbol-name-grown, symbol-location-grown, mark-grown}
-use Rattle.model.specs.Couple.{Couple, Limits, Next, Preserves, Allowed, run-both, Alike, vacant, held, Single, single-preserves}
-
-pub record Capacities : Type 0 where
-  pub texts : ℕ
-  pub bytes : ℕ
-  pub files : ℕ
-  pub functions : ℕ
-  pub calls : ℕ
-  pub ranges : ℕ
+use Rattle.model.specs.Converter.{input, op, Setup, Location, nowhere, at, Tables, nothing, is-nowhere, range-at, put-at, begin-row, locate-line, begin-symbol, locate-symbol, enter-call, later, cleared, plain, converted}
+use Rattle.model.specs.Counts.{Capacities, text-bytes, fits?}
+use Rattle.model.proofs.Chains.{false-true, both-true, both-of}
+use Rattle.model.proofs.Couple.{Couple, Limits, Next, Allowed, run-both, Alike, vacant, held, Single, single-preserves}
+use Rattle.model.proofs.Grown.{Grown, grown-refl, grown-trans, put-grown, begin-grown, locate-grown, enter-grown, symbol-name-grown, symbol-location-grown, mark-grown}
 
 pub record Capped : Type 0 where
   pub tables : Tables
   pub full : Bool
 
 module _ (K : Capacities) where
-  unfoldable pub fits? : Tables → Bool
-  fits? s =
-      both? (leb (length (s .texts)) (K .texts))
-      (both? (leb (text-bytes (s .texts)) (K .bytes))
-      (both? (leb (length (s .files)) (K .files))
-      (both? (leb (length (s .functions)) (K .functions)) (both? (leb (length (s .calls)) (K .calls)) (leb (length (s .ranges)) (K .ranges))))))
+  -- the test, taken apart and put together
+  pub record Fits (s : Tables) : Type 0 where
+    pub texts : length (s .texts) ≤ K .texts
+    pub bytes : text-bytes (s .texts) ≤ K .bytes
+    pub files : length (s .files) ≤ K .files
+    pub functions : length (s .functions) ≤ K .functions
+    pub calls : length (s .calls) ≤ K .calls
+    pub ranges : length (s .ranges) ≤ K .ranges
 
-  both-of : (a b : Bool) → a ≡ true → b ≡ true → both? a b ≡ true
-  both-of a b p q = rw p q
-
-  fits-down : {s t : Tables} → Grown s t → fits? t ≡ true → fits? s ≡ true
+  pub needs : (s : Tables) → fits? K s ≡ true → Fits s
   unfolding fits?
-  fits-down {s} {t} g h =
-      let (a, h₁) = both-true (leb (length (t .texts)) (K .texts)) _ h in
-      let (b, h₂) = both-true (leb (text-bytes (t .texts)) (K .bytes)) _ h₁ in
-      let (c, h₃) = both-true (leb (length (t .files)) (K .files)) _ h₂ in
-      let (d, h₄) = both-true (leb (length (t .functions)) (K .functions)) _ h₃ in
-      let (e, f) = both-true (leb (length (t .calls)) (K .calls)) _ h₄ in
-      both-of _ _ (le-leb (length (s .texts)) (K .texts) (omega (arith, g .texts, leb-true (length (t .texts)) (K .texts) a)))
-      (both-of _ _ (le-leb (text-bytes (s .texts)) (K .bytes) (omega (arith, g .bytes, leb-true (text-bytes (t .texts)) (K .bytes) b)))
-      (both-of _ _ (le-leb (length (s .files)) (K .files) (omega (arith, g .files, leb-true (length (t .files)) (K .files) c)))
-      (both-of _ _ (le-leb (length (s .functions)) (K .functions) (omega (arith, g .functions, leb-true (length (t .functions)) (K .functions) d)))
-      (both-of _ _ (le-leb (length (s .calls)) (K .calls) (omega (arith, g .calls, leb-true (length (t .calls)) (K .calls) e)))
-      (le-leb (length (s .ranges)) (K .ranges) (omega (arith, g .ranges, leb-true (length (t .ranges)) (K .ranges) f)))))))
+  needs s h =
+      let (h₁, f) = both-true _ (leb (length (s .ranges)) (K .ranges)) h in
+      let (h₂, e) = both-true _ (leb (length (s .calls)) (K .calls)) h₁ in
+      let (h₃, d) = both-true _ (leb (length (s .functions)) (K .functions)) h₂ in
+      let (h₄, c) = both-true _ (leb (length (s .files)) (K .files)) h₃ in
+      let (a, b) = both-true (leb (length (s .texts)) (K .texts)) (leb (text-bytes (s .texts)) (K .bytes)) h₄ in
+      record { texts = leb-true _ _ a; bytes = leb-true _ _ b; files = leb-true _ _ c; functions = leb-true _ _ d; calls = leb-true _ _ e; ranges = leb-true _ _ f }
 
-  exceeds-up : {s t : Tables} → Grown s t → fits? s ≡ false → fits? t ≡ false
-  exceeds-up {s} {t} g h = go (fits? t) refl
+  pub room : (s : Tables) → Fits s → fits? K s ≡ true
+  unfolding fits?
+  room s n =
+      both-of _ _ (both-of _ _ (both-of _ _ (both-of _ _ (both-of _ _ (le-leb _ _ (n .texts)) (le-leb _ _ (n .bytes))) (le-leb _ _ (n .files))) (le-leb _ _ (n .functions))) (le-leb _ _ (n .calls)))
+      (le-leb _ _ (n .ranges))
+
+  fits-down : {s t : Tables} → Grown s t → fits? K t ≡ true → fits? K s ≡ true
+  fits-down {s} {t} g h =
+      let n = needs t h in
+      room s
+      (record {
+        texts = omega (arith, g .texts, n .texts);
+        bytes = omega (arith, g .bytes, n .bytes);
+        files = omega (arith, g .files, n .files);
+        functions = omega (arith, g .functions, n .functions);
+        calls = omega (arith, g .calls, n .calls);
+        ranges = omega (arith, g .ranges, n .ranges);
+      })
+
+  exceeds-up : {s t : Tables} → Grown s t → fits? K s ≡ false → fits? K t ≡ false
+  exceeds-up {s} {t} g h = go (fits? K t) refl
     where
-      go : (b : Bool) → fits? t ≡ b → fits? t ≡ false
+      go : (b : Bool) → fits? K t ≡ b → fits? K t ≡ false
       go true e = false-true (sym h ∙ fits-down g e)
       go false e = e
 
-  fits-nothing : fits? nothing ≡ true
-  unfolding fits?
-  fits-nothing =
-      both-of _ _ (le-leb 0 (K .texts) (omega arith)) (both-of _ _ (le-leb 0 (K .bytes) (omega arith)) (both-of _ _ (le-leb 0 (K .files) (omega arith))
-      (both-of _ _ (le-leb 0 (K .functions) (omega arith)) (both-of _ _ (le-leb 0 (K .calls) (omega arith)) (le-leb 0 (K .ranges) (omega arith))))))
+  fits-nothing : fits? K nothing ≡ true
+  fits-nothing = room nothing (record { texts = omega arith; bytes = omega arith; files = omega arith; functions = omega arith; calls = omega arith; ranges = omega arith })
 
   -- t where there is room, and else s, marked full
   unfoldable pub settle : Bool → Tables → Tables → Capped
-  settle f t s = elim (fits? t) [ true ↦ record { tables = t; full = f } | false ↦ record { tables = s; full = true } ]
+  settle f t s = elim (fits? K t) [ true ↦ record { tables = t; full = f } | false ↦ record { tables = s; full = true } ]
 
   settle-full : (f : Bool) (t s : Tables) → f ≡ true → settle f t s .full ≡ true
   unfolding settle
-  settle-full f t s e = go (fits? t) refl
+  settle-full f t s e = go (fits? K t) refl
     where
-      go : (b : Bool) → fits? t ≡ b → settle f t s .full ≡ true
+      go : (b : Bool) → fits? K t ≡ b → settle f t s .full ≡ true
       go true z = rw (z, settle) e
       go false z = rw (z, settle)
 
@@ -104,10 +106,10 @@ module _ (K : Capacities) where
     }
 
     abbrev pub Full : Tables → Capped → Type 0
-    Full s s′ = (s′ .full ≡ true) × (fits? s ≡ false)
+    Full s s′ = (s′ .full ≡ true) × (fits? K s ≡ false)
 
     abbrev pub Open : Tables → Capped → Type 0
-    Open s s′ = (s′ .full ≡ false) × (s′ .tables ≡ s) × (fits? s ≡ true)
+    Open s s′ = (s′ .full ≡ false) × (s′ .tables ≡ s) × (fits? K s ≡ true)
 
     -- equal, unless it is full
     abbrev Same : {A : Type 0} → Capped → A → A → Type 0
@@ -139,9 +141,9 @@ module _ (K : Capacities) where
     -- while there is room
     open-after : (s t : Tables) (s′ : Capped) → Open s s′ → Grown s t → After s s′ t (settle (s′ .full) t (s′ .tables))
     unfolding settle
-    open-after s t s′ h g = go (fits? t) refl
+    open-after s t s′ h g = go (fits? K t) refl
       where
-        go : (b : Bool) → fits? t ≡ b → After s s′ t (settle (s′ .full) t (s′ .tables))
+        go : (b : Bool) → fits? K t ≡ b → After s s′ t (settle (s′ .full) t (s′ .tables))
         go true z = rw (z, settle) (record { ext = (g, λ e. e); state = inr (h .0, refl, z) })
         go false z = rw (z, settle) (record { ext = (g, λ e. refl); state = inl (refl, z) })
 

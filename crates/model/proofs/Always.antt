@@ -1,24 +1,23 @@
 -- What holds of the plain tables after EVERY list of calls, well nested or not, at any depths.
-use mathlib.Core.Path.{_≡_, refl, sym, ap, _∙_, subst}
+use mathlib.Core.Path.{_≡_, refl, sym, subst}
 use mathlib.Core.Bool.{Bool, true, false, cond}
 use mathlib.Core.Option.{Option, none, some}
 use mathlib.Core.List.{List, [], _∷_, map}
-use Prim.Native.Nat.{ℕ, zero, suc, _≤_, _<_}
+use Prim.Native.Nat.{ℕ, suc, _≤_, _<_}
 use native.Mathlib.Omega.{arith}
 use lib.ListN.{length}
 use lib.Dec.{ltb}
-use Rattle.model.specs.Model.{_∈_, Deep}
-use Rattle.model.specs.Spans.{map-∈}
-use Rattle.model.specs.Table.{Entry}
-use Rattle.model.specs.Intern.{At, at-length}
-use Rattle.model.specs.Machine.{Machine, OpM, treeM, symbolM, unless-held, put-end, entryM, closingM, named-symbolM, runM, finishM}
-use Rattle.model.specs.Simulate.{end-swap, finish-is}
-use Rattle.model.specs.Rows.{MAX, Text, LineRow, FunctionRow, SymbolRow, Given, tree-rows, symbol-row, input, deep, op}
-use Rattle.model.specs.Converter.{Setup, Six, File, Function, Location, nowhere, at, Tables, nothing, is-nowhere, range-at, put-at, later, cleared, symbol-name, begin-symbol, locate-symbol, plain, converted}
+use Rattle.model.specs.Basics.{_∈_, Deep, Entry}
+use Rattle.model.specs.Rows.{MAX, Text, FunctionRow, SymbolRow, Given, tree-rows, symbol-row}
+use Rattle.model.specs.Machine.{Machine, unless-held, put-end, entryM, closingM, named-symbolM, finishM}
+use Rattle.model.specs.Converter.{input, deep, op, Setup, Six, File, Function, Location, nowhere, at, Tables, nothing, is-nowhere, range-at, put-at, later, cleared, begin-symbol, locate-symbol, plain, converted}
 use Rattle.model.specs.Frames.{Frame, frames-of, best, frames-at}
-use Rattle.model.specs.Chains.{Reads, absent, present, FileIs, no-file, a-file, Larger, Chain, off, top, deeper, Caller, root, chain-larger, caller-larger, Unique, Down, CallsDown, put-same, known, frames-found, best-answers, Answers}
-use Rattle.model.specs.Keeps.{larger-refl, larger-trans, Stands, Ordered, ordered-nothing, put-larger, put-ordered, ending-larger, mark-end-ordered, mark-symbol-ordered, Made, made-larger, begin-larger, begin-ordered, begin-made, line-frame, bare-frame, symbol-frame, locate-larger, locate-ordered, locate-chain, bare-chain, enter-larger, enter-ordered, enter-caller, begin-symbol-larger, begin-symbol-ordered, begin-symbol-reads, locate-symbol-larger, locate-symbol-ordered, locate-symbol-chain, Any, means, relates, plain-laws}
-use Rattle.model.specs.Couple.{Couple, Limits, Next, Preserves, Allowed, run-both}
+use Rattle.model.proofs.Spans.{map-∈}
+use Rattle.model.proofs.Simulate.{end-swap, finish-is}
+use Rattle.model.proofs.Intern.{At, at-length}
+use Rattle.model.proofs.Chains.{Reads, absent, present, FileIs, no-file, a-file, Larger, Chain, off, top, deeper, Caller, root, chain-larger, caller-larger, Unique, CallsDown, put-same, frames-found, best-answers, Answers}
+use Rattle.model.proofs.Keeps.{larger-refl, larger-trans, Stands, Ordered, ordered-nothing, put-larger, put-ordered, ending-larger, mark-end-ordered, mark-symbol-ordered, Made, made-larger, begin-larger, begin-ordered, begin-made, line-frame, bare-frame, symbol-frame, locate-larger, locate-ordered, locate-chain, bare-chain, enter-larger, enter-ordered, enter-caller, begin-symbol-larger, begin-symbol-ordered, begin-symbol-reads, locate-symbol-larger, locate-symbol-ordered, locate-symbol-chain, Any, means, relates, plain-laws}
+use Rattle.model.proofs.Couple.{Couple, Limits, Next, Preserves, Allowed, run-both}
 
 -- the machine that holds nothing
 abbrev pub blank : {Q N Y : Type 0} → Machine Q N Y (Unit {0}) (Unit {0}) (Unit {0}) (Unit {0}) (Unit {0})

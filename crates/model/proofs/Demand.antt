@@ -1,24 +1,25 @@
 -- DEMAND 3, OF THE PLAIN CONVERTER: for every list of accepted calls that meets document 01's premises, stated on the rows as they were given.
 use mathlib.Core.Path.{_≡_, refl, sym, ap, _∙_, subst}
-use mathlib.Core.Option.{Option, none, some}
-use mathlib.Core.Logic.{_⊎_, inl, inr, _≢_, ⊎-elim}
+use mathlib.Core.Option.{none}
+use mathlib.Core.Logic.{inl, inr, _≢_, ⊎-elim}
 use mathlib.Core.List.{List, [], _∷_, _++_, map, reverse}
-use Prim.Native.Nat.{ℕ, zero, suc, _+_, _≤_, _<_}
+use Prim.Native.Nat.{ℕ, _+_, _≤_, _<_}
 use native.Mathlib.Omega.{arith}
 use lib.ListN.{length}
-use lib.Dec.{ltb}
 use borrow.Author.Tests.{le-ltb}
-use Rattle.model.specs.Model.{_∈_, here, there, Span, Deep, Covers, Well, AllClear, covering, frames, depths, upto}
-use Rattle.model.specs.Spans.{∈-cases, ∈-elim, ∈-left, ∈-right, ∈-append, ∈-map, map-∈, asc-from}
-use Rattle.model.specs.Machine.{OpM, treeM, SoundOp, op-of, deep-of}
-use Rattle.model.specs.Simulate.{machine-demand, machine-finds, machine-plain, machine-good}
-use Rattle.model.specs.Rows.{MAX, LineRow, FunctionRow, SymbolRow, Given, tree-rows, symbol-row, input, deep, op, boundaries}
-use Rattle.model.specs.Converter.{Setup, Location, Tables, nothing, range-at, plain, converted}
-use Rattle.model.specs.Frames.{Frame, frames-of, best, frames-at}
-use Rattle.model.specs.Chains.{Chain, frames-found, best-is}
-use Rattle.model.specs.Keeps.{Any, Ordered, ordered-nothing, means, relates, plain-laws}
-use Rattle.model.specs.Premises.{reach, reaches, RowWell, TreeWell, WellNested, RootsClear, Separate, AllSeparate, nested-at}
-use Rattle.model.specs.Derive.{sound-op, well-op, all-clear, first-deep, found-is, covers-is, root-line}
+use Rattle.model.specs.Basics.{_∈_, here, there, Span, Deep, Covers, items, depths, upto}
+use Rattle.model.specs.Rows.{MAX, LineRow, FunctionRow, SymbolRow, Given, tree-rows, boundaries}
+use Rattle.model.specs.Machine.{OpM}
+use Rattle.model.specs.Converter.{input, deep, op, Setup, Tables, nothing, range-at, plain, converted}
+use Rattle.model.specs.Frames.{Frame, frames-of, frames-at}
+use Rattle.model.specs.Premises.{reach, RowWell, WellNested, RootsClear, Separate, AllSeparate, nested-at}
+use Rattle.model.proofs.Ideal.{Well, covering}
+use Rattle.model.proofs.Spans.{∈-cases, ∈-left, ∈-right, ∈-append, ∈-map, map-∈, asc-from}
+use Rattle.model.proofs.Means.{SoundOp, op-of, deep-of}
+use Rattle.model.proofs.Simulate.{machine-demand, machine-finds, machine-plain, machine-good}
+use Rattle.model.proofs.Chains.{frames-found, best-is}
+use Rattle.model.proofs.Keeps.{Any, Ordered, ordered-nothing, means, relates, plain-laws}
+use Rattle.model.proofs.Derive.{sound-op, well-op, all-clear, first-deep, found-is, covers-is, root-line}
 
 vacant : (k : ℕ) → range-at (nothing .ranges) k ≡ none
 unfolding range-at
@@ -34,7 +35,7 @@ module _ (X : Setup) (gs : List Given) (well : (g : Given) → g ∈ gs → Well
   module _ (q : FunctionRow) (rs : List FunctionRow) (i : tree-rows q rs ∈ gs) (x : ℕ) where
     -- at an address that a line of the root covers
     pub demand-root : (n : LineRow) → n ∈ q .lines → Covers (reach n) x
-        → let found = nested-at X x (q ∷ rs) in (frames-at (converted X gs) x ≡ reverse (frames found)) × (depths found ≡ upto 0 (length found))
+        → let found = nested-at X x (q ∷ rs) in (frames-at (converted X gs) x ≡ reverse (items found)) × (depths found ≡ upto 0 (length found))
     unfolding frames-at
     demand-root n j c =
         let w = well (tree-rows q rs) i in
@@ -49,12 +50,12 @@ module _ (X : Setup) (gs : List Given) (well : (g : Given) → g ∈ gs → Well
         let seen : frames-at s x ≡ frames-of s (e .value) = rw (le-ltb MAX x (omega (arith, w .rows .0 .inside n j, w .rows .0 .low, c .1)), frames-at, hit) in
         let found-eq : covering x (map (deep-of input (means X)) (record { depth = 0; item = q } ∷ map deep rs)) ≡ nested-at X x (q ∷ rs) =
         ap (λ (t : List (Deep FunctionRow)). covering x (map (deep-of input (means X)) t)) (first-deep X q rs w) ∙ found-is X x (q ∷ rs) (w .rows) in (
-          seen ∙ ap (frames-of s) at-value ∙ frames-found s (good .calls-down) l _ chain ∙ p .0 ∙ ap (λ (t : List (Deep Frame)). reverse (frames t)) found-eq,
+          seen ∙ ap (frames-of s) at-value ∙ frames-found s (good .calls-down) l _ chain ∙ p .0 ∙ ap (λ (t : List (Deep Frame)). reverse (items t)) found-eq,
           subst (λ (t : List (Deep Frame)). depths t ≡ upto 0 (length t)) found-eq (p .1),
         )
 
     -- and at one that a line of any row covers
-    pub demand : let found = nested-at X x (q ∷ rs) in found ≢ [] → (frames-at (converted X gs) x ≡ reverse (frames found)) × (depths found ≡ upto 0 (length found))
+    pub demand : let found = nested-at X x (q ∷ rs) in found ≢ [] → (frames-at (converted X gs) x ≡ reverse (items found)) × (depths found ≡ upto 0 (length found))
     demand h = let (n, j, c) = root-line X x q rs (well (tree-rows q rs) i) h in demand-root n j c
 
   -- ── No row of another tree covers that address ──

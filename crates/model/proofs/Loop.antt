@@ -1,17 +1,16 @@
 -- The call locations, and the loop over a row's lines.
 use mathlib.Core.Path.{_≡_, refl, sym, ap, _∙_, subst}
-use mathlib.Core.Bool.{Bool, true, false, cond}
-use mathlib.Core.Option.{Option, none, some}
-use mathlib.Core.Logic.{_⊎_, inl, inr, _≢_, ⊎-elim}
+use mathlib.Core.Option.{some}
+use mathlib.Core.Logic.{_⊎_, inl, inr, ⊎-elim}
 use mathlib.Core.List.{List, [], _∷_, _++_, map}
-use Prim.Native.Nat.{ℕ, zero, suc, _≤_, _<_}
+use Prim.Native.Nat.{ℕ, suc, _≤_, _<_}
 use native.Mathlib.Omega.{arith}
-use lib.Dec.{ltb, leb, eqb}
-use borrow.Author.Tests.{lt-ltb, le-ltb, le-leb, lt-leb}
-use Rattle.model.specs.Model.{_∈_, here, there, Span, Line, Map, insert, Call, Walked, Looped, Cursor, walk, advance, loop, spans-of, Asc, Covers, Within}
-use Rattle.model.specs.Maps.{lt-or-ge, insert-same, insert-other}
-use Rattle.model.specs.Spans.{∈-cases, ∈-elim, ∈-map, ∈-left, ∈-right, asc-from, asc-pos, asc-raise}
-use Rattle.model.specs.Walk.{call, CallsAsc, calls-lower, Self, WalkPost, walk-post}
+use borrow.Author.Tests.{le-ltb, le-leb, lt-leb}
+use Rattle.model.specs.Basics.{_∈_, here, there, Span, Asc, Covers}
+use Rattle.model.proofs.Ideal.{Line, Map, Call, Walked, Looped, Cursor, walk, advance, loop, spans-of, Within}
+use Rattle.model.proofs.Maps.{lt-or-ge}
+use Rattle.model.proofs.Spans.{∈-cases, ∈-elim, ∈-map, ∈-left, ∈-right, asc-from, asc-pos, asc-raise}
+use Rattle.model.proofs.Walk.{call, CallsAsc, calls-lower, Self, WalkPost, walk-post}
 
 module _ {F : Type 0} where
   advance-on : (a : ℕ) (w : List F) (c : Call F) (cs : List (Call F)) → c .addr ≤ a → advance a w (c ∷ cs) ≡ advance a (c .stack) cs

@@ -1,14 +1,15 @@
 -- The converter over flat rows in preorder, each with its depth, and no recursion on a tree: one pass over the rows. `ctx d` holds the
 -- call locations for rows at depth d; each row sets those of the depth below it. It is the converter over the tree.
-use mathlib.Core.Path.{_≡_, refl, sym, ap, _∙_, subst}
-use mathlib.Core.Bool.{Bool, true, false, cond}
+use mathlib.Core.Path.{_≡_, refl, sym, ap, _∙_}
+use mathlib.Core.Bool.{cond}
 use mathlib.Core.Logic.{_≢_}
 use mathlib.Core.List.{List, [], _∷_, _++_, append-assoc, append-nil}
 use Prim.Native.Nat.{ℕ, zero, suc, _≤_, _<_}
 use native.Mathlib.Omega.{arith}
 use lib.Dec.{leb, eqb}
 use borrow.Author.Tests.{le-leb, lt-leb, eq-eqb, ne-eqb}
-use Rattle.model.specs.Model.{Span, Row, Forest, nil, row, Map, insert-end, insert-soft, sort, Call, Looped, loop, own, visit, convert, convert-root, spans-of, spans, Deep, preorder}
+use Rattle.model.specs.Basics.{Span, sort, Deep}
+use Rattle.model.proofs.Ideal.{Row, Forest, nil, row, Map, insert-end, insert-soft, Call, Looped, loop, own, visit, convert, convert-root, spans-of, spans, preorder}
 
 abbrev pub Context : Type 0 → Type 0
 Context F = ℕ → List (Call F)

@@ -5,21 +5,21 @@ use mathlib.Core.Bool.{Bool, true, false, cond}
 use mathlib.Core.Option.{Option, none, some}
 use mathlib.Core.Logic.{_⊎_, inl, inr, _≢_, ⊎-elim}
 use mathlib.Core.List.{List, [], _∷_, map}
-use Prim.Native.Nat.{ℕ, zero, suc, _+_, _%_, min, _≤_, _<_}
+use Prim.Native.Nat.{ℕ, zero, suc, _+_, _≤_}
 use native.Mathlib.Omega.{arith}
 use lib.ListN.{length}
 use lib.Dec.{ltb, leb, eqb}
-use borrow.Author.Tests.{eq-eqb, ltb-false, leb-true, eqb-false}
-use Rattle.model.specs.Model.{_∈_, Deep}
-use Rattle.model.specs.Maps.{eq-or-ne}
-use Rattle.model.specs.Spans.{map-∈}
-use Rattle.model.specs.Intern.{Interned, intern, At, Grows, intern-new, at-length}
-use Rattle.model.specs.Machine.{Machine, OpM, treeM, symbolM, unless-held, put-end, entryM, closingM, named-symbolM, runM}
-use Rattle.model.specs.Rows.{MAX, cut32, Text, LineRow, FunctionRow, SymbolRow, Given, tree-rows, symbol-row, input, deep, op, skipped, function-end, symbol-skipped, symbol-end}
-use Rattle.model.specs.Converter.{Setup, Six, File, Function, Location, nowhere, at, Tables, nothing, both?, opt-eq, text-eq, file-eq, function-eq, location-eq, is-nowhere, Stored, store, store-six, or-empty, function-name, symbol-name, directory-of, line-texts, entry-of, range-at, put-range, put-at, begin-row, locate-line, begin-symbol, locate-symbol, enter-call, plain, converted}
-use Rattle.model.specs.Chains.{false-true, put-same, put-other}
-use Rattle.model.specs.Couple.{Couple, Limits, Next, Preserves, Allowed, run-both}
-use Rattle.model.specs.Always.{blank}
+use borrow.Author.Tests.{eq-eqb, ltb-false, leb-true}
+use Rattle.model.specs.Basics.{_∈_, Deep, intern}
+use Rattle.model.specs.Rows.{MAX, Text, LineRow, FunctionRow, SymbolRow, Given, tree-rows, symbol-row, skipped, function-end, symbol-skipped, symbol-end}
+use Rattle.model.specs.Machine.{unless-held, put-end, entryM, closingM, named-symbolM}
+use Rattle.model.specs.Converter.{input, deep, op, Setup, Six, File, Function, Location, nowhere, at, Tables, nothing, opt-eq, text-eq, file-eq, function-eq, location-eq, is-nowhere, store, store-six, or-empty, function-name, symbol-name, directory-of, line-texts, entry-of, range-at, put-range, put-at, begin-row, locate-line, begin-symbol, locate-symbol, enter-call, plain, converted}
+use Rattle.model.proofs.Maps.{eq-or-ne}
+use Rattle.model.proofs.Spans.{map-∈}
+use Rattle.model.proofs.Intern.{At, intern-new, at-length}
+use Rattle.model.proofs.Chains.{false-true, both-of, put-same, put-other}
+use Rattle.model.proofs.Couple.{Couple, Limits, Preserves, Allowed, run-both}
+use Rattle.model.proofs.Always.{blank}
 
 -- ── A table in which each value stands once ──
 
@@ -56,28 +56,25 @@ module _ {A : Type 0} where
 eqb-whole : (n : ℕ) → eqb n n ≡ true
 eqb-whole n = eq-eqb n n refl
 
-both-whole : (a b : Bool) → a ≡ true → b ≡ true → both? a b ≡ true
-both-whole a b p q = rw p q
-
 opt-whole : (o : Option ℕ) → opt-eq o o ≡ true
 opt-whole none = refl
 opt-whole (some i) = eqb-whole i
 
 text-whole : (t : Text) → text-eq t t ≡ true
 text-whole [] = refl
-text-whole (a ∷ t) = both-whole (eqb a a) (text-eq t t) (eqb-whole a) (text-whole t)
+text-whole (a ∷ t) = both-of (eqb a a) (text-eq t t) (eqb-whole a) (text-whole t)
 
 file-whole : (x : File) → file-eq x x ≡ true
 file-whole x =
-    both-whole _ _ (opt-whole (x .name)) (both-whole _ _ (opt-whole (x .directory)) (both-whole _ _ (opt-whole (x .comp-dir))
-    (both-whole _ _ (opt-whole (x .srcsrv-name)) (both-whole _ _ (opt-whole (x .srcsrv-dir)) (opt-whole (x .revision))))))
+    both-of _ _ (both-of _ _ (both-of _ _ (both-of _ _ (both-of _ _ (opt-whole (x .name)) (opt-whole (x .directory))) (opt-whole (x .comp-dir))) (opt-whole (x .srcsrv-name))) (opt-whole (x .srcsrv-dir)))
+    (opt-whole (x .revision))
 
 function-whole : (x : Function) → function-eq x x ≡ true
-function-whole x = both-whole _ _ (opt-whole (x .name)) (both-whole _ _ (eqb-whole (x .entry)) (eqb-whole (x .language)))
+function-whole x = both-of _ _ (both-of _ _ (opt-whole (x .name)) (eqb-whole (x .entry))) (eqb-whole (x .language))
 
 location-whole : (l : Location) → location-eq l l ≡ true
 location-whole nowhere = refl
-location-whole (at f n i c) = both-whole _ _ (opt-whole f) (both-whole _ _ (eqb-whole n) (both-whole _ _ (eqb-whole i) (opt-whole c)))
+location-whole (at f n i c) = both-of _ _ (both-of _ _ (both-of _ _ (opt-whole f) (eqb-whole n)) (eqb-whole i)) (opt-whole c)
 
 -- ── The invariant ──
 

@@ -1,16 +1,14 @@
 -- Document 01's corners of "Converter", each computed on the plain converter.
 use mathlib.Core.Path.{_≡_, refl}
-use mathlib.Core.Bool.{Bool, true, false}
-use mathlib.Core.Option.{Option, none, some}
+use mathlib.Core.Bool.{true, false}
+use mathlib.Core.Option.{none, some}
 use mathlib.Core.List.{List, [], _∷_, map}
-use Prim.Native.Nat.{ℕ, _+_}
+use Prim.Native.Nat.{ℕ}
 use lib.ListN.{length}
-use Rattle.model.specs.Model.{Span, before, place, sort}
-use Rattle.model.specs.Table.{Entry}
-use Rattle.model.specs.Intern.{intern}
+use Rattle.model.specs.Basics.{before, place, sort, Entry, intern}
+use Rattle.model.specs.Rows.{MAX, LineRow, FunctionRow, Given, tree-rows, symbol-row, boundaries}
 use Rattle.model.specs.Machine.{advanceM, set-atM, kid-spansM, unless-held, put-end, walkM, loopM, entryM, closingM, rowM, convertM, startM, named-symbolM, convert-symbolM, convert-opM, runM}
-use Rattle.model.specs.Rows.{MAX, Text, LineRow, FunctionRow, SymbolRow, Given, tree-rows, symbol-row, boundaries}
-use Rattle.model.specs.Converter.{Setup, Six, File, Function, Location, nowhere, at, Tables, nothing, store, store-six, range-at, put-range, begin-row, locate-line, begin-symbol, locate-symbol, enter-call, converted}
+use Rattle.model.specs.Converter.{Setup, Location, nowhere, at, Tables, nothing, store, store-six, range-at, put-range, begin-row, locate-line, begin-symbol, locate-symbol, enter-call, converted}
 
 abbrev setup : Setup
 setup = record { utf8 = λ t. true; undecorate = λ t. t; functions-on = false; symbols-on = false }

@@ -1,14 +1,15 @@
 -- Rows with depths that step down by one at most are the preorder of a forest: `under d`, by structural recursion on the list.
 use mathlib.Core.Path.{_≡_, refl, sym, ap, _∙_, subst}
-use mathlib.Core.Bool.{Bool, true, false, cond}
-use mathlib.Core.Logic.{_⊎_, inl, inr, _≢_, ⊎-elim}
-use mathlib.Core.List.{List, [], _∷_, _++_, append-assoc, append-nil}
-use Prim.Native.Nat.{ℕ, zero, suc, _≤_, _<_}
+use mathlib.Core.Bool.{cond}
+use mathlib.Core.Logic.{_⊎_, inl, inr, _≢_}
+use mathlib.Core.List.{List, [], _∷_, _++_, append-assoc}
+use Prim.Native.Nat.{ℕ, suc, _≤_, _<_}
 use native.Mathlib.Omega.{arith}
 use lib.Dec.{ltb, eqb}
 use borrow.Author.Tests.{lt-ltb, le-ltb, eq-eqb, ne-eqb}
-use Rattle.model.specs.Model.{_∈_, here, there, Row, Forest, nil, row, Deep, preorder}
-use Rattle.model.specs.Maps.{lt-or-ge, eq-or-ne}
+use Rattle.model.specs.Basics.{_∈_, here, there, Deep}
+use Rattle.model.proofs.Ideal.{Row, Forest, nil, row, preorder}
+use Rattle.model.proofs.Maps.{lt-or-ge, eq-or-ne}
 
 module _ {A : Type 0} where
   -- the first depth is at most d, and each other at most one more than that before it

@@ -5,13 +5,13 @@ use mathlib.Core.Bool.{Bool, true, false, cond}
 use mathlib.Core.Option.{Option, none, some}
 use mathlib.Core.Logic.{_⊎_, inl, inr, ⊎-elim}
 use mathlib.Core.List.{List, [], _∷_, _++_, map}
-use Prim.Native.Nat.{ℕ, zero, suc, _≤_, _<_}
+use Prim.Native.Nat.{ℕ, zero, suc}
 use native.Mathlib.Omega.{arith}
 use lib.Dec.{ltb, leb, eqb}
 use borrow.Author.Tests.{eqb-true}
-use Rattle.model.specs.Model.{_∈_, here, there, Span, Deep, sort}
-use Rattle.model.specs.Spans.{∈-elim, ∈-append, map-∈, sort-∈}
+use Rattle.model.specs.Basics.{_∈_, here, there, Span, Deep, sort}
 use Rattle.model.specs.Machine.{Input, Machine, OpM, treeM, symbolM, Ref, WalkedM, LoopedM, CursorM, advanceM, set-atM, kid-spansM, unless-held, put-end, walkM, loopM, entryM, closingM, rowM, convertM, startM, named-symbolM, convert-symbolM, convert-opM, runM, finishM}
+use Rattle.model.proofs.Spans.{∈-elim, ∈-append, map-∈, sort-∈}
 
 -- `State s s′`: the states agree. `Ext s s′ t t′`: t and t′ come after s and s′. `Loc s s′ d l l′`: l and l′ were made for one row at depth d. `Cal s s′ d c c′`: c and c′ are references
 -- to call locations for the rows at depth d. `Fun s s′ d q r r′`: r and r′ are what `begin` made of the row q at depth d

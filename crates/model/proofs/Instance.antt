@@ -1,21 +1,20 @@
 -- The premises can be met: two roots that touch, an inlinee, a line of absent size, symbols at their boundaries, one that is unnamed and one above MAX, inside or not.
-use mathlib.Core.Path.{_≡_, refl, _∙_}
-use mathlib.Core.Bool.{Bool, true, false}
-use mathlib.Core.Option.{Option, none, some}
-use mathlib.Core.Logic.{_⊎_, inl, inr, _≢_}
-use mathlib.Core.List.{List, [], _∷_, _++_, map, reverse}
+use mathlib.Core.Path.{_≡_, refl}
+use mathlib.Core.Bool.{true, false}
+use mathlib.Core.Option.{none, some}
+use mathlib.Core.Logic.{inl, inr}
+use mathlib.Core.List.{List, [], _∷_}
 use Prim.Native.Nat.{ℕ, _+_, _≤_, _<_}
 use native.Mathlib.Omega.{arith}
-use Rattle.model.specs.Model.{_∈_, here, there, before, place, sort}
-use Rattle.model.specs.Spans.{∈-elim}
-use Rattle.model.specs.Intern.{intern}
-use Rattle.model.specs.Machine.{advanceM, set-atM, kid-spansM, unless-held, put-end, walkM, loopM, entryM, closingM, rowM, convertM, startM, named-symbolM, convert-symbolM, convert-opM, runM}
+use Rattle.model.specs.Basics.{_∈_, here, there, before, place, sort, intern}
 use Rattle.model.specs.Rows.{MAX, LineRow, FunctionRow, SymbolRow, Given, tree-rows, symbol-row, line-size}
-use Rattle.model.specs.Converter.{Setup, store, store-six, range-at, put-range, begin-row, locate-line, begin-symbol, locate-symbol, enter-call, converted}
+use Rattle.model.specs.Machine.{advanceM, set-atM, kid-spansM, unless-held, put-end, walkM, loopM, entryM, closingM, rowM, convertM, startM, named-symbolM, convert-symbolM, convert-opM, runM}
+use Rattle.model.specs.Converter.{store, store-six, range-at, put-range, begin-row, locate-line, begin-symbol, locate-symbol, enter-call, converted}
 use Rattle.model.specs.Frames.{Frame, callers, frames-of, better, best, frames-at}
 use Rattle.model.specs.Premises.{inlinees, RowWell, InlineeWell, TreeWell, WellNested, SymbolClear, Separate, AllSeparate, line-at, nested-at}
-use Rattle.model.specs.Demand.{demand}
-use Rattle.model.specs.Worked.{plain-setup, trk, pos, ars, prs, src, b, line, root-row, inlinee-row, frame}
+use Rattle.model.proofs.Spans.{∈-elim}
+use Rattle.model.proofs.Demand.{demand}
+use Rattle.model.proofs.Worked.{plain-setup, trk, pos, ars, prs, src, line, root-row, inlinee-row, frame}
 
 abbrev second-row : FunctionRow
 second-row = record { depth = 0; address = 0x1010; size = 4; inline = false; language = 3; name = pos; comp-dir = []; lines = line 0x1010 none 7 prs ∷ line 0x1012 (some 2) 8 prs ∷ [] }

@@ -1,16 +1,17 @@
 -- Demand 3, ideally: each address that a line of a root covers is looked up as that tree's stack.
-use mathlib.Core.Path.{_≡_, refl, sym, ap, _∙_, subst}
-use mathlib.Core.Option.{Option, none, some}
-use mathlib.Core.Logic.{_⊎_, inl, inr, _≢_, ⊎-elim, ⊎-swap}
-use mathlib.Core.List.{List, [], _∷_, _++_, reverse}
-use Prim.Native.Nat.{ℕ, zero, suc, _≤_, _<_}
+use mathlib.Core.Path.{_≡_, refl, sym, _∙_, subst}
+use mathlib.Core.Option.{none, some}
+use mathlib.Core.Logic.{inl, inr, _≢_, ⊎-elim}
+use mathlib.Core.List.{List, [], _∷_, reverse}
+use Prim.Native.Nat.{ℕ, _≤_, _<_}
 use native.Mathlib.Omega.{arith}
 use lib.ListN.{length}
-use Rattle.model.specs.Model.{_∈_, here, there, Line, Row, Forest, nil, row, Op, tree, symbol, idle, Map, empty, look, convert-root, convert-symbol, convert-op, run, insert-soft, insert-end, Covers, WellRow, WellTree, Well, NotInside, Clear, ClearOps, AllClear, stack-at, preorder, covering, frames, depths, upto}
-use Rattle.model.specs.Maps.{Keeps, soft-other, soft-keeps, end-other, end-keeps, Sees, sees-look, sees-keep, Solid, solid-mid}
-use Rattle.model.specs.Spans.{∈-cases, ∈-map, asc-from}
-use Rattle.model.specs.Trees.{stack-row, root-off, root-out, root-sees}
-use Rattle.model.specs.Plain.{plain-tree, root-covers}
+use Rattle.model.specs.Basics.{_∈_, here, there, Covers, items, depths, upto}
+use Rattle.model.proofs.Ideal.{Line, Row, Forest, nil, row, Op, tree, symbol, idle, Map, empty, look, convert-root, convert-symbol, convert-op, run, WellTree, Well, NotInside, Clear, ClearOps, AllClear, stack-at, preorder, covering}
+use Rattle.model.proofs.Maps.{Keeps, soft-other, soft-keeps, end-other, end-keeps, Sees, sees-look, sees-keep, Solid, solid-mid}
+use Rattle.model.proofs.Spans.{∈-cases, ∈-map, asc-from}
+use Rattle.model.proofs.Trees.{stack-row, root-off, root-out, root-sees}
+use Rattle.model.proofs.Stacks.{plain-tree, root-covers}
 
 module _ {F : Type 0} where
   apart-key : (r : Row F) (a k : ℕ) → NotInside a r → r .entry < k → k < r .stop → k ≢ a
@@ -75,12 +76,12 @@ module _ {F : Type 0} where
 
     -- the same, said plainly: the frames of the rows that have a line covering x, deepest first, and their depths are 0, 1, ..
     pub demand-plain : (os : List (Op F)) → ((o : Op F) → o ∈ os → Well o) → AllClear os → tree r kids ∈ os
-        → let found = covering x (preorder 0 (row r kids nil)) in (look (run os empty) x ≡ reverse (frames found)) × (depths found ≡ upto 0 (length found))
+        → let found = covering x (preorder 0 (row r kids nil)) in (look (run os empty) x ≡ reverse (items found)) × (depths found ≡ upto 0 (length found))
     demand-plain os w c j =
         let p = plain-tree x r kids (w (tree r kids) j) l i cov in
         (demand os w c j ∙ p .stack-is, p .depths-are)
 
   -- THE THEOREM FOR ANY ROW: wherever a line of some row of the tree covers x
   pub demand-any : (r : Row F) (kids : Forest F) (x : ℕ) (os : List (Op F)) → ((o : Op F) → o ∈ os → Well o) → AllClear os → tree r kids ∈ os
-      → let found = covering x (preorder 0 (row r kids nil)) in found ≢ [] → (look (run os empty) x ≡ reverse (frames found)) × (depths found ≡ upto 0 (length found))
+      → let found = covering x (preorder 0 (row r kids nil)) in found ≢ [] → (look (run os empty) x ≡ reverse (items found)) × (depths found ≡ upto 0 (length found))
   demand-any r kids x os w c j h = let (l, i, cov) = root-covers x r kids (w (tree r kids) j) h in demand-plain r kids l i x cov os w c j

@@ -1,16 +1,17 @@
 -- The inner walk over one line.
 use mathlib.Core.Path.{_≡_, refl, sym, ap, _∙_, subst}
 use mathlib.Core.Bool.{Bool, true, false, cond}
-use mathlib.Core.Option.{Option, none, some}
+use mathlib.Core.Option.{some}
 use mathlib.Core.Logic.{_⊎_, inl, inr, _≢_, ⊎-elim}
-use mathlib.Core.List.{List, [], _∷_, _++_, map}
-use Prim.Native.Nat.{ℕ, zero, suc, _≤_, _<_}
+use mathlib.Core.List.{List, [], _∷_, map}
+use Prim.Native.Nat.{ℕ, suc, _≤_, _<_}
 use native.Mathlib.Omega.{arith}
-use lib.Dec.{ltb, leb, eqb}
-use borrow.Author.Tests.{lt-ltb, le-ltb, le-leb, lt-leb}
-use Rattle.model.specs.Model.{_∈_, here, there, Span, Map, insert, Call, Walked, walk, Asc, Covers}
-use Rattle.model.specs.Maps.{lt-or-ge, insert-same, insert-other}
-use Rattle.model.specs.Spans.{∈-cases, asc-from, asc-pos}
+use lib.Dec.{ltb}
+use borrow.Author.Tests.{lt-ltb, le-ltb}
+use Rattle.model.specs.Basics.{_∈_, here, there, Span, Asc, Covers}
+use Rattle.model.proofs.Ideal.{Map, insert, Call, Walked, walk}
+use Rattle.model.proofs.Maps.{lt-or-ge, insert-same, insert-other}
+use Rattle.model.proofs.Spans.{∈-cases, asc-from}
 
 module _ {F : Type 0} where
   abbrev pub call : ℕ → List F → Call F

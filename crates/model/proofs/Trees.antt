@@ -1,18 +1,16 @@
 -- Rows, inlinees and roots: which keys they change, and what a lookup sees afterwards.
-use mathlib.Core.Path.{_≡_, refl, sym, ap, _∙_, subst}
-use mathlib.Core.Bool.{Bool, true, false, cond}
-use mathlib.Core.Option.{Option, none, some}
+use mathlib.Core.Path.{_≡_, refl, sym, _∙_, subst}
+use mathlib.Core.Option.{none, some}
 use mathlib.Core.Logic.{_⊎_, inl, inr, _≢_, ⊎-elim}
 use mathlib.Core.List.{List, [], _∷_, _++_, map, append-assoc}
-use Prim.Native.Nat.{ℕ, zero, suc, _≤_, _<_}
+use Prim.Native.Nat.{ℕ, _≤_, _<_}
 use native.Mathlib.Omega.{arith}
-use lib.Dec.{ltb, leb, eqb}
-use borrow.Author.Tests.{lt-ltb, le-ltb, le-leb, lt-leb}
-use Rattle.model.specs.Model.{_∈_, here, there, Span, Line, Row, Forest, nil, row, Map, insert, insert-end, insert-soft, sort, Call, Looped, advance, loop, own, visit, convert, convert-root, spans-of, spans, Asc, Apart, Disjoint, Covers, Within, LastEnd, WellRow, WellInlinee, Nested, WellTree, frame-at, stack-at, coversb}
-use Rattle.model.specs.Maps.{lt-or-ge, Keeps, keeps-eq, soft-other, soft-keeps, end-other, end-keeps, Sees, sees-keep, sees-lower, Solid, solid-mid}
-use Rattle.model.specs.Spans.{∈-cases, ∈-elim, ∈-map, map-∈, ∈-left, ∈-right, ∈-append, asc-from, asc-pos, asc-raise, ∈-sort, sort-∈, sort-asc, covered?, covers-yes, covers-no, Out, Off, off-out, apart-right, apart-cross}
-use Rattle.model.specs.Walk.{call, CallsAsc, Self}
-use Rattle.model.specs.Loop.{advance-first, frames-of, LoopPost, loop-post}
+use Rattle.model.specs.Basics.{_∈_, here, there, Span, sort, Asc, Apart, Disjoint, Covers}
+use Rattle.model.proofs.Ideal.{Line, Row, Forest, nil, row, Map, insert-end, insert-soft, Call, Looped, advance, own, visit, convert, convert-root, spans-of, spans, Within, LastEnd, WellRow, WellInlinee, Nested, WellTree, frame-at, stack-at}
+use Rattle.model.proofs.Maps.{Keeps, soft-other, soft-keeps, end-other, end-keeps, Sees, sees-keep, sees-lower, solid-mid}
+use Rattle.model.proofs.Spans.{∈-elim, ∈-map, map-∈, ∈-left, ∈-right, ∈-append, asc-from, asc-pos, asc-raise, ∈-sort, sort-∈, sort-asc, covered?, covers-yes, covers-no, Out, Off, off-out, apart-right, apart-cross}
+use Rattle.model.proofs.Walk.{call, CallsAsc}
+use Rattle.model.proofs.Loop.{advance-first, frames-of, LoopPost, loop-post}
 
 module _ {F : Type 0} where
   -- ── The lines of a caller's inlinees ──

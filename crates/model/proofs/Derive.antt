@@ -3,22 +3,24 @@ use mathlib.Core.Path.{_≡_, refl, sym, ap, _∙_, subst}
 use mathlib.Core.Bool.{Bool, true, false, cond}
 use mathlib.Core.Option.{Option, none, some}
 use mathlib.Core.Logic.{_⊎_, inl, inr, _≢_, ⊎-elim}
-use mathlib.Core.List.{List, [], _∷_, _++_, map}
-use Prim.Native.Nat.{ℕ, zero, suc, _+_, _%_, min, _≤_, _<_}
+use mathlib.Core.List.{List, [], _∷_, map}
+use Prim.Native.Nat.{ℕ, zero, suc, _+_, _≤_, _<_}
 use native.Mathlib.Omega.{arith}
 use lib.Dec.{ltb, leb, eqb}
-use borrow.Author.Tests.{lt-ltb, le-ltb, le-leb, lt-leb, eq-eqb, ne-eqb, leb-true, eqb-false, eqb-true, ltb-false}
-use Rattle.model.specs.Model.{_∈_, here, there, Span, Line, Row, Op, idle, Deep, Asc, Apart, Nested, Forest, nil, row, spans, spans-of, LastEnd, Within, WellRow, WellInlinee, WellTree, Well, Clear, ClearOps, AllClear, coversb, frame-at, covering, preorder, Covers}
-use Rattle.model.specs.Maps.{lt-or-ge, eq-or-ne}
-use Rattle.model.specs.Spans.{∈-elim, ∈-map, map-∈, ∈-cases}
-use Rattle.model.specs.Depths.{under, Steps, under-above, under-at, under-below, rows-are}
-use Rattle.model.specs.Plain.{root-covers}
-use Rattle.model.specs.Machine.{line-of, row-of, deep-of, kids-of, op-of, inner, Sound, SoundTree, SoundOp, OpM, treeM, symbolM}
-use Rattle.model.specs.Rows.{MAX, cut32, Text, LineRow, FunctionRow, SymbolRow, Given, tree-rows, symbol-row, line-size, boundaries, skipped, function-end, symbol-skipped, symbol-end, input, deep, op}
-use Rattle.model.specs.Converter.{Setup}
+use borrow.Author.Tests.{le-ltb, le-leb, lt-leb, eq-eqb, ne-eqb, leb-true, eqb-false, ltb-false}
+use Rattle.model.specs.Basics.{_∈_, here, there, Span, Deep, Asc, Apart, coversb, Covers}
+use Rattle.model.specs.Rows.{MAX, cut32, Text, LineRow, FunctionRow, SymbolRow, Given, tree-rows, symbol-row, line-size, boundaries, skipped, function-end, symbol-skipped, symbol-end}
+use Rattle.model.specs.Machine.{OpM}
+use Rattle.model.specs.Converter.{input, deep, op, Setup}
 use Rattle.model.specs.Frames.{Frame}
-use Rattle.model.specs.Keeps.{means}
-use Rattle.model.specs.Premises.{reach, reaches, all-reaches, inlinees, Legal, RowWell, LastAt, InlineeWell, RowsWell, TreeWell, WellNested, Named, Counted, NotIn, SymbolClear, RootsClear, Separate, AllSeparate, wanted, line-at, nested-at}
+use Rattle.model.specs.Premises.{reach, reaches, all-reaches, inlinees, Legal, RowWell, LastAt, InlineeWell, RowsWell, TreeWell, WellNested, Named, Counted, NotIn, SymbolClear, Separate, AllSeparate, wanted, line-at, nested-at}
+use Rattle.model.proofs.Ideal.{Line, Row, Op, idle, Nested, Forest, nil, row, spans, spans-of, LastEnd, Within, WellRow, WellInlinee, WellTree, Well, Clear, ClearOps, AllClear, frame-at, covering, preorder}
+use Rattle.model.proofs.Maps.{lt-or-ge, eq-or-ne}
+use Rattle.model.proofs.Spans.{∈-elim, ∈-map, map-∈, ∈-cases}
+use Rattle.model.proofs.Stacks.{root-covers}
+use Rattle.model.proofs.Depths.{under, Steps, under-above, under-at, under-below, rows-are}
+use Rattle.model.proofs.Means.{line-of, row-of, deep-of, kids-of, op-of, inner, Sound, SoundTree, SoundOp}
+use Rattle.model.proofs.Keeps.{means}
 
 -- ── One row ──
 

@@ -1,18 +1,15 @@
 -- Document 01's small worked file, from rows to tables to frames, by computation; and corners of "Converter", each with what it changes.
 use mathlib.Core.Path.{_≡_, refl}
-use mathlib.Core.Bool.{Bool, true, false}
+use mathlib.Core.Bool.{true, false}
 use mathlib.Core.Option.{Option, none, some}
 use mathlib.Core.List.{List, [], _∷_, map}
-use Prim.Native.Nat.{ℕ, _+_}
-use lib.ListN.{length}
-use lib.Dec.{ltb}
-use Rattle.model.specs.Model.{before, place, sort}
-use Rattle.model.specs.Table.{Entry}
-use Rattle.model.specs.Intern.{intern}
+use Prim.Native.Nat.{ℕ}
+use Rattle.model.specs.Basics.{before, place, sort, Entry, intern}
+use Rattle.model.specs.Rows.{MAX, Text, LineRow, FunctionRow, Given, tree-rows}
 use Rattle.model.specs.Machine.{advanceM, set-atM, kid-spansM, unless-held, put-end, walkM, loopM, entryM, closingM, rowM, convertM, startM, named-symbolM, convert-symbolM, convert-opM, runM}
-use Rattle.model.specs.Rows.{MAX, Text, LineRow, FunctionRow, SymbolRow, Given, tree-rows, symbol-row, boundaries}
-use Rattle.model.specs.Converter.{Setup, Six, File, Function, Location, nowhere, at, Tables, store, store-six, range-at, put-range, begin-row, locate-line, begin-symbol, locate-symbol, enter-call, converted}
+use Rattle.model.specs.Converter.{Setup, File, Location, nowhere, at, store, store-six, range-at, put-range, begin-row, locate-line, begin-symbol, locate-symbol, enter-call, converted}
 use Rattle.model.specs.Frames.{Frame, callers, frames-of, better, best, frames-at}
+use Rattle.model.specs.Counts.{leb-bytes, text-size, text-offset}
 
 abbrev pub plain-setup : Setup
 plain-setup = record { utf8 = λ t. true; undecorate = λ t. t; functions-on = false; symbols-on = false }
@@ -72,3 +69,8 @@ worked-frames : map (frames-at (converted plain-setup worked)) (0x0fff ∷ 0x100
     ≡ [] ∷ (frame trk 0x1000 10 ars ∷ []) ∷ (frame pos MAX 50 prs ∷ frame trk 0x1000 10 ars ∷ []) ∷ (frame trk 0x1000 10 ars ∷ []) ∷ (frame trk 0x1000 11 ars ∷ []) ∷ [] ∷ []
 unfolding before place sort intern advanceM set-atM kid-spansM unless-held put-end walkM loopM entryM closingM rowM convertM startM named-symbolM convert-symbolM convert-opM runM store store-six range-at put-range begin-row locate-line begin-symbol locate-symbol enter-call callers frames-of better best frames-at
 worked-frames = refl
+
+-- the worked file's texts: 25 bytes
+worked-offsets : map (text-offset (trk ∷ ars ∷ src ∷ b ∷ pos ∷ prs ∷ [])) (0 ∷ 1 ∷ 2 ∷ 3 ∷ 4 ∷ 5 ∷ 6 ∷ []) ≡ 0 ∷ 4 ∷ 9 ∷ 13 ∷ 16 ∷ 20 ∷ 25 ∷ []
+unfolding leb-bytes text-size
+worked-offsets = refl

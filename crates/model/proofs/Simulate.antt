@@ -2,21 +2,23 @@
 use mathlib.Core.Path.{_≡_, refl, sym, ap, _∙_, subst}
 use mathlib.Core.Bool.{Bool, true, false, cond}
 use mathlib.Core.Option.{Option, none, some}
-use mathlib.Core.Logic.{_⊎_, inl, inr, _≢_, ⊎-elim}
+use mathlib.Core.Logic.{_⊎_, inl, inr, _≢_}
 use mathlib.Core.List.{List, [], _∷_, _++_, map, reverse}
 use Prim.Native.Nat.{ℕ, zero, suc, _≤_, _<_}
 use native.Mathlib.Omega.{arith}
 use lib.ListN.{length}
-use lib.Dec.{ltb, leb, eqb}
-use borrow.Author.Tests.{lt-ltb, le-ltb, le-leb, lt-leb}
-use Rattle.model.specs.Model.{_∈_, here, there, Span, Line, Row, Map, insert, insert-soft, insert-end, Call, Walked, Looped, Cursor, walk, advance, loop, Forest, nil, row, Op, tree, symbol, idle, empty, look, spans-of, convert-root, convert-symbol, convert-op, run, preorder, covering, frames, depths, upto, stack-at, Covers, Well, AllClear, Deep, sort}
-use Rattle.model.specs.Maps.{lt-or-ge, eq-or-ne, insert-same, insert-other, look-down, Sees}
-use Rattle.model.specs.Spans.{∈-elim, ∈-map, map-∈}
-use Rattle.model.specs.Flat.{Context, set-at, kid-spans, closing, flat-row, convert-flat, start, flat-tree}
-use Rattle.model.specs.Depths.{under, Steps, rows-are}
-use Rattle.model.specs.Theorem.{demand, run-sees}
-use Rattle.model.specs.Plain.{plain-tree}
-use Rattle.model.specs.Machine.{Input, Machine, OpM, treeM, symbolM, Ref, WalkedM, LoopedM, CursorM, advanceM, set-atM, kid-spansM, unless-held, put-end, walkM, loopM, entryM, closingM, rowM, convertM, startM, named-symbolM, convert-symbolM, convert-opM, runM, finishM, Means, line-of, row-of, deep-of, inner, Sound, SoundTree, SoundOp, kids-of, op-of}
+use lib.Dec.{ltb, eqb}
+use borrow.Author.Tests.{le-leb, lt-leb}
+use Rattle.model.specs.Basics.{_∈_, here, there, Span, items, depths, upto, Covers, Deep, sort}
+use Rattle.model.specs.Machine.{Input, Machine, OpM, treeM, symbolM, Ref, WalkedM, LoopedM, CursorM, advanceM, set-atM, kid-spansM, unless-held, put-end, walkM, loopM, entryM, closingM, rowM, convertM, startM, named-symbolM, convert-symbolM, convert-opM, runM, finishM}
+use Rattle.model.proofs.Ideal.{Row, Map, insert, insert-soft, insert-end, Call, Walked, Looped, Cursor, walk, advance, loop, nil, row, Op, empty, look, spans-of, convert-symbol, convert-op, run, preorder, covering, stack-at, Well, AllClear}
+use Rattle.model.proofs.Maps.{lt-or-ge, eq-or-ne, insert-same, insert-other, look-down}
+use Rattle.model.proofs.Spans.{∈-elim, ∈-map, map-∈}
+use Rattle.model.proofs.Stacks.{plain-tree}
+use Rattle.model.proofs.Theorem.{demand, run-sees}
+use Rattle.model.proofs.Depths.{Steps, rows-are}
+use Rattle.model.proofs.Flat.{Context, set-at, kid-spans, closing, flat-row, convert-flat, start, flat-tree}
+use Rattle.model.proofs.Means.{Means, line-of, row-of, deep-of, inner, Sound, SoundTree, SoundOp, kids-of, op-of}
 
 -- What the tables hold. `Good s`: they are in order. `Ext s t`: t has all that s has. `Loc s l v`: in s the location l stands for
 -- the frames v. `Cal s c v`: the reference c does. `Fun s q r`: r is what `begin` made of the row q. `Txt s y p`: p is what `sym-begin` made of y
@@ -459,13 +461,13 @@ module _ {Q N Y R P L C S F : Type 0} (I : Input Q N Y) (M : Machine Q N Y R P L
       abbrev pub found : List (Deep F)
       found = covering x (map (deep-of I T) (record { depth = 0; item = q } ∷ rs))
 
-      pub machine-plain : (stack ≡ reverse (frames found)) × (depths found ≡ upto 0 (length found))
+      pub machine-plain : (stack ≡ reverse (items found)) × (depths found ≡ upto 0 (length found))
       machine-plain =
           let g = sound (treeM q rs) i in
           let p = plain-tree x (row-of I T q) (kids-of I T rs) (well (treeM q rs) i) (line-of I T q n) (∈-map (line-of I T q) j) cov in
           let e : preorder 0 (row (row-of I T q) (kids-of I T rs) nil) ≡ map (deep-of I T) (record { depth = 0; item = q } ∷ rs) =
           rows-are (map (deep-of I T) rs) (steps-of 1 rs (g .steps)) (deeper-of rs (g .deeper)) (row-of I T q) in
-          subst (λ (t : List (Deep (Row F))). (stack ≡ reverse (frames (covering x t))) × (depths (covering x t) ≡ upto 0 (length (covering x t)))) e (p .stack-is, p .depths-are)
+          subst (λ (t : List (Deep (Row F))). (stack ≡ reverse (items (covering x t))) × (depths (covering x t) ≡ upto 0 (length (covering x t)))) e (p .stack-is, p .depths-are)
 
       -- and the writer's sentinel changes nothing
       pub machine-finish : finishM I M s ≡ s

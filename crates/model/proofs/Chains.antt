@@ -1,29 +1,32 @@
 -- In the plain tables, what a reference, a file, a function and a location stand for; that it stays as the tables grow; and that the walk finds it.
 use mathlib.Core.Path.{_≡_, refl, sym, ap, _∙_, subst}
-use mathlib.Core.Bool.{Bool, true, false, cond}
+use mathlib.Core.Bool.{Bool, true, false, _&&_}
 use mathlib.Core.Option.{Option, none, some}
 use mathlib.Core.Logic.{_⊎_, inl, inr, _≢_, ⊎-elim}
 use mathlib.Core.List.{List, [], _∷_}
 use Prim.Native.Nat.{ℕ, zero, suc, _≤_, _<_}
 use native.Mathlib.Omega.{arith}
-use lib.ListN.{length, getD, getElem?}
-use lib.Dec.{eqb, ltb, leb}
-use borrow.Author.Tests.{eqb-true, eq-eqb, ne-eqb, leb-true, leb-false, le-leb, lt-leb}
-use Rattle.model.specs.Maps.{lt-or-ge, eq-or-ne}
-use Rattle.model.specs.Table.{Entry}
-use Rattle.model.specs.Intern.{Interned, intern, At, Grows, intern-at, intern-grows, at-length, at-getD}
-use Rattle.model.specs.Rows.{MAX, Text}
-use Rattle.model.specs.Converter.{Six, File, Function, Location, nowhere, at, Tables, both?, opt-eq, text-eq, file-eq, function-eq, location-eq, is-nowhere, Stored, store, store-six, range-at, put-range}
-use Rattle.model.specs.Frames.{Frame, read, read-six, file-at, function-at, frame-of, caller-of, callers, frames-of, better, best, frames-at}
+use lib.ListN.{length, getElem?}
+use lib.Dec.{eqb}
+use borrow.Author.Tests.{eqb-true, eq-eqb, ne-eqb, le-leb, lt-leb}
+use Rattle.model.specs.Basics.{Entry}
+use Rattle.model.specs.Rows.{Text}
+use Rattle.model.specs.Converter.{Six, File, Function, Location, nowhere, at, Tables, opt-eq, text-eq, file-eq, function-eq, location-eq, is-nowhere, store, store-six, range-at, put-range}
+use Rattle.model.specs.Frames.{Frame, read, read-six, file-at, function-at, frame-of, caller-of, callers, frames-of, better, best, known, known-six}
+use Rattle.model.proofs.Maps.{lt-or-ge, eq-or-ne}
+use Rattle.model.proofs.Intern.{At, Grows, intern-at, intern-grows, at-length, at-getD}
 
 -- ── The equality tests ──
 
 pub false-true : {A : Type 0} → _≡_ {A = Bool} false true → A
 false-true e = let bad : _≡_ {A = ℕ} 0 1 = cc in absurd (omega arith)
 
-pub both-true : (a b : Bool) → both? a b ≡ true → (a ≡ true) × (b ≡ true)
+pub both-true : (a b : Bool) → (a && b) ≡ true → (a ≡ true) × (b ≡ true)
 both-true true b e = (refl, e)
 both-true false b e = false-true e
+
+pub both-of : (a b : Bool) → a ≡ true → b ≡ true → (a && b) ≡ true
+both-of a b p q = rw p q
 
 pub opt-eq-ok : (i j : Option ℕ) → opt-eq i j ≡ true → i ≡ j
 opt-eq-ok none none e = refl
@@ -43,17 +46,17 @@ six-path x y a b c d e f = λ i. record { name = a i; directory = b i; comp-dir 
 
 pub file-eq-ok : (x y : File) → file-eq x y ≡ true → x ≡ y
 file-eq-ok x y h =
-    let (a, h₁) = both-true (opt-eq (x .name) (y .name)) _ h in
-    let (b, h₂) = both-true (opt-eq (x .directory) (y .directory)) _ h₁ in
-    let (c, h₃) = both-true (opt-eq (x .comp-dir) (y .comp-dir)) _ h₂ in
-    let (d, h₄) = both-true (opt-eq (x .srcsrv-name) (y .srcsrv-name)) _ h₃ in
-    let (e, f) = both-true (opt-eq (x .srcsrv-dir) (y .srcsrv-dir)) _ h₄ in
+    let (h₁, f) = both-true _ (opt-eq (x .revision) (y .revision)) h in
+    let (h₂, e) = both-true _ (opt-eq (x .srcsrv-dir) (y .srcsrv-dir)) h₁ in
+    let (h₃, d) = both-true _ (opt-eq (x .srcsrv-name) (y .srcsrv-name)) h₂ in
+    let (h₄, c) = both-true _ (opt-eq (x .comp-dir) (y .comp-dir)) h₃ in
+    let (a, b) = both-true (opt-eq (x .name) (y .name)) (opt-eq (x .directory) (y .directory)) h₄ in
     six-path x y (opt-eq-ok _ _ a) (opt-eq-ok _ _ b) (opt-eq-ok _ _ c) (opt-eq-ok _ _ d) (opt-eq-ok _ _ e) (opt-eq-ok _ _ f)
 
 pub function-eq-ok : (x y : Function) → function-eq x y ≡ true → x ≡ y
 function-eq-ok x y h =
-    let (a, h₁) = both-true (opt-eq (x .name) (y .name)) _ h in
-    let (b, c) = both-true (eqb (x .entry) (y .entry)) _ h₁ in
+    let (h₁, c) = both-true _ (eqb (x .language) (y .language)) h in
+    let (a, b) = both-true (opt-eq (x .name) (y .name)) (eqb (x .entry) (y .entry)) h₁ in
     let p = opt-eq-ok _ _ a in
     let q = eqb-true _ _ b in
     let r = eqb-true _ _ c in
@@ -64,17 +67,12 @@ location-eq-ok nowhere nowhere e = refl
 location-eq-ok nowhere (at g o j b) e = false-true e
 location-eq-ok (at f n i a) nowhere e = false-true e
 location-eq-ok (at f n i a) (at g o j b) h =
-    let (p, h₁) = both-true (opt-eq f g) _ h in
-    let (q, h₂) = both-true (eqb n o) _ h₁ in
-    let (r, t) = both-true (eqb i j) _ h₂ in
+    let (h₁, t) = both-true _ (opt-eq a b) h in
+    let (h₂, r) = both-true _ (eqb i j) h₁ in
+    let (p, q) = both-true (opt-eq f g) (eqb n o) h₂ in
     cc (opt-eq-ok f g p, eqb-true n o q, eqb-true i j r, opt-eq-ok a b t)
 
 -- ── Texts ──
-
--- an empty text reads as absent
-abbrev pub known : Text → Option Text
-known [] = none
-known (b ∷ t) = some (b ∷ t)
 
 pub data Reads (ts : List Text) : Option ℕ → Option Text → Type 0 where
   absent : Reads ts none none
@@ -109,16 +107,6 @@ six-grows {ts} {us} g x v h = record {
   srcsrv-name = reads-grows us g (h .srcsrv-name);
   srcsrv-dir = reads-grows us g (h .srcsrv-dir);
   revision = reads-grows us g (h .revision);
-}
-
-abbrev pub known-six : Six Text → Six (Option Text)
-known-six x = record {
-  name = known (x .name);
-  directory = known (x .directory);
-  comp-dir = known (x .comp-dir);
-  srcsrv-name = known (x .srcsrv-name);
-  srcsrv-dir = known (x .srcsrv-dir);
-  revision = known (x .revision);
 }
 
 pub store-grows : (ts : List Text) (t : Text) → Grows ts (store ts t .table)
