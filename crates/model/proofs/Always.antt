@@ -130,7 +130,7 @@ module _ (X : Setup) (Fine : List Frame → Type 0) (Depth : ℕ → Type 0) (sm
       let b = begin-symbol X y s in
       let o₁ = begin-symbol-ordered Fine X y s o in
       let r = begin-symbol-reads Fine X y s in
-      let l = locate-symbol X y (b .0) (b .1) in
+      let l = locate-symbol y (b .0) (b .1) in
       let o₂ = locate-symbol-ordered Fine X y (b .0) (b .1) _ r o₁ in
       let c = locate-symbol-chain Fine X y (b .0) (b .1) r in
       let n = after-unless (y .address) (b .1) _ o₁ (after-then (locate-symbol-larger Fine X y (b .0) (b .1)) (after-put (y .address) (l .0) (l .1) o₂ (symbol-frame Fine X y ∷ [], c, small _ (omega arith)))) in
@@ -142,7 +142,7 @@ module _ (X : Setup) (Fine : List Frame → Type 0) (Depth : ℕ → Type 0) (sm
       b = begin-symbol X y s
 
       t : Tables
-      t = plain X .mark-symbol (y .address) (unless-held input (plain X) (y .address) (put-at (y .address) (locate-symbol X y (b .0) (b .1) .0) (locate-symbol X y (b .0) (b .1) .1)) (b .1))
+      t = plain X .mark-symbol (y .address) (unless-held input (plain X) (y .address) (put-at (y .address) (locate-symbol y (b .0) (b .1) .0) (locate-symbol y (b .0) (b .1) .1)) (b .1))
 
       go : (e : Option ℕ) → input .sym-end y ≡ e → After s t → After s (named-symbolM input (plain X) y s)
       go none e h = rw (e, named-symbolM) h

@@ -9,6 +9,8 @@ use Prim.Native.Nat.{ℕ, zero, suc, _+_, _≤_}
 use native.Mathlib.Omega.{arith}
 use lib.ListN.{length}
 use lib.Dec.{ltb, leb, eqb}
+use Rattle.text.specs.Utf8.{utf8}
+use Rattle.names.specs.Names.{undecorated}
 use borrow.Author.Tests.{eq-eqb, ltb-false, leb-true}
 use Rattle.model.specs.Basics.{_∈_, Deep, intern}
 use Rattle.model.specs.Rows.{MAX, Text, LineRow, FunctionRow, SymbolRow, Given, tree-rows, symbol-row, skipped, function-end, symbol-skipped, symbol-end}
@@ -84,7 +86,7 @@ Low (at f n i c) = n ≤ MAX
 
 module _ (X : Setup) where
   pub record Texts (ts : List Text) : Type 0 where
-    pub good : (i : ℕ) (t : Text) → At ts i t → (t ≢ []) × (X .utf8 t ≡ true)
+    pub good : (i : ℕ) (t : Text) → At ts i t → (t ≢ []) × (utf8 t ≡ true)
     pub once : Once ts
 
   pub record Compact (s : Tables) : Type 0 where
@@ -98,25 +100,25 @@ module _ (X : Setup) where
 
   -- "any text but a compilation directory not UTF-8" is 14; a language has 32 bits
   pub record LineFits (n : LineRow) : Type 0 where
-    pub name : X .utf8 (n .name) ≡ true
-    pub directory : X .utf8 (n .directory) ≡ true
-    pub srcsrv-name : (t : Text) → n .srcsrv-name ≡ some t → X .utf8 t ≡ true
-    pub srcsrv-dir : (t : Text) → n .srcsrv-dir ≡ some t → X .utf8 t ≡ true
-    pub revision : (t : Text) → n .revision ≡ some t → X .utf8 t ≡ true
+    pub name : utf8 (n .name) ≡ true
+    pub directory : utf8 (n .directory) ≡ true
+    pub srcsrv-name : (t : Text) → n .srcsrv-name ≡ some t → utf8 t ≡ true
+    pub srcsrv-dir : (t : Text) → n .srcsrv-dir ≡ some t → utf8 t ≡ true
+    pub revision : (t : Text) → n .revision ≡ some t → utf8 t ≡ true
 
   pub record RowFits (q : FunctionRow) : Type 0 where
-    pub name : X .utf8 (q .name) ≡ true
+    pub name : utf8 (q .name) ≡ true
     pub language : q .language ≤ MAX
     pub lines : (n : LineRow) → n ∈ q .lines → LineFits n
 
   abbrev pub SymbolFits : SymbolRow → Type 0
-  SymbolFits y = (t : Text) → y .name ≡ some t → X .utf8 t ≡ true
+  SymbolFits y = (t : Text) → y .name ≡ some t → utf8 t ≡ true
 
   -- empty, or UTF-8
   abbrev Storable : Text → Type 0
-  Storable t = (t ≡ []) ⊎ (X .utf8 t ≡ true)
+  Storable t = (t ≡ []) ⊎ (utf8 t ≡ true)
 
-  storable-opt : (o : Option Text) → ((t : Text) → o ≡ some t → X .utf8 t ≡ true) → Storable (or-empty o)
+  storable-opt : (o : Option Text) → ((t : Text) → o ≡ some t → utf8 t ≡ true) → Storable (or-empty o)
   storable-opt none h = inl refl
   storable-opt (some t) h = inr (h t refl)
 
@@ -124,14 +126,14 @@ module _ (X : Setup) where
   unfolding store
   store-texts ts [] u h = h
   store-texts ts (b ∷ t) u h = record {
-    good = λ i a k. ⊎-elim (λ z. h .good i a z) (λ (p, e). (λ z. clash (sym e ∙ z), subst (λ (w : Text). X .utf8 w ≡ true) (sym e) (ok u))) (intern-new text-eq ts (b ∷ t) i a k);
+    good = λ i a k. ⊎-elim (λ z. h .good i a z) (λ (p, e). (λ z. clash (sym e ∙ z), subst (λ (w : Text). utf8 w ≡ true) (sym e) (ok u))) (intern-new text-eq ts (b ∷ t) i a k);
     once = intern-once text-eq text-whole ts (b ∷ t) (h .once);
   }
     where
       clash : _≡_ {A = Text} (b ∷ t) [] → ⊥
       clash e = let bad : _≡_ {A = ℕ} 0 1 = cc in omega arith
 
-      ok : Storable (b ∷ t) → X .utf8 (b ∷ t) ≡ true
+      ok : Storable (b ∷ t) → utf8 (b ∷ t) ≡ true
       ok (inl e) = absurd (clash e)
       ok (inr e) = e
 
@@ -152,15 +154,15 @@ module _ (X : Setup) where
   }
 
   -- undecorating keeps UTF-8: a lemma of the names
-  module _ (keeps : (t : Text) → X .utf8 t ≡ true → X .utf8 (X .undecorate t) ≡ true) where
-    named-ok : (b : Bool) (t : Text) → X .utf8 t ≡ true → X .utf8 (cond b (X .undecorate t) t) ≡ true
+  module _ (keeps : (t : Text) → utf8 t ≡ true → utf8 (undecorated t) ≡ true) where
+    named-ok : (b : Bool) (t : Text) → utf8 t ≡ true → utf8 (cond b (undecorated t) t) ≡ true
     named-ok true t h = keeps t h
     named-ok false t h = h
 
-    directory-ok : (q : FunctionRow) → Storable (directory-of X q)
-    directory-ok q = go (X .utf8 (q .comp-dir)) refl
+    directory-ok : (q : FunctionRow) → Storable (directory-of q)
+    directory-ok q = go (utf8 (q .comp-dir)) refl
       where
-        go : (b : Bool) → X .utf8 (q .comp-dir) ≡ b → Storable (cond b (q .comp-dir) [])
+        go : (b : Bool) → utf8 (q .comp-dir) ≡ b → Storable (cond b (q .comp-dir) [])
         go true e = inr e
         go false e = inl refl
 
@@ -230,10 +232,10 @@ module _ (X : Setup) where
     unfolding begin-row
     begin-compact q s r z h = add-compact s _ _ (store-texts (s .texts) (function-name X q) (inr (named-ok (X .functions-on) (q .name) (r .name))) (h .texts)) (entry-low q z) (r .language) h
 
-    locate-compact : (q : FunctionRow) (r : ℕ) (n : LineRow) (c : Option ℕ) (s : Tables) → LineFits n → Compact s → Compact (locate-line X q r n c s .1)
+    locate-compact : (q : FunctionRow) (r : ℕ) (n : LineRow) (c : Option ℕ) (s : Tables) → LineFits n → Compact s → Compact (locate-line q r n c s .1)
     unfolding locate-line
     locate-compact q r n c s f h = record {
-      texts = six-texts (s .texts) (line-texts X q n) (inr (f .name)) (inr (f .directory)) (directory-ok q) (storable-opt (n .srcsrv-name) (f .srcsrv-name)) (storable-opt (n .srcsrv-dir) (f .srcsrv-dir)) (storable-opt (n .revision) (f .revision)) (h .texts);
+      texts = six-texts (s .texts) (line-texts q n) (inr (f .name)) (inr (f .directory)) (directory-ok q) (storable-opt (n .srcsrv-name) (f .srcsrv-name)) (storable-opt (n .srcsrv-dir) (f .srcsrv-dir)) (storable-opt (n .revision) (f .revision)) (h .texts);
       files-once = intern-once file-eq file-whole (s .files) _ (h .files-once);
       functions-once = h .functions-once;
       calls-once = h .calls-once;
@@ -242,11 +244,11 @@ module _ (X : Setup) where
       ranges-low = h .ranges-low;
     }
 
-    locate-low : (q : FunctionRow) (r : ℕ) (n : LineRow) (c : Option ℕ) (s : Tables) → Low (locate-line X q r n c s .0)
+    locate-low : (q : FunctionRow) (r : ℕ) (n : LineRow) (c : Option ℕ) (s : Tables) → Low (locate-line q r n c s .0)
     unfolding locate-line
     locate-low q r n c s = omega arith
 
-    enter-compact : (l : Location) (s : Tables) → Low l → Compact s → Compact (enter-call X l s .1)
+    enter-compact : (l : Location) (s : Tables) → Low l → Compact s → Compact (enter-call l s .1)
     unfolding enter-call
     enter-compact l s w h = record {
       texts = h .texts;
@@ -297,7 +299,7 @@ module _ (X : Setup) where
         b = begin-symbol X y s
 
         l : Location × Tables
-        l = locate-symbol X y (b .0) (b .1)
+        l = locate-symbol y (b .0) (b .1)
 
         low : y .address ≤ MAX
         low = symbol-low y z .2

@@ -301,23 +301,23 @@ module _ (X : Setup) where
   frame-of-line q (some n) = some (wanted X q n)
 
   frame-line : (q : FunctionRow) (x : ℕ) (ns : List LineRow) → ((n : LineRow) → n ∈ ns → n .address + line-size n ≤ MAX) → ((n : LineRow) → n ∈ ns → n .number < 4294967296)
-      → frame-at (map (lineOf q) ns) x ≡ frame-of-line q (line-at X ns x)
+      → frame-at (map (lineOf q) ns) x ≡ frame-of-line q (line-at ns x)
   unfolding frame-at line-at
   frame-line q x [] h k = refl
   frame-line q x (n ∷ ns) h k =
       ap (λ (s : Span). cond (coversb s x) (some (means X .frame q n)) (frame-at (map (lineOf q) ns) x)) (unclamped n (h n here))
       ∙ go (coversb (reach n) x) (frame-line q x ns (λ m i. h m (there i)) (λ m i. k m (there i)))
     where
-      go : (t : Bool) → frame-at (map (lineOf q) ns) x ≡ frame-of-line q (line-at X ns x) → cond t (some (means X .frame q n)) (frame-at (map (lineOf q) ns) x) ≡ frame-of-line q (cond t (some n) (line-at X ns x))
+      go : (t : Bool) → frame-at (map (lineOf q) ns) x ≡ frame-of-line q (line-at ns x) → cond t (some (means X .frame q n)) (frame-at (map (lineOf q) ns) x) ≡ frame-of-line q (cond t (some n) (line-at ns x))
       go true ih = ap some (frame-is q n (k n here))
       go false ih = ih
 
   pub found-is : (x : ℕ) (rs : List FunctionRow) → RowsWell rs → covering x (deeps rs) ≡ nested-at X x rs
   unfolding covering nested-at
   found-is x [] w = refl
-  found-is x (q ∷ rs) w = go (line-at X (q .lines) x) refl (frame-line q x (q .lines) (line-low q (w .0)) (w .0 .numbers)) (found-is x rs (w .3))
+  found-is x (q ∷ rs) w = go (line-at (q .lines) x) refl (frame-line q x (q .lines) (line-low q (w .0)) (w .0 .numbers)) (found-is x rs (w .3))
     where
-      go : (o : Option LineRow) → line-at X (q .lines) x ≡ o → frame-at (map (lineOf q) (q .lines)) x ≡ frame-of-line q (line-at X (q .lines) x) → covering x (deeps rs) ≡ nested-at X x rs
+      go : (o : Option LineRow) → line-at (q .lines) x ≡ o → frame-at (map (lineOf q) (q .lines)) x ≡ frame-of-line q (line-at (q .lines) x) → covering x (deeps rs) ≡ nested-at X x rs
           → covering x (deeps (q ∷ rs)) ≡ nested-at X x (q ∷ rs)
       go none e f ih = rw (f ∙ ap (frame-of-line q) e, covering, e, nested-at) ih
       go (some n) e f ih = rw (f ∙ ap (frame-of-line q) e, covering, e, nested-at) (ap (λ (t : List (Deep Frame)). record { depth = q .depth; item = wanted X q n } ∷ t) ih)

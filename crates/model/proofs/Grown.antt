@@ -91,13 +91,13 @@ module _ (X : Setup) where
       let t = store-grown (s .texts) (function-name X q) in
       record { texts = t .rows; bytes = t .size; files = omega arith; functions = intern-length function-eq (s .functions) _; calls = omega arith; ranges = omega arith }
 
-  pub locate-grown : (q : FunctionRow) (r : ℕ) (n : LineRow) (c : Option ℕ) (s : Tables) → Grown s (locate-line X q r n c s .1)
+  pub locate-grown : (q : FunctionRow) (r : ℕ) (n : LineRow) (c : Option ℕ) (s : Tables) → Grown s (locate-line q r n c s .1)
   unfolding locate-line
   locate-grown q r n c s =
-      let t = six-grown (s .texts) (line-texts X q n) in
+      let t = six-grown (s .texts) (line-texts q n) in
       record { texts = t .rows; bytes = t .size; files = intern-length file-eq (s .files) _; functions = omega arith; calls = omega arith; ranges = omega arith }
 
-  pub enter-grown : (l : Location) (s : Tables) → Grown s (enter-call X l s .1)
+  pub enter-grown : (l : Location) (s : Tables) → Grown s (enter-call l s .1)
   unfolding enter-call
   enter-grown l s = record { texts = omega arith; bytes = omega arith; files = omega arith; functions = omega arith; calls = intern-length location-eq (s .calls) l; ranges = omega arith }
 
@@ -105,7 +105,7 @@ module _ (X : Setup) where
   unfolding begin-symbol
   symbol-name-grown y s = let t = store-grown (s .texts) (symbol-name X y) in record { texts = t .rows; bytes = t .size; files = omega arith; functions = omega arith; calls = omega arith; ranges = omega arith }
 
-  pub symbol-location-grown : (y : SymbolRow) (p : Option ℕ) (s : Tables) → Grown s (locate-symbol X y p s .1)
+  pub symbol-location-grown : (y : SymbolRow) (p : Option ℕ) (s : Tables) → Grown s (locate-symbol y p s .1)
   unfolding locate-symbol
   symbol-location-grown y p s = record { texts = omega arith; bytes = omega arith; files = omega arith; functions = intern-length function-eq (s .functions) _; calls = omega arith; ranges = omega arith }
 
@@ -150,7 +150,7 @@ module _ (X : Setup) where
       b = begin-symbol X y s
 
       l : Location × Tables
-      l = locate-symbol X y (b .0) (b .1)
+      l = locate-symbol y (b .0) (b .1)
 
       t : Tables
       t = plain X .mark-symbol (y .address) (unless-held input (plain X) (y .address) (put-at (y .address) (l .0) (l .1)) (b .1))

@@ -6,6 +6,7 @@ use mathlib.Core.Logic.{inl, inr}
 use mathlib.Core.List.{List, [], _∷_}
 use Prim.Native.Nat.{ℕ, _+_, _≤_, _<_}
 use native.Mathlib.Omega.{arith}
+use Rattle.text.specs.Utf8.{utf8, chars, charLen, UTF8-char, fits, within}
 use Rattle.model.specs.Basics.{_∈_, here, there, before, place, sort, intern}
 use Rattle.model.specs.Rows.{MAX, LineRow, FunctionRow, SymbolRow, Given, tree-rows, symbol-row, line-size}
 use Rattle.model.specs.Machine.{advanceM, set-atM, kid-spansM, unless-held, put-end, walkM, loopM, entryM, closingM, rowM, convertM, startM, named-symbolM, convert-symbolM, convert-opM, runM}
@@ -126,16 +127,16 @@ list-separate = (
 
 -- what the theorem gives of it, and what the tables give by computation
 list-1003 : frames-at (converted plain-setup list) 0x1003 ≡ frame pos MAX 50 prs ∷ frame trk 0x1000 10 ars ∷ []
-unfolding nested-at line-at
+unfolding nested-at line-at utf8 chars charLen UTF8-char fits within
 list-1003 = demand plain-setup list list-well list-separate root-row (inlinee-row ∷ []) (there here) 0x1003 (λ e. let bad : _≡_ {A = ℕ} 0 1 = cc in omega arith) .0
 
 list-computed : frames-at (converted plain-setup list) 0x1003 ≡ frame pos MAX 50 prs ∷ frame trk 0x1000 10 ars ∷ []
-unfolding before place sort intern advanceM set-atM kid-spansM unless-held put-end walkM loopM entryM closingM rowM convertM startM named-symbolM convert-symbolM convert-opM runM store store-six range-at put-range begin-row locate-line begin-symbol locate-symbol enter-call callers frames-of better best frames-at
+unfolding before place sort intern advanceM set-atM kid-spansM unless-held put-end walkM loopM entryM closingM rowM convertM startM named-symbolM convert-symbolM convert-opM runM store store-six range-at put-range begin-row locate-line begin-symbol locate-symbol enter-call callers frames-of better best frames-at utf8 chars charLen UTF8-char fits within
 list-computed = refl
 
 abbrev no-directory : ℕ → ℕ → Frame
 no-directory e n = record { name = some pos; entry = e; language = 3; number = n; file = some (record { name = some prs; directory = some src; comp-dir = none; srcsrv-name = none; srcsrv-dir = none; revision = none }) }
 
 list-1013 : frames-at (converted plain-setup list) 0x1013 ≡ no-directory 0x1010 8 ∷ []
-unfolding nested-at line-at
+unfolding nested-at line-at utf8 chars charLen UTF8-char fits within
 list-1013 = demand plain-setup list list-well list-separate second-row [] (there (there (there here))) 0x1013 (λ e. let bad : _≡_ {A = ℕ} 0 1 = cc in omega arith) .0

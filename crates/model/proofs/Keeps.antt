@@ -215,7 +215,7 @@ module _ (Fine : List Frame → Type 0) where
 
     -- the frames
     abbrev pub line-frame : FunctionRow → LineRow → Frame
-    line-frame q n = record { name = known (function-name X q); entry = entry-of q; language = q .language; number = cut32 (n .number); file = some (known-six (line-texts X q n)) }
+    line-frame q n = record { name = known (function-name X q); entry = entry-of q; language = q .language; number = cut32 (n .number); file = some (known-six (line-texts q n)) }
 
     abbrev pub bare-frame : FunctionRow → Frame
     bare-frame q = record { name = known (function-name X q); entry = entry-of q; language = q .language; number = 0; file = none }
@@ -224,21 +224,21 @@ module _ (Fine : List Frame → Type 0) where
     symbol-frame y = record { name = known (symbol-name X y); entry = y .address; language = MAX; number = 0; file = none }
 
     module _ (q : FunctionRow) (r : ℕ) (n : LineRow) (c : Option ℕ) (s : Tables) where
-      pub locate-larger : Larger s (locate-line X q r n c s .1)
+      pub locate-larger : Larger s (locate-line q r n c s .1)
       unfolding locate-line
-      locate-larger = grown-larger s _ _ (s .functions) (six-store-grows (s .texts) (line-texts X q n)) (intern-grows file-eq (s .files) _) (λ i a h. h)
+      locate-larger = grown-larger s _ _ (s .functions) (six-store-grows (s .texts) (line-texts q n)) (intern-grows file-eq (s .files) _) (λ i a h. h)
 
-      pub locate-ordered : Ordered s → Ordered (locate-line X q r n c s .1)
+      pub locate-ordered : Ordered s → Ordered (locate-line q r n c s .1)
       unfolding locate-line
       locate-ordered o =
-          let t = store-six (s .texts) (line-texts X q n) in
+          let t = store-six (s .texts) (line-texts q n) in
           grown-ordered s (t .table) (intern file-eq (s .files) (t .ref) .table) (s .functions)
-          (grown-larger s _ _ (s .functions) (six-store-grows (s .texts) (line-texts X q n)) (intern-grows file-eq (s .files) _) (λ i a h. h))
+          (grown-larger s _ _ (s .functions) (six-store-grows (s .texts) (line-texts q n)) (intern-grows file-eq (s .files) _) (λ i a h. h))
           (λ i h a. inl a)
-          (λ i x a. ⊎-elim (λ k. inl k) (λ (p, e). inr (known-six (line-texts X q n), subst (λ (f : File). SixReads (t .table) f (known-six (line-texts X q n))) (sym e) (six-store-reads (s .texts) (line-texts X q n)))) (intern-new file-eq (s .files) (t .ref) i x a))
+          (λ i x a. ⊎-elim (λ k. inl k) (λ (p, e). inr (known-six (line-texts q n), subst (λ (f : File). SixReads (t .table) f (known-six (line-texts q n))) (sym e) (six-store-reads (s .texts) (line-texts q n)))) (intern-new file-eq (s .files) (t .ref) i x a))
           o
 
-      located : (w : List Frame) → Made (locate-line X q r n c s .1) q r → Caller (locate-line X q r n c s .1) c w → Chain (locate-line X q r n c s .1) (locate-line X q r n c s .0) (line-frame q n ∷ w)
+      located : (w : List Frame) → Made (locate-line q r n c s .1) q r → Caller (locate-line q r n c s .1) c w → Chain (locate-line q r n c s .1) (locate-line q r n c s .0) (line-frame q n ∷ w)
       unfolding locate-line
       located w m k =
           push
@@ -249,26 +249,26 @@ module _ (Fine : List Frame → Type 0) where
             entry-is = m .entry-is;
             language-is = m .language-is;
             number-is = refl;
-            file-is = a-file (intern-at file-eq file-eq-ok (s .files) (store-six (s .texts) (line-texts X q n) .ref)) (six-store-reads (s .texts) (line-texts X q n));
+            file-is = a-file (intern-at file-eq file-eq-ok (s .files) (store-six (s .texts) (line-texts q n) .ref)) (six-store-reads (s .texts) (line-texts q n));
           })
           k
 
-      pub locate-chain : (w : List Frame) → Made s q r → Caller s c w → Chain (locate-line X q r n c s .1) (locate-line X q r n c s .0) (line-frame q n ∷ w)
+      pub locate-chain : (w : List Frame) → Made s q r → Caller s c w → Chain (locate-line q r n c s .1) (locate-line q r n c s .0) (line-frame q n ∷ w)
       locate-chain w m k = located w (made-larger locate-larger m) (caller-larger locate-larger k)
 
     pub bare-chain : (q : FunctionRow) (r : ℕ) (s : Tables) → Made s q r → Chain s (at none 0 r none) (bare-frame q ∷ [])
     bare-chain q r s m = push (record { row = m .row; stands = m .stands; named = m .named; entry-is = m .entry-is; language-is = m .language-is; number-is = refl; file-is = no-file }) root
 
     module _ (l : Location) (s : Tables) where
-      pub enter-larger : Larger s (enter-call X l s .1)
+      pub enter-larger : Larger s (enter-call l s .1)
       unfolding enter-call
       enter-larger = entered-larger l s
 
-      pub enter-ordered : (g : Frame) (w : List Frame) → Chain s l (g ∷ w) → Fine (g ∷ w) → Ordered s → Ordered (enter-call X l s .1)
+      pub enter-ordered : (g : Frame) (w : List Frame) → Chain s l (g ∷ w) → Fine (g ∷ w) → Ordered s → Ordered (enter-call l s .1)
       unfolding enter-call
       enter-ordered g w c f o = entered-ordered l s (g ∷ w, c, f) (chain-down s l (g ∷ w) g w refl c) o
 
-      pub enter-caller : (v : List Frame) → Chain s l v → Caller (enter-call X l s .1) (enter-call X l s .0) v
+      pub enter-caller : (v : List Frame) → Chain s l v → Caller (enter-call l s .1) (enter-call l s .0) v
       unfolding enter-call
       enter-caller v c = into (intern-at location-eq location-eq-ok (s .calls) l) (chain-larger (entered-larger l s) c)
 
@@ -287,15 +287,15 @@ module _ (Fine : List Frame → Type 0) where
       begin-symbol-reads = store-reads (s .texts) (symbol-name X y)
 
     module _ (y : SymbolRow) (p : Option ℕ) (s : Tables) where
-      pub locate-symbol-larger : Larger s (locate-symbol X y p s .1)
+      pub locate-symbol-larger : Larger s (locate-symbol y p s .1)
       unfolding locate-symbol
       locate-symbol-larger = grown-larger s (s .texts) (s .files) _ (λ i a h. h) (λ i a h. h) (intern-grows function-eq (s .functions) _)
 
-      pub locate-symbol-ordered : (v : Option Text) → Reads (s .texts) p v → Ordered s → Ordered (locate-symbol X y p s .1)
+      pub locate-symbol-ordered : (v : Option Text) → Reads (s .texts) p v → Ordered s → Ordered (locate-symbol y p s .1)
       unfolding locate-symbol
       locate-symbol-ordered v r o = add-ordered s (s .texts) (record { name = p; entry = y .address; language = MAX }) v (λ i a h. h) r o
 
-      pub locate-symbol-chain : Reads (s .texts) p (known (symbol-name X y)) → Chain (locate-symbol X y p s .1) (locate-symbol X y p s .0) (symbol-frame y ∷ [])
+      pub locate-symbol-chain : Reads (s .texts) p (known (symbol-name X y)) → Chain (locate-symbol y p s .1) (locate-symbol y p s .0) (symbol-frame y ∷ [])
       unfolding locate-symbol
       locate-symbol-chain r =
           push (record { row = record { name = p; entry = y .address; language = MAX }; stands = intern-at function-eq function-eq-ok (s .functions) _; named = r; entry-is = refl; language-is = refl; number-is = refl; file-is = no-file }) root
@@ -323,11 +323,11 @@ module _ (X : Setup) where
   unfolding begin-row
   same-begin q s k = refl
 
-  same-locate : (q : FunctionRow) (r : ℕ) (n : LineRow) (c : Option ℕ) (s : Tables) (k : ℕ) → range-at (locate-line X q r n c s .1 .ranges) k ≡ range-at (s .ranges) k
+  same-locate : (q : FunctionRow) (r : ℕ) (n : LineRow) (c : Option ℕ) (s : Tables) (k : ℕ) → range-at (locate-line q r n c s .1 .ranges) k ≡ range-at (s .ranges) k
   unfolding locate-line
   same-locate q r n c s k = refl
 
-  same-enter : (l : Location) (s : Tables) (k : ℕ) → range-at (enter-call X l s .1 .ranges) k ≡ range-at (s .ranges) k
+  same-enter : (l : Location) (s : Tables) (k : ℕ) → range-at (enter-call l s .1 .ranges) k ≡ range-at (s .ranges) k
   unfolding enter-call
   same-enter l s k = refl
 
@@ -335,7 +335,7 @@ module _ (X : Setup) where
   unfolding begin-symbol
   same-symbol y s k = refl
 
-  same-symbol-location : (y : SymbolRow) (p : Option ℕ) (s : Tables) (k : ℕ) → range-at (locate-symbol X y p s .1 .ranges) k ≡ range-at (s .ranges) k
+  same-symbol-location : (y : SymbolRow) (p : Option ℕ) (s : Tables) (k : ℕ) → range-at (locate-symbol y p s .1 .ranges) k ≡ range-at (s .ranges) k
   unfolding locate-symbol
   same-symbol-location y p s k = refl
 

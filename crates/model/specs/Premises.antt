@@ -100,15 +100,15 @@ AllSeparate (g ∷ gs) = ((h : Given) → h ∈ gs → Separate g h) × AllSepar
 
 -- ── What demand 3 asks for ──
 
+-- the line that covers x
+unfoldable pub line-at : List LineRow → ℕ → Option LineRow
+line-at [] x = none
+line-at (n ∷ ns) x = cond (coversb (reach n) x) (some n) (line-at ns x)
+
 module _ (X : Setup) where
   -- "name (undecorated where that is on), entry (for an inlinee MAX), language, the covering line's number, and six texts, absent where empty"
   abbrev pub wanted : FunctionRow → LineRow → Frame
-  wanted q n = record { name = known (function-name X q); entry = entry-of q; language = q .language; number = n .number; file = some (known-six (line-texts X q n)) }
-
-  -- the line that covers x
-  unfoldable pub line-at : List LineRow → ℕ → Option LineRow
-  line-at [] x = none
-  line-at (n ∷ ns) x = cond (coversb (reach n) x) (some n) (line-at ns x)
+  wanted q n = record { name = known (function-name X q); entry = entry-of q; language = q .language; number = n .number; file = some (known-six (line-texts q n)) }
 
   -- of the rows that have a line covering x, in their order, the depth and the frame
   unfoldable pub nested-at : ℕ → List FunctionRow → List (Deep Frame)
