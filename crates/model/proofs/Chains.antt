@@ -415,20 +415,3 @@ module _ {L : Type 0} where
 
           value : e .value ≡ l
           value = some-eq (e .value) l (sym (a .holds) ∙ subst (λ (k : ℕ). range-at t k ≡ some l) (sym same) g)
-
-  -- so it depends on what the starts hold, and not on their order: it is the same in the sorted table that a file has
-  pub best-same : (t u : List (Entry L)) → ((k : ℕ) → range-at t k ≡ range-at u k) → (x : ℕ) → best t x ≡ best u x
-  best-same t u h x = go (best u x) refl (best-answers u x)
-    where
-      entry-path : (d e : Entry L) → d .key ≡ e .key → d .value ≡ e .value → d ≡ e
-      entry-path d e p q = λ i. record { key = p i; value = q i }
-
-      nothing-there : ((j : ℕ) → j ≤ x → range-at u j ≡ none) → (o : Option (Entry L)) → best t x ≡ o → Answers t x o → o ≡ none
-      nothing-there b none z a = refl
-      nothing-there b (some e) z a = none-some (sym (h (e .key) ∙ b (e .key) (a .low)) ∙ a .holds)
-
-      go : (o : Option (Entry L)) → best u x ≡ o → Answers u x o → best t x ≡ best u x
-      go none z a = nothing-there a (best t x) refl (best-answers t x) ∙ sym z
-      go (some e) z a =
-          let (d, w, p, q) = best-is t x (e .key) (e .value) (a .low) (h (e .key) ∙ a .holds) (λ k y v. h k ∙ a .bare k y v) in
-          w ∙ ap some (entry-path d e p q) ∙ sym z

@@ -65,16 +65,12 @@ pub record Worked : Type 0 where
         ranges = entry 0x1000 (at (some 0) 10 0 none) ∷ entry 0x1006 (at (some 0) 10 0 none) ∷ entry 0x1008 (at (some 0) 11 0 none) ∷ entry 0x1010 nowhere ∷ entry 0x1002 (at (some 1) 50 1 (some 0)) ∷ [];
         last = some 0x1010;
       }
-
   -- the starts of the file, and its 25 bytes of texts
   pub starts : map (λ (e : Entry Location). e .key) (written (converted plain-setup worked) .ranges) ≡ 0x1000 ∷ 0x1002 ∷ 0x1006 ∷ 0x1008 ∷ 0x1010 ∷ []
-
   pub offsets : map (text-offset (converted plain-setup worked .texts)) (0 ∷ 1 ∷ 2 ∷ 3 ∷ 4 ∷ 5 ∷ 6 ∷ []) ≡ 0 ∷ 4 ∷ 9 ∷ 13 ∷ 16 ∷ 20 ∷ 25 ∷ []
-
   -- M1, M2, M3 and other addresses: in the plain tables, and in those of the file
   pub frames : map (frames-at (converted plain-setup worked)) (0x0fff ∷ 0x1000 ∷ 0x1003 ∷ 0x1007 ∷ 0x100f ∷ 0x1010 ∷ [])
       ≡ [] ∷ (frame trk 0x1000 10 ars ∷ []) ∷ (frame pos MAX 50 prs ∷ frame trk 0x1000 10 ars ∷ []) ∷ (frame trk 0x1000 10 ars ∷ []) ∷ (frame trk 0x1000 11 ars ∷ []) ∷ [] ∷ []
-
   pub looked-up : map (looked-up (written (converted plain-setup worked))) (0x0fff ∷ 0x1000 ∷ 0x1003 ∷ 0x1007 ∷ 0x100f ∷ 0x1010 ∷ 0x1_0000_0000 ∷ [])
       ≡ [] ∷ (frame trk 0x1000 10 ars ∷ []) ∷ (frame pos MAX 50 prs ∷ frame trk 0x1000 10 ars ∷ []) ∷ (frame trk 0x1000 10 ars ∷ []) ∷ (frame trk 0x1000 11 ars ∷ []) ∷ [] ∷ [] ∷ []
 
