@@ -4,13 +4,14 @@ use mathlib.Core.Bool.{true, false}
 use mathlib.Core.Option.{Option, none, some}
 use mathlib.Core.List.{List, [], _∷_, map}
 use Prim.Native.Nat.{ℕ}
+use Rattle.text.specs.Leb128.{encoded-in, encoded}
 use Rattle.text.specs.Utf8.{utf8, chars, charLen, UTF8-char, fits, within}
 use Rattle.model.specs.Basics.{before, place, sort, Entry, intern}
 use Rattle.model.specs.Rows.{MAX, Text, LineRow, FunctionRow, Given, tree-rows}
 use Rattle.model.specs.Machine.{advanceM, set-atM, kid-spansM, unless-held, put-end, walkM, loopM, entryM, closingM, rowM, convertM, startM, named-symbolM, convert-symbolM, convert-opM, runM}
 use Rattle.model.specs.Converter.{Setup, File, Location, nowhere, at, store, store-six, range-at, put-range, begin-row, locate-line, begin-symbol, locate-symbol, enter-call, converted}
 use Rattle.model.specs.Frames.{Frame, callers, frames-of, better, best, frames-at}
-use Rattle.model.specs.Counts.{leb-bytes, text-size, text-offset}
+use Rattle.model.specs.Counts.{text-size, text-offset}
 use Rattle.model.specs.Written.{place-range, by-start, written, count, met?, follow, frames-from, looked-up}
 
 abbrev pub plain-setup : Setup
@@ -75,5 +76,5 @@ pub record Worked : Type 0 where
       ≡ [] ∷ (frame trk 0x1000 10 ars ∷ []) ∷ (frame pos MAX 50 prs ∷ frame trk 0x1000 10 ars ∷ []) ∷ (frame trk 0x1000 10 ars ∷ []) ∷ (frame trk 0x1000 11 ars ∷ []) ∷ [] ∷ [] ∷ []
 
 pub worked-file : Worked
-unfolding before place sort intern advanceM set-atM kid-spansM unless-held put-end walkM loopM entryM closingM rowM convertM startM named-symbolM convert-symbolM convert-opM runM store store-six range-at put-range begin-row locate-line begin-symbol locate-symbol enter-call callers frames-of better best frames-at place-range by-start count met? follow frames-from looked-up leb-bytes text-size utf8 chars charLen UTF8-char fits within
+unfolding before place sort intern advanceM set-atM kid-spansM unless-held put-end walkM loopM entryM closingM rowM convertM startM named-symbolM convert-symbolM convert-opM runM store store-six range-at put-range begin-row locate-line begin-symbol locate-symbol enter-call callers frames-of better best frames-at place-range by-start count met? follow frames-from looked-up encoded-in encoded text-size utf8 chars charLen UTF8-char fits within
 worked-file = record { tables = refl; starts = refl; offsets = refl; frames = refl; looked-up = refl }
