@@ -82,7 +82,7 @@ pub reads-grows : {ts : List Text} (us : List Text) → Grows ts us → {r : Opt
 reads-grows us g absent = absent
 reads-grows us g (present {i = i} {t = t} h) = present (g i t h)
 
-at-get : {A : Type 0} (xs : List A) (i : ℕ) (a : A) → At xs i a → getElem? xs i ≡ some a
+pub at-get : {A : Type 0} (xs : List A) (i : ℕ) (a : A) → At xs i a → getElem? xs i ≡ some a
 at-get [] i a h = absurd h
 at-get (x ∷ xs) zero a h = ap some h
 at-get (x ∷ xs) (suc i) a h = at-get xs i a h

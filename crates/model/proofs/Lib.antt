@@ -21,6 +21,7 @@ pub mod Compact
 pub mod Grown
 pub mod Capped
 pub mod Written
+pub mod FileRows
 pub mod Worked
 pub mod Instance
 pub mod Corners
