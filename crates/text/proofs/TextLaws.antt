@@ -72,6 +72,23 @@ text-within s at start len e = go (decoded s at) refl e
     go prefix.Absent ed f = absurd (let z : _≡_ {A = ℕ} 0 1 = cc in omega arith)
     go (prefix.Number v n) ed f = inside v n (leb v (length s - (at + n))) (utf8 (take v (drop (at + n) s))) refl (prefix-within s at v n ed) f
 
+-- and it is UTF-8
+pub text-utf8 : (s : List ℕ) (at start len : ℕ) → read-text s at ≡ At start len → utf8 (take len (drop start s)) ≡ true
+unfolding read-text text-after
+text-utf8 s at start len e = go (decoded s at) e
+  where
+    valid : (v n : ℕ) (t u : Bool) → utf8 (take v (drop (at + n) s)) ≡ u → cond (t && u) (At (at + n) v) Absent ≡ At start len → utf8 (take len (drop start s)) ≡ true
+    valid v n true true h f =
+        let es : at + n ≡ start = cc in
+        let el : v ≡ len = cc in
+        rw (es, el) at h
+    valid v n true false h f = absurd (let z : _≡_ {A = ℕ} 0 1 = cc in omega arith)
+    valid v n false u h f = absurd (let z : _≡_ {A = ℕ} 0 1 = cc in omega arith)
+
+    go : (d : Leb) → text-after s at d ≡ At start len → utf8 (take len (drop start s)) ≡ true
+    go prefix.Absent f = absurd (let z : _≡_ {A = ℕ} 0 1 = cc in omega arith)
+    go (prefix.Number v n) f = valid v n (leb v (length s - (at + n))) (utf8 (take v (drop (at + n) s))) refl f
+
 -- ---- what is stored reads back
 
 stored-bytes : (p t q : List ℕ) → take (length t) (drop (length p + length (encoded (length t))) (p ++ (encoded (length t) ++ (t ++ q)))) ≡ t
