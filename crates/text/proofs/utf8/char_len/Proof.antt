@@ -2,7 +2,7 @@
 use mathlib.Core.Path.{_∙_, sym}
 use borrow.Author.Needs.{needs}
 use Rattle.text.specs.Utf8.{_to_, UTF8-char}
-use Rattle.text.proofs.Utf8Laws.{fits-one, hit, miss, no-more}
+use Rattle.text.proofs.Utf8Steps.{fits-one, hit, miss, no-more}
 use Rattle.text.proofs.utf8.char_len.Statement.{statement}
 use Rattle.text.proofs.utf8.char_len.Tie as tie
 
