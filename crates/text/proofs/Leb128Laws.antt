@@ -1,20 +1,19 @@
 -- LEB128: the standard's algorithm gives the shortest form of a number; decoding gives back what it encoded, and accepts exactly
 -- the well-formed sequences of at most ten bytes and 64 bits. Assumes nothing.
-use Prim.Native.Nat.{ℕ, zero, suc, _+_, _-_, _*_, _/_, _%_, _^_, _≤_, _<_}
-use mathlib.Core.Path.{_≡_, refl, sym, ap, _∙_}
+use Prim.Native.Nat.{ℕ, zero, suc, _+_, _-_, _/_, _%_, _^_, _≤_, _<_}
+use mathlib.Core.Path.{_≡_, refl, ap}
 use mathlib.Core.Logic.{_⊎_, inl, inr, ⊎-elim, _↔_}
 use mathlib.Core.List.{List, [], _∷_, _++_}
-use mathlib.Core.Bool.{Bool, true, false, cond, _&&_, and-false}
-use native.Mathlib.Nat.{div-lt-iff-lt-mul, pow-suc, pow-le-pow-right, mul-add, mul-assoc, mul-le-mul-left, add-assoc, le-refl}
+use mathlib.Core.Bool.{Bool, true, false, cond, _&&_}
+use native.Mathlib.Nat.{div-lt-iff-lt-mul, pow-suc, le-refl}
 use native.Mathlib.Numerals.{add-one}
 use native.Mathlib.Omega.{arith}
 use lib.Dec.{ltb, leb, lit<}
-use lib.ListN.{length, drop, getD, set, drop-of-length-le}
+use lib.ListN.{length, drop, set, drop-of-length-le}
 use lib.Pow.{areBytes}
-use lib.Seq.{drop-at, drop-cons, sets}
+use lib.Seq.{drop-at, sets}
 use borrow.Author.Tests.{ltb-true, ltb-false, leb-true, lt-ltb, le-ltb, le-leb, lt-leb}
 use Rattle.text.specs.Leb128.{leb-value, well-formed, encoded-in, encoded, leb-prefix, number, decoded, Accepted, written, wrote}
-use Rattle.text.specs.declared.leb128.Leb.{Leb}
 use Rattle.text.specs.declared.leb128.Leb.the-variants.{Absent, Number}
 
 pub lt-or-ge : (a b : ℕ) → (a < b) ⊎ (b ≤ a)
