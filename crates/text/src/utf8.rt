@@ -1,7 +1,6 @@
 // UTF-8 as RFC 3629, section 4, has it.
 ghost use mathlib.Core.Path.{_≡_};
-ghost use mathlib.Core.List.{List, [], _∷_};
-ghost use lib.ListN.{length, getD};
+ghost use mathlib.Core.List.{[], _∷_};
 ghost use Rattle.text.specs.Utf8.{_to_, UTF8-tail, UTF8-char, octetIn, fits, charLen, utf8};
 
 // The octet at k is there and lies in the range.

@@ -8,7 +8,7 @@ use lib.ListN.{length, take, drop, length-drop, drop-of-length-le}
 use lib.Seq.{take-all, drop-drop}
 use borrow.Author.Needs.{needs}
 use Rattle.text.specs.Utf8.{UTF8-char, charLen, chars, utf8}
-use Rattle.text.proofs.Utf8Laws.{charLen-le, utf8-none, utf8-char}
+use Rattle.text.proofs.Utf8Steps.{charLen-le, utf8-none, utf8-char}
 use Rattle.text.proofs.utf8.is_utf8.Statement.{statement}
 use Rattle.text.proofs.utf8.is_utf8.Tie as tie
 

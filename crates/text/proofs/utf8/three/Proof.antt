@@ -3,7 +3,7 @@ use mathlib.Core.Path.{_∙_, sym}
 use mathlib.Core.List.{[], _∷_}
 use borrow.Author.Needs.{needs}
 use Rattle.text.specs.Utf8.{_to_, UTF8-tail, fits, octetIn}
-use Rattle.text.proofs.Utf8Laws.{fits-snoc, both, first-fails}
+use Rattle.text.proofs.Utf8Steps.{fits-snoc, both, first-fails}
 use Rattle.text.proofs.utf8.three.Statement.{statement}
 use Rattle.text.proofs.utf8.three.Tie as tie
 
