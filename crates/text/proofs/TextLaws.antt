@@ -2,7 +2,7 @@
 use Prim.Native.Nat.{ℕ, _+_, _-_, _^_, _≤_, _<_}
 use mathlib.Core.Path.{_≡_, refl, sym, ap, _∙_}
 use mathlib.Core.List.{List, [], _∷_, _++_, append-assoc}
-use mathlib.Core.Bool.{Bool, true, false, cond, _&&_}
+use mathlib.Core.Bool.{Bool, true, false, cond, _&&_, false≢true}
 use native.Mathlib.Omega.{arith}
 use lib.Dec.{leb}
 use lib.ListN.{length, take, drop, length-append, length-drop}
@@ -19,7 +19,7 @@ use Rattle.text.proofs.Leb128Laws.{decoded-only, decoded-encoded}
 -- a well-formed sequence is not empty
 formed-length : (p : List ℕ) → well-formed p ≡ true → 0 < length p
 unfolding well-formed
-formed-length [] w = absurd (let z : _≡_ {A = ℕ} 0 1 = cc in omega arith)
+formed-length [] w = absurd (false≢true w)
 formed-length (b ∷ p) w = omega arith
 
 -- a prefix lies inside the section
