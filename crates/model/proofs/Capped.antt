@@ -16,61 +16,13 @@ use Rattle.model.specs.Converter.{input, op, Setup, Location, nowhere, a
 use Rattle.model.specs.Counts.{Capacities, text-bytes, fits?}
 use Rattle.model.proofs.Chains.{false-true, both-true, both-of}
 use Rattle.model.proofs.Couple.{Couple, Limits, Next, Allowed, run-both, Alike, vacant, held, Single, single-preserves}
-use Rattle.model.proofs.Grown.{Grown, grown-refl, grown-trans, put-grown, begin-grown, locate-grown, enter-grown, symbol-name-grown, symbol-location-grown, mark-grown}
+use Rattle.model.proofs.Grown.{exceeds-up, fits-nothing, Grown, grown-refl, grown-trans, put-grown, begin-grown, locate-grown, enter-grown, symbol-name-grown, symbol-location-grown, mark-grown}
 
 pub record Capped : Type 0 where
   pub tables : Tables
   pub full : Bool
 
 module _ (K : Capacities) where
-  -- the test, taken apart and put together
-  pub record Fits (s : Tables) : Type 0 where
-    pub texts : length (s .texts) ≤ K .texts
-    pub bytes : text-bytes (s .texts) ≤ K .bytes
-    pub files : length (s .files) ≤ K .files
-    pub functions : length (s .functions) ≤ K .functions
-    pub calls : length (s .calls) ≤ K .calls
-    pub ranges : length (s .ranges) ≤ K .ranges
-
-  pub needs : (s : Tables) → fits? K s ≡ true → Fits s
-  unfolding fits?
-  needs s h =
-      let (h₁, f) = both-true _ (leb (length (s .ranges)) (K .ranges)) h in
-      let (h₂, e) = both-true _ (leb (length (s .calls)) (K .calls)) h₁ in
-      let (h₃, d) = both-true _ (leb (length (s .functions)) (K .functions)) h₂ in
-      let (h₄, c) = both-true _ (leb (length (s .files)) (K .files)) h₃ in
-      let (a, b) = both-true (leb (length (s .texts)) (K .texts)) (leb (text-bytes (s .texts)) (K .bytes)) h₄ in
-      record { texts = leb-true _ _ a; bytes = leb-true _ _ b; files = leb-true _ _ c; functions = leb-true _ _ d; calls = leb-true _ _ e; ranges = leb-true _ _ f }
-
-  pub room : (s : Tables) → Fits s → fits? K s ≡ true
-  unfolding fits?
-  room s n =
-      both-of _ _ (both-of _ _ (both-of _ _ (both-of _ _ (both-of _ _ (le-leb _ _ (n .texts)) (le-leb _ _ (n .bytes))) (le-leb _ _ (n .files))) (le-leb _ _ (n .functions))) (le-leb _ _ (n .calls)))
-      (le-leb _ _ (n .ranges))
-
-  fits-down : {s t : Tables} → Grown s t → fits? K t ≡ true → fits? K s ≡ true
-  fits-down {s} {t} g h =
-      let n = needs t h in
-      room s
-      (record {
-        texts = omega (arith, g .texts, n .texts);
-        bytes = omega (arith, g .bytes, n .bytes);
-        files = omega (arith, g .files, n .files);
-        functions = omega (arith, g .functions, n .functions);
-        calls = omega (arith, g .calls, n .calls);
-        ranges = omega (arith, g .ranges, n .ranges);
-      })
-
-  exceeds-up : {s t : Tables} → Grown s t → fits? K s ≡ false → fits? K t ≡ false
-  exceeds-up {s} {t} g h = go (fits? K t) refl
-    where
-      go : (b : Bool) → fits? K t ≡ b → fits? K t ≡ false
-      go true e = false-true (sym h ∙ fits-down g e)
-      go false e = e
-
-  fits-nothing : fits? K nothing ≡ true
-  fits-nothing = room nothing (record { texts = omega arith; bytes = omega arith; files = omega arith; functions = omega arith; calls = omega arith; ranges = omega arith })
-
   -- t where there is room, and else s, marked full
   unfoldable pub settle : Bool → Tables → Tables → Capped
   settle f t s = elim (fits? K t) [ true ↦ record { tables = t; full = f } | false ↦ record { tables = s; full = true } ]
@@ -136,7 +88,7 @@ module _ (K : Capacities) where
 
     -- once full, always
     full-after : (s t : Tables) (s′ t′ : Capped) → Full s s′ → Grown s t → t′ .full ≡ true → After s s′ t t′
-    full-after s t s′ t′ h g e = record { ext = (g, λ z. e); state = inl (e, exceeds-up g (h .1)) }
+    full-after s t s′ t′ h g e = record { ext = (g, λ z. e); state = inl (e, exceeds-up K g (h .1)) }
 
     -- while there is room
     open-after : (s t : Tables) (s′ : Capped) → Open s s′ → Grown s t → After s s′ t (settle (s′ .full) t (s′ .tables))
@@ -220,4 +172,4 @@ module _ (K : Capacities) where
     pub capped-exactly : (gs : List Given) → let s′ = runM input capped-machine (map op gs) (record { tables = nothing; full = false }) in Full (converted X gs) s′ ⊎ Open (converted X gs) s′
     capped-exactly gs =
         run-both input (plain X) capped-machine any couple (single-preserves input (plain X) capped-machine any couple (λ s s′ y p p′. Same s′ p p′) Full capped-laws) (map op gs) nothing (record { tables = nothing; full = false }) (λ o i. any-op o)
-        (inr (refl, refl, fits-nothing)) .state
+        (inr (refl, refl, fits-nothing K)) .state

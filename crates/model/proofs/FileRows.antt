@@ -25,7 +25,7 @@ use Rattle.model.proofs.Intern.{At, at-append, at-map}
 use Rattle.model.proofs.Chains.{at-get, CallsDown, range-here, range-there}
 use Rattle.model.proofs.Always.{Within, InTables, starts-unique, callers-earlier, calls-within, ranges-within, names-within, files-within}
 use Rattle.model.proofs.Compact.{Low, Texts, Compact, GivenFits, always-compact}
-use Rattle.model.proofs.Capped.{Fits, needs}
+use Rattle.model.proofs.Grown.{Fits, needs}
 use Rattle.model.proofs.Written.{Sorted, by-start-same, by-start-sorted, by-start-length}
 
 -- ── The tables ──

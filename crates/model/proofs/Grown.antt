@@ -1,18 +1,20 @@
 -- What the plain tables need of lent tables (rows and text bytes), and that within any call and over any list it only grows: so a table that would overflow on the way
 -- would overflow at the end, and 17 is a question about the tables after the call.
-use mathlib.Core.Path.{_≡_, refl}
+use mathlib.Core.Path.{_≡_, refl, sym, _∙_}
 use mathlib.Core.Bool.{Bool, true, false, cond}
 use mathlib.Core.Option.{Option, none, some}
 use mathlib.Core.List.{List, [], _∷_, _++_, map}
 use Prim.Native.Nat.{ℕ, suc, _+_, _≤_}
 use native.Mathlib.Omega.{arith}
 use lib.ListN.{length}
-use lib.Dec.{eqb}
+use lib.Dec.{leb, eqb}
+use borrow.Author.Tests.{leb-true, le-leb}
 use Rattle.model.specs.Basics.{Entry, intern}
 use Rattle.model.specs.Rows.{Text, LineRow, FunctionRow, SymbolRow, Given}
 use Rattle.model.specs.Machine.{OpM, treeM, symbolM, unless-held, put-end, entryM, closingM, named-symbolM, convert-opM, runM}
 use Rattle.model.specs.Converter.{input, op, Setup, Six, Location, nowhere, at, Tables, nothing, text-eq, file-eq, function-eq, location-eq, is-nowhere, store, store-six, function-name, symbol-name, line-texts, range-at, put-range, put-at, begin-row, locate-line, begin-symbol, locate-symbol, enter-call, plain, converted}
-use Rattle.model.specs.Counts.{text-size, text-bytes}
+use Rattle.model.specs.Counts.{Capacities, fits?, text-size, text-bytes}
+use Rattle.model.proofs.Chains.{false-true, both-true, both-of}
 use Rattle.model.proofs.Couple.{Couple, Limits, Preserves, Allowed, run-both}
 use Rattle.model.proofs.Always.{blank}
 
@@ -197,3 +199,54 @@ module _ (X : Setup) where
 
   pub converted-grow : (gs hs : List Given) → Grown (converted X gs) (converted X (gs ++ hs))
   converted-grow gs hs = rw (run-append gs hs nothing) (needs-grow (map op hs) (converted X gs))
+
+-- ── 17's condition ──
+
+module _ (K : Capacities) where
+  -- the test, taken apart and put together
+  pub record Fits (s : Tables) : Type 0 where
+    pub texts : length (s .texts) ≤ K .texts
+    pub bytes : text-bytes (s .texts) ≤ K .bytes
+    pub files : length (s .files) ≤ K .files
+    pub functions : length (s .functions) ≤ K .functions
+    pub calls : length (s .calls) ≤ K .calls
+    pub ranges : length (s .ranges) ≤ K .ranges
+
+  pub needs : (s : Tables) → fits? K s ≡ true → Fits s
+  unfolding fits?
+  needs s h =
+      let (h₁, f) = both-true _ (leb (length (s .ranges)) (K .ranges)) h in
+      let (h₂, e) = both-true _ (leb (length (s .calls)) (K .calls)) h₁ in
+      let (h₃, d) = both-true _ (leb (length (s .functions)) (K .functions)) h₂ in
+      let (h₄, c) = both-true _ (leb (length (s .files)) (K .files)) h₃ in
+      let (a, b) = both-true (leb (length (s .texts)) (K .texts)) (leb (text-bytes (s .texts)) (K .bytes)) h₄ in
+      record { texts = leb-true _ _ a; bytes = leb-true _ _ b; files = leb-true _ _ c; functions = leb-true _ _ d; calls = leb-true _ _ e; ranges = leb-true _ _ f }
+
+  pub room : (s : Tables) → Fits s → fits? K s ≡ true
+  unfolding fits?
+  room s n =
+      both-of _ _ (both-of _ _ (both-of _ _ (both-of _ _ (both-of _ _ (le-leb _ _ (n .texts)) (le-leb _ _ (n .bytes))) (le-leb _ _ (n .files))) (le-leb _ _ (n .functions))) (le-leb _ _ (n .calls)))
+      (le-leb _ _ (n .ranges))
+
+  pub fits-down : {s t : Tables} → Grown s t → fits? K t ≡ true → fits? K s ≡ true
+  fits-down {s} {t} g h =
+      let n = needs t h in
+      room s
+      (record {
+        texts = omega (arith, g .texts, n .texts);
+        bytes = omega (arith, g .bytes, n .bytes);
+        files = omega (arith, g .files, n .files);
+        functions = omega (arith, g .functions, n .functions);
+        calls = omega (arith, g .calls, n .calls);
+        ranges = omega (arith, g .ranges, n .ranges);
+      })
+
+  pub exceeds-up : {s t : Tables} → Grown s t → fits? K s ≡ false → fits? K t ≡ false
+  exceeds-up {s} {t} g h = go (fits? K t) refl
+    where
+      go : (b : Bool) → fits? K t ≡ b → fits? K t ≡ false
+      go true e = false-true (sym h ∙ fits-down g e)
+      go false e = e
+
+  pub fits-nothing : fits? K nothing ≡ true
+  fits-nothing = room nothing (record { texts = omega arith; bytes = omega arith; files = omega arith; functions = omega arith; calls = omega arith; ranges = omega arith })
