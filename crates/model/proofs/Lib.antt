@@ -23,6 +23,7 @@ pub mod Encoded
 pub mod Capped
 pub mod Written
 pub mod FileRows
+pub mod Sections
 pub mod Worked
 pub mod Instance
 pub mod Corners
