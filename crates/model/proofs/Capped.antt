@@ -5,16 +5,13 @@ use mathlib.Core.Bool.{Bool, true, false}
 use mathlib.Core.Option.{Option, none, some}
 use mathlib.Core.Logic.{_⊎_, inl, inr, ⊎-elim}
 use mathlib.Core.List.{List, map}
-use Prim.Native.Nat.{ℕ, _≤_}
+use Prim.Native.Nat.{ℕ}
 use native.Mathlib.Omega.{arith}
-use lib.ListN.{length}
-use lib.Dec.{leb}
-use borrow.Author.Tests.{leb-true, le-leb}
 use Rattle.model.specs.Rows.{LineRow, FunctionRow, SymbolRow, Given, tree-rows, symbol-row}
-use Rattle.model.specs.Machine.{Machine, OpM, treeM, symbolM, runM}
+use Rattle.model.specs.Machine.{Machine, runM}
 use Rattle.model.specs.Converter.{input, op, Setup, Location, nowhere, at, Tables, nothing, is-nowhere, range-at, put-at, begin-row, locate-line, begin-symbol, locate-symbol, enter-call, later, cleared, plain, converted}
-use Rattle.model.specs.Counts.{Capacities, text-bytes, fits?}
-use Rattle.model.proofs.Chains.{false-true, both-true, both-of}
+use Rattle.model.specs.Counts.{Capacities, fits?}
+use Rattle.model.proofs.Chains.{false-true}
 use Rattle.model.proofs.Couple.{Limits, Alike, vacant, held}
 use Rattle.model.proofs.Encoded.{ending, Encoding, Holds, Goes, Encodes, AllowedGiven, encoded-list}
 

@@ -40,7 +40,7 @@ text-eq-ok [] (b ∷ t) e = false-true e
 text-eq-ok (a ∷ s) [] e = false-true e
 text-eq-ok (a ∷ s) (b ∷ t) e = let (p, q) = both-true (eqb a b) (text-eq s t) e in cc (eqb-true a b p, text-eq-ok s t q)
 
-six-path : {A : Type 0} (x y : Six A) → x .name ≡ y .name → x .directory ≡ y .directory → x .comp-dir ≡ y .comp-dir → x .srcsrv-name ≡ y .srcsrv-name
+pub six-path : {A : Type 0} (x y : Six A) → x .name ≡ y .name → x .directory ≡ y .directory → x .comp-dir ≡ y .comp-dir → x .srcsrv-name ≡ y .srcsrv-name
     → x .srcsrv-dir ≡ y .srcsrv-dir → x .revision ≡ y .revision → x ≡ y
 six-path x y a b c d e f = λ i. record { name = a i; directory = b i; comp-dir = c i; srcsrv-name = d i; srcsrv-dir = e i; revision = f i }
 
@@ -259,7 +259,7 @@ file-found s (a-file {i = i} {x = x} {v = v} k r) =
     six-path (read-six (s .texts) x) v (reads-read (r .name)) (reads-read (r .directory)) (reads-read (r .comp-dir)) (reads-read (r .srcsrv-name)) (reads-read (r .srcsrv-dir)) (reads-read (r .revision)) in
     rw (at-get (s .files) i x k, file-at) (ap some e)
 
-frame-path : (a b : Frame) → a .name ≡ b .name → a .entry ≡ b .entry → a .language ≡ b .language → a .number ≡ b .number → a .file ≡ b .file → a ≡ b
+pub frame-path : (a b : Frame) → a .name ≡ b .name → a .entry ≡ b .entry → a .language ≡ b .language → a .number ≡ b .number → a .file ≡ b .file → a ≡ b
 frame-path a b p q r t u = λ i. record { name = p i; entry = q i; language = r i; number = t i; file = u i }
 
 pub frame-found : (s : Tables) (f : Option ℕ) (n i : ℕ) (g : Frame) (c : Option ℕ) → Shows s f n i g → frame-of s (at f n i c) ≡ g

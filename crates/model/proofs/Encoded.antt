@@ -1,6 +1,6 @@
 -- ANOTHER MACHINE HOLDS THE PLAIN TABLES, for every list: it is full exactly where the plain tables need more than a capacity, and encodes them otherwise. This is how the
 -- converter over words is joined to the plain one: its author says what encodes what (`Encoding`), and proves of each single operation that it goes as the plain one does (`Encodes`).
-use mathlib.Core.Path.{_≡_, refl, sym, ap, _∙_, subst}
+use mathlib.Core.Path.{_≡_, refl, sym, _∙_, subst}
 use mathlib.Core.Bool.{Bool, true, false}
 use mathlib.Core.Option.{Option, none, some}
 use mathlib.Core.Logic.{_⊎_, inl, inr, ⊎-elim}
@@ -8,7 +8,7 @@ use mathlib.Core.List.{List, map}
 use Prim.Native.Nat.{ℕ}
 use Rattle.model.specs.Basics.{_∈_, Deep}
 use Rattle.model.specs.Rows.{LineRow, FunctionRow, SymbolRow, Given, tree-rows, symbol-row, boundaries, skipped, function-end, symbol-skipped, symbol-end}
-use Rattle.model.specs.Machine.{Machine, OpM, treeM, symbolM, convert-opM, runM, finishM}
+use Rattle.model.specs.Machine.{Machine, convert-opM, runM, finishM}
 use Rattle.model.specs.Converter.{input, deep, op, Setup, Location, nowhere, at, Tables, nothing, is-nowhere, range-at, put-at, begin-row, locate-line, begin-symbol, locate-symbol, enter-call, later, cleared, plain, converted}
 use Rattle.model.specs.Counts.{Capacities, fits?}
 use Rattle.model.proofs.Spans.{map-∈}

@@ -161,14 +161,14 @@ module _ (s : Tables) (w : InFile s) where
   pub counts-low : Words (length (s .files) ∷ length (s .functions) ∷ length (locations s) ∷ length (s .ranges) ∷ text-bytes (s .texts) ∷ [])
   counts-low = (omega (arith, w .few-files), (omega (arith, w .few-functions), (omega (arith, locations-count, w .few-calls, w .few-ranges), (omega (arith, w .few-ranges), (omega (arith, w .few-bytes), tt)))))
 
+pub outside : {A : Type 0} (xs : List A) (i : ℕ) → length xs ≤ i → getElem? xs i ≡ none
+outside [] i h = refl
+outside (x ∷ xs) zero h = absurd (omega arith)
+outside (x ∷ xs) (suc i) h = outside xs i (omega arith)
+
 -- what a table has at a reference's word is what it has at the reference: MAX is outside
 pub word-found : {A : Type 0} (xs : List A) (r : Option ℕ) → length xs ≤ MAX → getElem? xs (index-word r) ≡ elim r [ none ↦ none | some i ↦ getElem? xs i ]
 word-found xs none h = outside xs MAX h
-  where
-    outside : {A : Type 0} (ys : List A) (i : ℕ) → length ys ≤ i → getElem? ys i ≡ none
-    outside [] i k = refl
-    outside (y ∷ ys) zero k = absurd (omega arith)
-    outside (y ∷ ys) (suc i) k = outside ys i (omega arith)
 word-found xs (some i) h = refl
 
 -- ── The starts ──
