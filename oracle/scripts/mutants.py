@@ -3,16 +3,19 @@
 
 Shows which claims notice. Run from anywhere; needs cargo. One mutant ("no bare minimum") isn't
 noticed: no claim speaks of addresses of a root outside its lines; only equal bytes show it.
+With the word `answers` it runs `answers check answers` instead: the stored answers must notice all.
 """
 import collections
 import os
 import pathlib
 import shutil
 import subprocess
+import sys
 import tempfile
 
 HERE = pathlib.Path(__file__).resolve().parent.parent
 SOURCE = pathlib.Path(os.environ.get("SYMBOLIC_SRC") or HERE.parent.parent / "shared/docs/src")
+ANSWERS = sys.argv[1:] == ["answers"]
 W = "symbolic-symcache/src/writer.rs"
 L = "symbolic-symcache/src/v9/lookup.rs"
 VACANT_END = """if let btree_map::Entry::Vacant(vacant_entry) = self.ranges.entry(function_end) {
@@ -76,8 +79,13 @@ def main():
             assert text.count(old) == 1, name
             (top / "docs/src" / path).write_text(text.replace(old, new))
             subprocess.run(
-                ["cargo", "build", "-q", "-j1", "--profile", "checked", "--bin", "fuzz"],
+                ["cargo", "build", "-q", "-j1", "--profile", "checked", "--bin", "answers" if ANSWERS else "fuzz"],
                 cwd=top / "oracle", env=env, check=True, stderr=subprocess.DEVNULL)
+            if ANSWERS:
+                run = subprocess.run([top / "target/checked/answers", "check", HERE / "answers"],
+                                     capture_output=True, text=True)
+                print(f"{name}: {run.stdout.strip() if run.returncode == 1 else 'status ' + str(run.returncode)}", flush=True)
+                continue
             try:
                 out = subprocess.run([top / "target/checked/fuzz", "claims", "300", "1"],
                                      capture_output=True, text=True, timeout=60).stdout
