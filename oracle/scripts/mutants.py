@@ -1,18 +1,23 @@
 #!/usr/bin/env python3
 """Breaks the original in one place at a time, in a temporary copy, and runs `fuzz claims` on it.
 
-Shows which claims notice. Run from anywhere; needs cargo. One mutant ("no bare minimum") isn't
-noticed: no claim speaks of addresses of a root outside its lines; only equal bytes show it.
+Shows which claims notice. Run from anywhere; needs cargo. A mutant that no claim speaks of isn't
+noticed, as "no bare minimum" (addresses of a root outside its lines); only equal bytes show it.
+A word that isn't `answers` picks the mutants whose name has it.
+With the word `answers` it runs `answers check answers` instead: the stored answers must notice all.
 """
 import collections
 import os
 import pathlib
 import shutil
 import subprocess
+import sys
 import tempfile
 
 HERE = pathlib.Path(__file__).resolve().parent.parent
 SOURCE = pathlib.Path(os.environ.get("SYMBOLIC_SRC") or HERE.parent.parent / "shared/docs/src")
+ANSWERS = "answers" in sys.argv[1:]
+PICKED = [word for word in sys.argv[1:] if word != "answers"]
 W = "symbolic-symcache/src/writer.rs"
 L = "symbolic-symcache/src/v9/lookup.rs"
 VACANT_END = """if let btree_map::Entry::Vacant(vacant_entry) = self.ranges.entry(function_end) {
@@ -60,6 +65,15 @@ MUTANTS = [
     ("exact hit missed", L,
      "Ok(idx) => source_location_start + idx as u32,",
      "Ok(idx) => source_location_start + (idx as u32).saturating_sub(1),"),
+    ("address clamped in the line skip", W,
+     ".is_some_and(|next| (next.address as u32) < current_address)",
+     ".is_some_and(|next| (next.address.min(u64::from(u32::MAX)) as u32) < current_address)"),
+    ("lines of skipped inlinees dropped", W,
+     "for inlinee in &function.inlinees {\n                for line",
+     "for inlinee in function.inlinees.iter().filter(|f| f.size > 0 && f.address <= u64::from(u32::MAX)) {\n                for line"),
+    ("empty mapping later in a chain ends it", L,
+     "if !self.visited.insert(self.source_location_idx) {",
+     "if *source_location == raw::NO_SOURCE_LOCATION || !self.visited.insert(self.source_location_idx) {"),
 ]
 
 
@@ -70,14 +84,21 @@ def main():
         shutil.copytree(HERE, top / "oracle", ignore=shutil.ignore_patterns("target"))
         env = dict(os.environ, CARGO_TARGET_DIR=str(top / "target"), SYMBOLIC_SRC=str(top / "docs/src"))
         for name, path, old, new in MUTANTS:
+            if PICKED and not any(word in name for word in PICKED):
+                continue
             for other in (W, L):
                 shutil.copyfile(SOURCE / other, top / "docs/src" / other)
             text = (SOURCE / path).read_text()
             assert text.count(old) == 1, name
             (top / "docs/src" / path).write_text(text.replace(old, new))
             subprocess.run(
-                ["cargo", "build", "-q", "-j1", "--profile", "checked", "--bin", "fuzz"],
+                ["cargo", "build", "-q", "-j1", "--profile", "checked", "--bin", "answers" if ANSWERS else "fuzz"],
                 cwd=top / "oracle", env=env, check=True, stderr=subprocess.DEVNULL)
+            if ANSWERS:
+                run = subprocess.run([top / "target/checked/answers", "check", HERE / "answers"],
+                                     capture_output=True, text=True)
+                print(f"{name}: {run.stdout.strip() if run.returncode == 1 else 'status ' + str(run.returncode)}", flush=True)
+                continue
             try:
                 out = subprocess.run([top / "target/checked/fuzz", "claims", "300", "1"],
                                      capture_output=True, text=True, timeout=60).stdout
