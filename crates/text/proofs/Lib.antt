@@ -1,0 +1,5 @@
+pub mod Leb128Laws
+mod Leb128Reading
+pub mod Marked
+pub mod Utf8Laws
+pub mod TextLaws
