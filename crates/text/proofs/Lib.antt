@@ -1,0 +1,2 @@
+pub mod Utf8Steps
+pub mod Utf8Laws
