@@ -1,19 +1,41 @@
 -- THE PLAIN CONVERTER: document 01's "Converter" over lists of rows, with no index, no capacity and no words. References are `Option`s: `none` stands for
 -- the MAX that the file has. The loops are those of `Machine`; here is what they do to the tables.
-use mathlib.Core.Bool.{Bool, true, false, cond}
+use mathlib.Core.Bool.{Bool, true, false, cond, _&&_}
 use mathlib.Core.Option.{Option, none, some}
 use mathlib.Core.List.{List, [], _∷_, map}
-use Prim.Native.Nat.{ℕ, zero, suc}
+use Prim.Native.Nat.{ℕ}
 use lib.Dec.{ltb, eqb}
-use Rattle.model.specs.Machine.{Machine, OpM, runM, finishM}
-use Rattle.model.specs.Table.{Entry}
-use Rattle.model.specs.Intern.{Interned, intern}
-use Rattle.model.specs.Rows.{MAX, cut32, Text, LineRow, FunctionRow, SymbolRow, Given, op, input}
+use Rattle.text.specs.Utf8.{utf8}
+use Rattle.names.specs.Names.{undecorated}
+use Rattle.model.specs.Basics.{Deep, Entry, intern}
+use Rattle.model.specs.Rows.{MAX, cut32, Text, LineRow, FunctionRow, SymbolRow, Given, tree-rows, symbol-row, function-end, skipped, boundaries, symbol-skipped, symbol-end}
+use Rattle.model.specs.Machine.{Input, Machine, OpM, treeM, symbolM, runM}
 
--- how the converter was begun: the two switches, what is UTF-8, and `undecorate_win_symbol`
+-- ── What the loops read of the rows ──
+
+abbrev pub input : Input FunctionRow LineRow SymbolRow
+input = record {
+  entry = λ q. q .address;
+  stop = function-end;
+  skipped = skipped;
+  inline = λ q. q .inline;
+  lines = λ q. q .lines;
+  span = boundaries;
+  cut = λ n. cut32 (n .address);  -- "Following lines whose address, cut to 32 bits (not clamped), is below it are skipped"
+  sym-skipped = symbol-skipped;
+  sym-addr = λ y. y .address;
+  sym-end = symbol-end;
+}
+
+abbrev pub deep : FunctionRow → Deep FunctionRow
+deep q = record { depth = q .depth; item = q }
+
+abbrev pub op : Given → OpM FunctionRow SymbolRow
+op (tree-rows q rs) = treeM q (map deep rs)
+op (symbol-row y) = symbolM y
+
+-- how the converter was begun, as far as it matters to the tables: whether names are undecorated, "functions and symbols separately"
 pub record Setup : Type 0 where
-  pub utf8 : Text → Bool
-  pub undecorate : Text → Text
   pub functions-on : Bool
   pub symbols-on : Bool
 
@@ -54,9 +76,6 @@ nothing = record { texts = []; files = []; functions = []; calls = []; ranges = 
 
 -- ── Equality tests ─────────────────────────────────────────────────────────────────────────────────────────────────────
 
-abbrev pub both? : Bool → Bool → Bool
-both? a b = cond a b false
-
 abbrev pub opt-eq : Option ℕ → Option ℕ → Bool
 opt-eq none none = true
 opt-eq none (some j) = false
@@ -67,24 +86,25 @@ abbrev pub text-eq : Text → Text → Bool
 text-eq [] [] = true
 text-eq [] (b ∷ t) = false
 text-eq (a ∷ s) [] = false
-text-eq (a ∷ s) (b ∷ t) = both? (eqb a b) (text-eq s t)
+text-eq (a ∷ s) (b ∷ t) = eqb a b && text-eq s t
 
 abbrev pub file-eq : File → File → Bool
 file-eq x y =
-    both? (opt-eq (x .name) (y .name))
-    (both? (opt-eq (x .directory) (y .directory))
-    (both? (opt-eq (x .comp-dir) (y .comp-dir))
-    (both? (opt-eq (x .srcsrv-name) (y .srcsrv-name))
-    (both? (opt-eq (x .srcsrv-dir) (y .srcsrv-dir)) (opt-eq (x .revision) (y .revision))))))
+    opt-eq (x .name) (y .name)
+    && opt-eq (x .directory) (y .directory)
+    && opt-eq (x .comp-dir) (y .comp-dir)
+    && opt-eq (x .srcsrv-name) (y .srcsrv-name)
+    && opt-eq (x .srcsrv-dir) (y .srcsrv-dir)
+    && opt-eq (x .revision) (y .revision)
 
 abbrev pub function-eq : Function → Function → Bool
-function-eq x y = both? (opt-eq (x .name) (y .name)) (both? (eqb (x .entry) (y .entry)) (eqb (x .language) (y .language)))
+function-eq x y = opt-eq (x .name) (y .name) && eqb (x .entry) (y .entry) && eqb (x .language) (y .language)
 
 abbrev pub location-eq : Location → Location → Bool
 location-eq nowhere nowhere = true
 location-eq nowhere (at g o j b) = false
 location-eq (at f n i a) nowhere = false
-location-eq (at f n i a) (at g o j b) = both? (opt-eq f g) (both? (eqb n o) (both? (eqb i j) (opt-eq a b)))
+location-eq (at f n i a) (at g o j b) = opt-eq f g && eqb n o && eqb i j && opt-eq a b
 
 abbrev pub is-nowhere : Location → Bool
 is-nowhere nowhere = true
@@ -119,24 +139,25 @@ or-empty (some t) = t
 
 module _ (X : Setup) where
   abbrev pub function-name : FunctionRow → Text
-  function-name q = cond (X .functions-on) (X .undecorate (q .name)) (q .name)
+  function-name q = cond (X .functions-on) (undecorated (q .name)) (q .name)
 
   abbrev pub symbol-name : SymbolRow → Text
-  symbol-name y = cond (X .symbols-on) (X .undecorate (or-empty (y .name))) (or-empty (y .name))
+  symbol-name y = cond (X .symbols-on) (undecorated (or-empty (y .name))) (or-empty (y .name))
 
-  -- "A compilation directory that isn't UTF-8 is absent"
-  abbrev pub directory-of : FunctionRow → Text
-  directory-of q = cond (X .utf8 (q .comp-dir)) (q .comp-dir) []
+-- "A compilation directory that isn't UTF-8 is absent"
+abbrev pub directory-of : FunctionRow → Text
+directory-of q = cond (utf8 (q .comp-dir)) (q .comp-dir) []
 
-  abbrev pub line-texts : FunctionRow → LineRow → Six Text
-  line-texts q n = record {
-    name = n .name;
-    directory = n .directory;
-    comp-dir = directory-of q;
-    srcsrv-name = or-empty (n .srcsrv-name);
-    srcsrv-dir = or-empty (n .srcsrv-dir);
-    revision = or-empty (n .revision);
-  }
+-- the six texts of a line of the row q
+abbrev pub line-texts : FunctionRow → LineRow → Six Text
+line-texts q n = record {
+  name = n .name;
+  directory = n .directory;
+  comp-dir = directory-of q;
+  srcsrv-name = or-empty (n .srcsrv-name);
+  srcsrv-dir = or-empty (n .srcsrv-dir);
+  revision = or-empty (n .revision);
+}
 
 abbrev pub entry-of : FunctionRow → ℕ
 entry-of q = cond (q .inline) MAX (q .address)
@@ -174,32 +195,33 @@ add-function ts f s =
     let i = intern function-eq (s .functions) f in
     (i .index, record { texts = ts; files = s .files; functions = i .table; calls = s .calls; ranges = s .ranges; last = s .last })
 
+-- a line's texts, its file, and its location; "Line numbers too" are cut
+unfoldable pub locate-line : FunctionRow → ℕ → LineRow → Option ℕ → Tables → Location × Tables
+locate-line q r n c s =
+    let t = store-six (s .texts) (line-texts q n) in
+    let i = intern file-eq (s .files) (t .ref) in
+    (at (some (i .index)) (cut32 (n .number)) r c, record { texts = t .table; files = i .table; functions = s .functions; calls = s .calls; ranges = s .ranges; last = s .last })
+
+-- a call location
+unfoldable pub enter-call : Location → Tables → Option ℕ × Tables
+enter-call l s =
+    let i = intern location-eq (s .calls) l in
+    (some (i .index), record { texts = s .texts; files = s .files; functions = s .functions; calls = i .table; ranges = s .ranges; last = s .last })
+
+-- a symbol's function, of language MAX, and its location
+unfoldable pub locate-symbol : SymbolRow → Option ℕ → Tables → Location × Tables
+locate-symbol y p s = let f = add-function (s .texts) (record { name = p; entry = y .address; language = MAX }) s in (at none 0 (f .0) none, f .1)
+
 module _ (X : Setup) where
   -- a row's name, and its function
   unfoldable pub begin-row : FunctionRow → Tables → ℕ × Tables
   begin-row q s = let t = store (s .texts) (function-name X q) in add-function (t .table) (record { name = t .ref; entry = entry-of q; language = q .language }) s
 
-  -- a line's texts, its file, and its location; "Line numbers too" are cut
-  unfoldable pub locate-line : FunctionRow → ℕ → LineRow → Option ℕ → Tables → Location × Tables
-  locate-line q r n c s =
-      let t = store-six (s .texts) (line-texts X q n) in
-      let i = intern file-eq (s .files) (t .ref) in
-      (at (some (i .index)) (cut32 (n .number)) r c, record { texts = t .table; files = i .table; functions = s .functions; calls = s .calls; ranges = s .ranges; last = s .last })
-
-  -- a symbol's name
+  -- a symbol's name: stored even where its location is not
   unfoldable pub begin-symbol : SymbolRow → Tables → Option ℕ × Tables
   begin-symbol y s =
       let t = store (s .texts) (symbol-name X y) in
       (t .ref, record { texts = t .table; files = s .files; functions = s .functions; calls = s .calls; ranges = s .ranges; last = s .last })
-
-  -- its function, of language MAX, and its location
-  unfoldable pub locate-symbol : SymbolRow → Option ℕ → Tables → Location × Tables
-  locate-symbol y p s = let f = add-function (s .texts) (record { name = p; entry = y .address; language = MAX }) s in (at none 0 (f .0) none, f .1)
-
-  unfoldable pub enter-call : Location → Tables → Option ℕ × Tables
-  enter-call l s =
-      let i = intern location-eq (s .calls) l in
-      (some (i .index), record { texts = s .texts; files = s .files; functions = s .functions; calls = i .table; ranges = s .ranges; last = s .last })
 
   abbrev pub plain : Machine FunctionRow LineRow SymbolRow ℕ (Option ℕ) Location (Option ℕ) Tables
   plain = record {

@@ -1,11 +1,11 @@
 -- What the plain tables say of an address: the frames of the range with the greatest start at most it.
-use mathlib.Core.Bool.{Bool, true, false, cond}
+use mathlib.Core.Bool.{true, false, cond}
 use mathlib.Core.Option.{Option, none, some}
 use mathlib.Core.List.{List, [], _∷_}
 use Prim.Native.Nat.{ℕ, zero, suc}
 use lib.ListN.{length, getD, getElem?}
 use lib.Dec.{ltb, leb}
-use Rattle.model.specs.Table.{Entry}
+use Rattle.model.specs.Basics.{Entry}
 use Rattle.model.specs.Rows.{MAX, Text}
 use Rattle.model.specs.Converter.{Six, File, Function, Location, nowhere, at, is-nowhere, Tables}
 
@@ -74,3 +74,18 @@ module _ {L : Type 0} where
 -- an address above MAX gives none
 unfoldable pub frames-at : Tables → ℕ → List Frame
 frames-at s x = elim (ltb MAX x) [ true ↦ [] | false ↦ elim (best (s .ranges) x) [ none ↦ [] | some e ↦ frames-of s (e .value) ] ]
+
+-- what is read of a text that was stored: "an empty text takes offset MAX and reads as absent"
+abbrev pub known : Text → Option Text
+known [] = none
+known (b ∷ t) = some (b ∷ t)
+
+abbrev pub known-six : Six Text → Six (Option Text)
+known-six x = record {
+  name = known (x .name);
+  directory = known (x .directory);
+  comp-dir = known (x .comp-dir);
+  srcsrv-name = known (x .srcsrv-name);
+  srcsrv-dir = known (x .srcsrv-dir);
+  revision = known (x .revision);
+}

@@ -1,13 +1,11 @@
--- The converter over a state S, as the real one is: flat rows in preorder, ranges that hold locations, call locations that hold references.
--- S stands for all the tables; `Machine` is what the converter asks of them.
-use mathlib.Core.Path.{_≡_}
+-- THE CONVERTER'S LOOPS, over any state S: `process_symbolic_functions` and `process_symbolic_symbol` of writer.rs, on flat rows in preorder.
+-- S stands for all the tables, and `Machine` is what the loops ask of them: the plain tables are one machine, lent words are another.
 use mathlib.Core.Bool.{Bool, true, false, cond}
 use mathlib.Core.Option.{Option, none, some}
 use mathlib.Core.List.{List, [], _∷_, _++_, map}
-use Prim.Native.Nat.{ℕ, zero, suc, _≤_, _<_}
+use Prim.Native.Nat.{ℕ, zero, suc}
 use lib.Dec.{ltb, leb, eqb}
-use Rattle.model.specs.Model.{_∈_, Span, Line, Row, Forest, Op, tree, symbol, idle, Deep, sort}
-use Rattle.model.specs.Depths.{under, Steps}
+use Rattle.model.specs.Basics.{Span, Deep, sort}
 
 -- what is read of a function row (Q), a line row (N) and a symbol (Y)
 pub record Input (Q N Y : Type 0) : Type 0 where
@@ -22,67 +20,78 @@ pub record Input (Q N Y : Type 0) : Type 0 where
   pub sym-addr : Y → ℕ
   pub sym-end : Y → Option ℕ
 
--- locations L, references to call locations C, what a row keeps while its lines are walked R, and what a symbol's text became P
+-- what the loops ask of the tables. Locations are L, references to call locations C, what a row keeps while its lines are walked R, and what a symbol's text became P
 pub record Machine (Q N Y R P L C S : Type 0) : Type 0 where
-  pub get : S → ℕ → Option L
+  pub get : S → ℕ → Option L  -- what the ranges hold at a start
   pub put : ℕ → L → S → S
   pub begin : Q → S → R × S  -- a row's texts and its function
   pub locate : Q → R → N → C → S → L × S  -- a line's texts and its file
   pub enter : L → S → C × S  -- a call location
-  pub bare : Q → R → L
-  pub none-loc : L
+  pub bare : Q → R → L  -- the location of a function with no line
+  pub none-loc : L  -- the empty mapping
   pub is-none : L → Bool
-  pub base : C
+  pub base : C  -- no caller
   pub sym-begin : Y → S → P × S  -- a symbol's text
   pub sym-locate : Y → P → S → L × S  -- its function
   pub last : S → Option ℕ  -- the last end, if set
   pub mark-end : ℕ → S → S  -- a function's end may become the last end
   pub mark-symbol : ℕ → S → S  -- a symbol's address may clear it
 
+-- a call location that was made for the inlinees, and the address from which it counts
 pub record Ref (C : Type 0) : Type 0 where
   pub addr : ℕ
   pub ref : C
 
+-- what the inner walk over one line leaves: the call locations that it made, the inlinee ranges that are left, and the address at which it stopped
 pub record WalkedM (C S : Type 0) : Type 0 where
   pub state : S
   pub calls : List (Ref C)
   pub left : List Span
   pub at : ℕ
 
+-- what the loop over a row's lines leaves
 pub record LoopedM (C S : Type 0) : Type 0 where
   pub state : S
   pub calls : List (Ref C)
 
+-- the current call location, and those after it
 pub record CursorM (C : Type 0) : Type 0 where
   pub now : C
   pub next : List (Ref C)
 
+-- an accepted call
 pub data OpM (Q Y : Type 0) : Type 0 where
   treeM : Q → List (Deep Q) → OpM Q Y  -- the root, and the rows after it
   symbolM : Y → OpM Q Y
 
 module _ {C : Type 0} where
+  -- "Find the call location for this line": the last one that starts at most at a
   unfoldable pub advanceM : ℕ → C → List (Ref C) → CursorM C
   advanceM a w [] = record { now = w; next = [] }
   advanceM a w (c ∷ cs) = elim (leb (c .addr) a) [ true ↦ advanceM a (c .ref) cs | false ↦ record { now = w; next = c ∷ cs } ]
 
+  -- the call locations for each depth, with those for depth d replaced
   unfoldable pub set-atM : ℕ → List (Ref C) → (ℕ → List (Ref C)) → ℕ → List (Ref C)
   set-atM d cs ctx = λ j. cond (eqb j d) cs (ctx j)
 
 module _ {Q N Y : Type 0} (I : Input Q N Y) where
+  -- the inlinee ranges of a row at depth d, from the rows after it: the lines of its inlinees, of skipped ones too ("yet its lines still mark its caller's inlinee ranges")
   unfoldable pub kid-spansM : ℕ → List (Deep Q) → List Span
   kid-spansM d [] = []
   kid-spansM d (r ∷ rs) =
       cond (leb (r .depth) d) [] (cond (eqb (r .depth) (suc d)) (map (I .span) (I .lines (r .item)) ++ kid-spansM d rs) (kid-spansM d rs))
 
 module _ {Q N Y R P L C S : Type 0} (I : Input Q N Y) (M : Machine Q N Y R P L C S) where
-  -- t, if a is vacant or empty in s, and else s
+  -- `insert_source_location`: t, if a is vacant or holds the empty mapping in s, and else s
   unfoldable pub unless-held : ℕ → S → S → S
   unless-held a t s = elim (M .get s a) [ none ↦ t | some w ↦ cond (M .is-none w) t s ]
 
+  -- the empty mapping at a, if a is vacant
   unfoldable pub put-end : ℕ → S → S
   put-end a s = elim (M .get s a) [ none ↦ M .put a (M .none-loc) s | some w ↦ s ]
 
+  -- the inner walk over one line, whose location is l and whose end is e; it stands at a. "Per line, the inner walk hands out the address at which it stopped, never
+  -- below the line's end; on the way it may fall below the line's start and insert a range there"
   unfoldable pub walkM : L → ℕ → ℕ → List Span → S → WalkedM C S
   walkM l e a [] s =
       elim (ltb a e) [
@@ -102,6 +111,7 @@ module _ {Q N Y R P L C S : Type 0} (I : Input Q N Y) (M : Machine Q N Y R P L C
         | false ↦ record { state = s; calls = []; left = r ∷ rs; at = a }
       ]
 
+  -- the loop over the lines of the row q. "Following lines whose address, cut to 32 bits (not clamped), is below it are skipped": `at` is where the walk before stopped
   unfoldable pub loopM : Q → R → List N → C → List (Ref C) → List Span → ℕ → S → LoopedM C S
   loopM q r [] w cs rs at s = record { state = s; calls = [] }
   loopM q r (n ∷ ns) w cs rs at s =
@@ -115,13 +125,15 @@ module _ {Q N Y R P L C S : Type 0} (I : Input Q N Y) (M : Machine Q N Y R P L C
             record { state = p .state; calls = o .calls ++ p .calls }
       ]
 
-  -- after a row's own lines: the entry, unless it is inline; the last end, and then the end mapping
+  -- after a row's own lines: the entry, unless it is inline
   unfoldable pub entryM : Q → R → S → S
   entryM q r s = elim (I .inline q) [ true ↦ s | false ↦ unless-held (I .entry q) (M .put (I .entry q) (M .bare q r) s) s ]
 
+  -- then the last end, and the empty mapping at the function's end
   unfoldable pub closingM : Q → R → S → S
   closingM q r s = put-end (I .stop q) (M .mark-end (I .stop q) (entryM q r s))
 
+  -- a row, given its inlinee ranges and its call locations. "No call location made: inlinees aren't visited"
   unfoldable pub rowM : Q → List Span → List (Ref C) → S → LoopedM C S
   rowM q ss [] s = record { state = s; calls = [] }
   rowM q ss (c ∷ cs) s =
@@ -133,16 +145,19 @@ module _ {Q N Y R P L C S : Type 0} (I : Input Q N Y) (M : Machine Q N Y R P L C
             record { state = closingM q (b .0) (o .state); calls = o .calls }
       ]
 
+  -- rows in preorder; each hands its call locations to the rows one deeper
   unfoldable pub convertM : List (Deep Q) → (ℕ → List (Ref C)) → S → S
   convertM [] ctx s = s
   convertM (r ∷ rs) ctx s =
       let o = rowM (r .item) (kid-spansM I (r .depth) rs) (ctx (r .depth)) s in
       convertM rs (set-atM (suc (r .depth)) (o .calls) ctx) (o .state)
 
+  -- the root's one call location: from 0 on, no caller
   unfoldable pub startM : ℕ → List (Ref C)
   startM zero = record { addr = 0; ref = M .base } ∷ []
   startM (suc d) = []
 
+  -- `process_symbolic_symbol`: the text, then the function and the location where there is none, the last end, and the empty mapping at its end
   unfoldable pub named-symbolM : Y → S → S
   named-symbolM y s =
       let b = M .sym-begin y s in
@@ -158,57 +173,11 @@ module _ {Q N Y R P L C S : Type 0} (I : Input Q N Y) (M : Machine Q N Y R P L C
   convert-opM (treeM q rs) s = convertM (record { depth = 0; item = q } ∷ rs) startM s
   convert-opM (symbolM y) s = convert-symbolM y s
 
+  -- a list of accepted calls
   unfoldable pub runM : List (OpM Q Y) → S → S
   runM [] s = s
   runM (o ∷ os) s = runM os (convert-opM o s)
 
-  -- the writer's sentinel at the last end
+  -- what `serialize` does first: the empty mapping at the last end
   unfoldable pub finishM : S → S
   finishM s = elim (M .last s) [ none ↦ s | some a ↦ put-end a s ]
-
--- ── What the input means, ideally ──
-
-pub record Means (Q N Y F : Type 0) : Type 0 where
-  pub frame : Q → N → F  -- of a row's line
-  pub bare-frame : Q → F  -- of a row alone
-  pub sym-frame : Y → F
-
-module _ {Q N Y F : Type 0} (I : Input Q N Y) (T : Means Q N Y F) where
-  abbrev pub line-of : Q → N → Line F
-  line-of q n = record { span = I .span n; frame = T .frame q n }
-
-  abbrev pub row-of : Q → Row F
-  row-of q = record { entry = I .entry q; stop = I .stop q; bare = T .bare-frame q; lines = map (line-of q) (I .lines q) }
-
-  abbrev pub deep-of : Deep Q → Deep (Row F)
-  deep-of r = record { depth = r .depth; item = row-of (r .item) }
-
-  abbrev pub kids-of : List (Deep Q) → Forest F
-  kids-of rs = under 1 (map deep-of rs)
-
-  abbrev pub op-of : OpM Q Y → Op F
-  op-of (treeM q rs) = tree (row-of q) (kids-of rs)
-  op-of (symbolM y) = cond (I .sym-skipped y) idle (symbol (I .sym-addr y) (I .sym-end y) (T .sym-frame y))
-
--- at depth 0 a row isn't inline, and below it is
-abbrev pub inner : ℕ → Bool
-inner zero = false
-inner (suc d) = true
-
-module _ {Q N Y : Type 0} (I : Input Q N Y) where
-  -- a row at depth d that isn't skipped, with no line whose address is cut or clamped
-  pub record Sound (d : ℕ) (q : Q) : Type 0 where
-    pub flag : I .inline q ≡ inner d
-    pub kept : I .skipped q ≡ false
-    pub uncut : (n : N) → n ∈ I .lines q → I .cut n ≡ I .span n .from
-
-  -- the depths are a tree's, and its rows are sound
-  pub record SoundTree (q : Q) (rs : List (Deep Q)) : Type 0 where
-    pub root : Sound 0 q
-    pub rows : (r : Deep Q) → r ∈ rs → Sound (r .depth) (r .item)
-    pub steps : Steps 1 rs
-    pub deeper : (r : Deep Q) → r ∈ rs → 1 ≤ r .depth
-
-  abbrev pub SoundOp : OpM Q Y → Type 0
-  SoundOp (treeM q rs) = SoundTree q rs
-  SoundOp (symbolM y) = Unit {0}

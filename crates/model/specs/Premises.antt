@@ -1,16 +1,15 @@
 -- Document 01's "Well nested" and demand 3's premises, on the rows as they are given; and the frames that demand 3 asks for at an address.
 use mathlib.Core.Path.{_≡_}
-use mathlib.Core.Bool.{Bool, true, false, cond}
+use mathlib.Core.Bool.{true, false, cond}
 use mathlib.Core.Option.{Option, none, some}
 use mathlib.Core.Logic.{_⊎_}
 use mathlib.Core.List.{List, [], _∷_, _++_, map}
 use Prim.Native.Nat.{ℕ, suc, _+_, _≤_, _<_}
 use lib.Dec.{leb, eqb}
-use Rattle.model.specs.Model.{_∈_, Span, Asc, Apart, coversb, Deep}
+use Rattle.model.specs.Basics.{_∈_, Span, Asc, Apart, coversb, Deep}
 use Rattle.model.specs.Rows.{MAX, Text, LineRow, FunctionRow, SymbolRow, Given, tree-rows, symbol-row, line-size}
 use Rattle.model.specs.Converter.{Setup, function-name, line-texts, entry-of}
-use Rattle.model.specs.Frames.{Frame}
-use Rattle.model.specs.Chains.{known, known-six}
+use Rattle.model.specs.Frames.{Frame, known, known-six}
 
 -- "A line covers as many addresses as its size (1 where absent), from its own on"
 abbrev pub reach : LineRow → Span
@@ -101,15 +100,15 @@ AllSeparate (g ∷ gs) = ((h : Given) → h ∈ gs → Separate g h) × AllSepar
 
 -- ── What demand 3 asks for ──
 
+-- the line that covers x
+unfoldable pub line-at : List LineRow → ℕ → Option LineRow
+line-at [] x = none
+line-at (n ∷ ns) x = cond (coversb (reach n) x) (some n) (line-at ns x)
+
 module _ (X : Setup) where
   -- "name (undecorated where that is on), entry (for an inlinee MAX), language, the covering line's number, and six texts, absent where empty"
   abbrev pub wanted : FunctionRow → LineRow → Frame
-  wanted q n = record { name = known (function-name X q); entry = entry-of q; language = q .language; number = n .number; file = some (known-six (line-texts X q n)) }
-
-  -- the line that covers x
-  unfoldable pub line-at : List LineRow → ℕ → Option LineRow
-  line-at [] x = none
-  line-at (n ∷ ns) x = cond (coversb (reach n) x) (some n) (line-at ns x)
+  wanted q n = record { name = known (function-name X q); entry = entry-of q; language = q .language; number = n .number; file = some (known-six (line-texts q n)) }
 
   -- of the rows that have a line covering x, in their order, the depth and the frame
   unfoldable pub nested-at : ℕ → List FunctionRow → List (Deep Frame)

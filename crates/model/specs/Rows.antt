@@ -1,12 +1,11 @@
 -- What the converter is given, as document 01's "Forms" has it, and what it reads of it, with the corners of "Converter". All numbers are
 -- naturals: what is cut or clamped is cut or clamped here, in the open.
-use mathlib.Core.Bool.{Bool, true, false, cond}
+use mathlib.Core.Bool.{Bool, true, cond}
 use mathlib.Core.Option.{Option, none, some}
-use mathlib.Core.List.{List, [], _∷_, map}
-use Prim.Native.Nat.{ℕ, _+_, _%_, min, _≤_, _<_}
+use mathlib.Core.List.{List}
+use Prim.Native.Nat.{ℕ, _+_, _%_, min}
 use lib.Dec.{ltb, leb, eqb}
-use Rattle.model.specs.Model.{Span, Deep}
-use Rattle.model.specs.Machine.{Input, OpM, treeM, symbolM}
+use Rattle.model.specs.Basics.{Span}
 
 abbrev pub MAX : ℕ
 MAX = 4294967295
@@ -74,24 +73,3 @@ symbol-skipped y = elim (y .name) [ none ↦ true | some t ↦ ltb MAX (y .addre
 -- "an end counts if size is above 0 and it is at most MAX"
 abbrev pub symbol-end : SymbolRow → Option ℕ
 symbol-end y = cond (eqb (y .size) 0) none (cond (leb (y .address + y .size) MAX) (some (y .address + y .size)) none)
-
-abbrev pub input : Input FunctionRow LineRow SymbolRow
-input = record {
-  entry = λ q. q .address;
-  stop = function-end;
-  skipped = skipped;
-  inline = λ q. q .inline;
-  lines = λ q. q .lines;
-  span = boundaries;
-  cut = λ n. cut32 (n .address);  -- "Following lines whose address, cut to 32 bits (not clamped), is below it are skipped"
-  sym-skipped = symbol-skipped;
-  sym-addr = λ y. y .address;
-  sym-end = symbol-end;
-}
-
-abbrev pub deep : FunctionRow → Deep FunctionRow
-deep q = record { depth = q .depth; item = q }
-
-abbrev pub op : Given → OpM FunctionRow SymbolRow
-op (tree-rows q rs) = treeM q (map deep rs)
-op (symbol-row y) = symbolM y
