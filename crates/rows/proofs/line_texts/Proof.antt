@@ -24,22 +24,42 @@ optional-requires-3 c κs = search needs
 returns : tie.Need-returns
 unfolding lineTexts?
 returns c =
-    and-then _ _ _ (sym (c .before .before .before .before .before .before .before .before .readable .ensures) ∙ c .before .before .before .before .before .before .before .if1 .taken) (and-then _ _ _ (sym (c .before .before .before .before .before .before .readable2 .ensures) ∙ c .before .before .before .before .before .if2 .taken) (and-then _ _ _ (sym (c .before .before .before .before .optional .ensures) ∙ c .before .before .before .if3 .taken) (and-then _ _ _ (sym (c .before .before .optional2 .ensures) ∙ c .before .if4 .taken) (c .optional3 .ensures))))
+    let t4 = c .before in
+    let t3 = t4 .before .before in
+    let t2 = t3 .before .before in
+    let t1 = t2 .before .before in
+    and-then _ _ _ (sym (t1 .before .readable .ensures) ∙ t1 .if1 .taken)
+    (and-then _ _ _ (sym (t2 .before .readable2 .ensures) ∙ t2 .if2 .taken)
+    (and-then _ _ _ (sym (t3 .before .optional .ensures) ∙ t3 .if3 .taken)
+    (and-then _ _ _ (sym (t4 .before .optional2 .ensures) ∙ t4 .if4 .taken)
+    (c .optional3 .ensures))))
 
 returns-2 : tie.Need-returns-2
 unfolding lineTexts?
 returns-2 c =
-    and-then _ _ _ (sym (c .before .before .before .before .before .before .before .readable .ensures) ∙ c .before .before .before .before .before .before .if1 .taken) (and-then _ _ _ (sym (c .before .before .before .before .before .readable2 .ensures) ∙ c .before .before .before .before .if2 .taken) (and-then _ _ _ (sym (c .before .before .before .optional .ensures) ∙ c .before .before .if3 .taken) (and-stop _ _ (sym (c .before .optional2 .ensures) ∙ c .if4 .left))))
+    let t3 = c .before .before in
+    let t2 = t3 .before .before in
+    let t1 = t2 .before .before in
+    and-then _ _ _ (sym (t1 .before .readable .ensures) ∙ t1 .if1 .taken)
+    (and-then _ _ _ (sym (t2 .before .readable2 .ensures) ∙ t2 .if2 .taken)
+    (and-then _ _ _ (sym (t3 .before .optional .ensures) ∙ t3 .if3 .taken)
+    (and-stop _ _ (sym (c .before .optional2 .ensures) ∙ c .if4 .left))))
 
 returns-3 : tie.Need-returns-3
 unfolding lineTexts?
 returns-3 c =
-    and-then _ _ _ (sym (c .before .before .before .before .before .readable .ensures) ∙ c .before .before .before .before .if1 .taken) (and-then _ _ _ (sym (c .before .before .before .readable2 .ensures) ∙ c .before .before .if2 .taken) (and-stop _ _ (sym (c .before .optional .ensures) ∙ c .if3 .left)))
+    let t2 = c .before .before in
+    let t1 = t2 .before .before in
+    and-then _ _ _ (sym (t1 .before .readable .ensures) ∙ t1 .if1 .taken)
+    (and-then _ _ _ (sym (t2 .before .readable2 .ensures) ∙ t2 .if2 .taken)
+    (and-stop _ _ (sym (c .before .optional .ensures) ∙ c .if3 .left)))
 
 returns-4 : tie.Need-returns-4
 unfolding lineTexts?
 returns-4 c =
-    and-then _ _ _ (sym (c .before .before .before .readable .ensures) ∙ c .before .before .if1 .taken) (and-stop _ _ (sym (c .before .readable2 .ensures) ∙ c .if2 .left))
+    let t1 = c .before .before in
+    and-then _ _ _ (sym (t1 .before .readable .ensures) ∙ t1 .if1 .taken)
+    (and-stop _ _ (sym (c .before .readable2 .ensures) ∙ c .if2 .left))
 
 returns-5 : tie.Need-returns-5
 unfolding lineTexts?

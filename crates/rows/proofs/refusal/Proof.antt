@@ -23,33 +23,61 @@ add-if5 c = search needs
 
 returns : tie.Need-returns
 returns c =
-    let a = c .before .before .before .before .before .before .before .before .before .before .before .before .before .before .args in
+    let t4 = c .before in
+    let t3 = t4 .before .before in
+    let t2 = t3 .before .before in
+    let t1 = t2 .before .before in
+    let a = t1 .before .before .before .before .before .before .before .args in
     let k = columns (a .functions64 .now) (a .functions32 .now) (a .lines64 .now) (a .lines32 .now) (a .text .now) in
-    refusal-0 k (a .scratch) (sym (c .before .before .before .before .before .before .before .before .shaped .ensures (a .text .now)) ∙ c .before .before .before .before .before .before .before .if1 .taken) (sym (c .before .before .before .before .before .before .functions-texts .ensures) ∙ c .before .before .before .before .before .if2 .taken) (sym (c .before .before .before .before .lines-texts .ensures) ∙ c .before .before .before .if3 .taken) (sym (c .before .before .ends .ensures) ∙ c .before .if4 .taken) (c .if5 .taken)
+    refusal-0 k (a .scratch) (sym (t1 .before .shaped .ensures (a .text .now)) ∙ t1 .if1 .taken)
+    (sym (t2 .before .functions-texts .ensures) ∙ t2 .if2 .taken)
+    (sym (t3 .before .lines-texts .ensures) ∙ t3 .if3 .taken)
+    (sym (t4 .before .ends .ensures) ∙ t4 .if4 .taken)
+    (c .if5 .taken)
 
 returns-2 : tie.Need-returns-2
 returns-2 c =
-    let a = c .before .before .before .before .before .before .before .before .before .before .before .before .before .before .args in
+    let t4 = c .before in
+    let t3 = t4 .before .before in
+    let t2 = t3 .before .before in
+    let t1 = t2 .before .before in
+    let a = t1 .before .before .before .before .before .before .before .args in
     let k = columns (a .functions64 .now) (a .functions32 .now) (a .lines64 .now) (a .lines32 .now) (a .text .now) in
-    refusal-16 k (a .scratch) (sym (c .before .before .before .before .before .before .before .before .shaped .ensures (a .text .now)) ∙ c .before .before .before .before .before .before .before .if1 .taken) (sym (c .before .before .before .before .before .before .functions-texts .ensures) ∙ c .before .before .before .before .before .if2 .taken) (sym (c .before .before .before .before .lines-texts .ensures) ∙ c .before .before .before .if3 .taken) (sym (c .before .before .ends .ensures) ∙ c .before .if4 .taken) (c .if5 .left)
+    refusal-16 k (a .scratch) (sym (t1 .before .shaped .ensures (a .text .now)) ∙ t1 .if1 .taken)
+    (sym (t2 .before .functions-texts .ensures) ∙ t2 .if2 .taken)
+    (sym (t3 .before .lines-texts .ensures) ∙ t3 .if3 .taken)
+    (sym (t4 .before .ends .ensures) ∙ t4 .if4 .taken)
+    (c .if5 .left)
 
 returns-3 : tie.Need-returns-3
 returns-3 c =
-    let a = c .before .before .before .before .before .before .before .before .before .before .before .before .before .args in
+    let t3 = c .before .before in
+    let t2 = t3 .before .before in
+    let t1 = t2 .before .before in
+    let a = t1 .before .before .before .before .before .before .before .args in
     let k = columns (a .functions64 .now) (a .functions32 .now) (a .lines64 .now) (a .lines32 .now) (a .text .now) in
-    refusal-15 k (a .scratch) (sym (c .before .before .before .before .before .before .before .shaped .ensures (a .text .now)) ∙ c .before .before .before .before .before .before .if1 .taken) (sym (c .before .before .before .before .before .functions-texts .ensures) ∙ c .before .before .before .before .if2 .taken) (sym (c .before .before .before .lines-texts .ensures) ∙ c .before .before .if3 .taken) (sym (c .before .ends .ensures) ∙ c .if4 .left)
+    refusal-15 k (a .scratch) (sym (t1 .before .shaped .ensures (a .text .now)) ∙ t1 .if1 .taken)
+    (sym (t2 .before .functions-texts .ensures) ∙ t2 .if2 .taken)
+    (sym (t3 .before .lines-texts .ensures) ∙ t3 .if3 .taken)
+    (sym (c .before .ends .ensures) ∙ c .if4 .left)
 
 returns-4 : tie.Need-returns-4
 returns-4 c =
-    let a = c .before .before .before .before .before .before .before .before .before .before .before .args in
+    let t2 = c .before .before in
+    let t1 = t2 .before .before in
+    let a = t1 .before .before .before .before .before .before .before .args in
     let k = columns (a .functions64 .now) (a .functions32 .now) (a .lines64 .now) (a .lines32 .now) (a .text .now) in
-    refusal-14-lines k (a .scratch) (sym (c .before .before .before .before .before .shaped .ensures (a .text .now)) ∙ c .before .before .before .before .if1 .taken) (sym (c .before .before .before .functions-texts .ensures) ∙ c .before .before .if2 .taken) (sym (c .before .lines-texts .ensures) ∙ c .if3 .left)
+    refusal-14-lines k (a .scratch) (sym (t1 .before .shaped .ensures (a .text .now)) ∙ t1 .if1 .taken)
+    (sym (t2 .before .functions-texts .ensures) ∙ t2 .if2 .taken)
+    (sym (c .before .lines-texts .ensures) ∙ c .if3 .left)
 
 returns-5 : tie.Need-returns-5
 returns-5 c =
-    let a = c .before .before .before .before .before .before .before .before .before .args in
+    let t1 = c .before .before in
+    let a = t1 .before .before .before .before .before .before .before .args in
     let k = columns (a .functions64 .now) (a .functions32 .now) (a .lines64 .now) (a .lines32 .now) (a .text .now) in
-    refusal-14-functions k (a .scratch) (sym (c .before .before .before .shaped .ensures (a .text .now)) ∙ c .before .before .if1 .taken) (sym (c .before .functions-texts .ensures) ∙ c .if2 .left)
+    refusal-14-functions k (a .scratch) (sym (t1 .before .shaped .ensures (a .text .now)) ∙ t1 .if1 .taken)
+    (sym (c .before .functions-texts .ensures) ∙ c .if2 .left)
 
 returns-6 : tie.Need-returns-6
 returns-6 c =
