@@ -40,7 +40,7 @@ text-eq-ok [] (b ∷ t) e = false-true e
 text-eq-ok (a ∷ s) [] e = false-true e
 text-eq-ok (a ∷ s) (b ∷ t) e = let (p, q) = both-true (eqb a b) (text-eq s t) e in cc (eqb-true a b p, text-eq-ok s t q)
 
-six-path : {A : Type 0} (x y : Six A) → x .name ≡ y .name → x .directory ≡ y .directory → x .comp-dir ≡ y .comp-dir → x .srcsrv-name ≡ y .srcsrv-name
+pub six-path : {A : Type 0} (x y : Six A) → x .name ≡ y .name → x .directory ≡ y .directory → x .comp-dir ≡ y .comp-dir → x .srcsrv-name ≡ y .srcsrv-name
     → x .srcsrv-dir ≡ y .srcsrv-dir → x .revision ≡ y .revision → x ≡ y
 six-path x y a b c d e f = λ i. record { name = a i; directory = b i; comp-dir = c i; srcsrv-name = d i; srcsrv-dir = e i; revision = f i }
 
@@ -82,7 +82,7 @@ pub reads-grows : {ts : List Text} (us : List Text) → Grows ts us → {r : Opt
 reads-grows us g absent = absent
 reads-grows us g (present {i = i} {t = t} h) = present (g i t h)
 
-at-get : {A : Type 0} (xs : List A) (i : ℕ) (a : A) → At xs i a → getElem? xs i ≡ some a
+pub at-get : {A : Type 0} (xs : List A) (i : ℕ) (a : A) → At xs i a → getElem? xs i ≡ some a
 at-get [] i a h = absurd h
 at-get (x ∷ xs) zero a h = ap some h
 at-get (x ∷ xs) (suc i) a h = at-get xs i a h
@@ -259,7 +259,7 @@ file-found s (a-file {i = i} {x = x} {v = v} k r) =
     six-path (read-six (s .texts) x) v (reads-read (r .name)) (reads-read (r .directory)) (reads-read (r .comp-dir)) (reads-read (r .srcsrv-name)) (reads-read (r .srcsrv-dir)) (reads-read (r .revision)) in
     rw (at-get (s .files) i x k, file-at) (ap some e)
 
-frame-path : (a b : Frame) → a .name ≡ b .name → a .entry ≡ b .entry → a .language ≡ b .language → a .number ≡ b .number → a .file ≡ b .file → a ≡ b
+pub frame-path : (a b : Frame) → a .name ≡ b .name → a .entry ≡ b .entry → a .language ≡ b .language → a .number ≡ b .number → a .file ≡ b .file → a ≡ b
 frame-path a b p q r t u = λ i. record { name = p i; entry = q i; language = r i; number = t i; file = u i }
 
 pub frame-found : (s : Tables) (f : Option ℕ) (n i : ℕ) (g : Frame) (c : Option ℕ) → Shows s f n i g → frame-of s (at f n i c) ≡ g
@@ -415,20 +415,3 @@ module _ {L : Type 0} where
 
           value : e .value ≡ l
           value = some-eq (e .value) l (sym (a .holds) ∙ subst (λ (k : ℕ). range-at t k ≡ some l) (sym same) g)
-
-  -- so it depends on what the starts hold, and not on their order: it is the same in the sorted table that a file has
-  pub best-same : (t u : List (Entry L)) → ((k : ℕ) → range-at t k ≡ range-at u k) → (x : ℕ) → best t x ≡ best u x
-  best-same t u h x = go (best u x) refl (best-answers u x)
-    where
-      entry-path : (d e : Entry L) → d .key ≡ e .key → d .value ≡ e .value → d ≡ e
-      entry-path d e p q = λ i. record { key = p i; value = q i }
-
-      nothing-there : ((j : ℕ) → j ≤ x → range-at u j ≡ none) → (o : Option (Entry L)) → best t x ≡ o → Answers t x o → o ≡ none
-      nothing-there b none z a = refl
-      nothing-there b (some e) z a = none-some (sym (h (e .key) ∙ b (e .key) (a .low)) ∙ a .holds)
-
-      go : (o : Option (Entry L)) → best u x ≡ o → Answers u x o → best t x ≡ best u x
-      go none z a = nothing-there a (best t x) refl (best-answers t x) ∙ sym z
-      go (some e) z a =
-          let (d, w, p, q) = best-is t x (e .key) (e .value) (a .low) (h (e .key) ∙ a .holds) (λ k y v. h k ∙ a .bare k y v) in
-          w ∙ ap some (entry-path d e p q) ∙ sym z

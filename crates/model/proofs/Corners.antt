@@ -39,36 +39,25 @@ starts s = map (λ (e : Entry Location). e .key) (s .ranges)
 pub record Corners : Type 0 where
   -- M4, M5
   pub m4 : boundaries (record { address = MAX; size = none; number = 0; name = []; directory = []; srcsrv-name = none; srcsrv-dir = none; revision = none }) ≡ record { from = MAX; to = MAX }
-
   pub m5 : boundaries (record { address = 4294967290; size = some 5; number = 0; name = []; directory = []; srcsrv-name = none; srcsrv-dir = none; revision = none }) .to ≡ MAX
-
   -- the address in the skip is cut, not clamped: 2^32 + 12 is skipped after a line that ends at 20, and 2^32 + 30 isn't; that one is empty, and stores its file
   pub cut-skips : length (converted setup (tree (root 10 10 (line 10 10 1 ∷ line 0x1_0000_000c 4 2 ∷ [])) [] ∷ []) .files) ≡ 1
-
   pub empty-stores : length (converted setup (tree (root 10 10 (line 10 10 1 ∷ line 0x1_0000_001e 4 2 ∷ [])) [] ∷ []) .files) ≡ 2
-
   -- a skipped inlinee's lines still mark its caller's ranges: 22 is a start, and 18 isn't; its name isn't stored
   pub skipped-marks : starts (converted setup (tree (root 16 16 (line 16 16 1 ∷ [])) (kid 18 0 (line 18 4 2 ∷ []) ∷ []) ∷ [])) ≡ 16 ∷ 22 ∷ 32 ∷ []
-
   -- the inner walk may fall below the line's start and insert a range there
   pub walk-below : starts (converted setup (tree (root 2 18 (line 10 10 1 ∷ [])) (kid 2 2 (line 2 2 2 ∷ []) ∷ []) ∷ [])) ≡ 4 ∷ 2 ∷ 20 ∷ []
-
   -- no call location made: the inlinee isn't visited, and its function isn't there
   pub not-visited : length (converted setup (tree (root 2 18 []) (kid 2 2 (line 2 2 2 ∷ []) ∷ []) ∷ []) .functions) ≡ 1
-
   -- a function's end is cut to 32 bits: 2^32 is 0
   pub end-cut : starts (converted setup (tree (root 0xfffffff0 16 []) [] ∷ [])) ≡ 0xfffffff0 ∷ 0 ∷ []
-
   -- line numbers too
   pub number-is-cut : range-at (converted setup (tree (root 16 16 (line 16 16 0x1_0000_0007 ∷ [])) [] ∷ []) .ranges) 16 ≡ some (at (some 0) 7 0 none)
-
   -- a compilation directory that isn't UTF-8 is absent, and isn't stored (ED A0 80 is not: M12)
   pub not-utf8 : converted setup (tree (named (65 ∷ []) (0xed ∷ 0xa0 ∷ 0x80 ∷ []) (line 16 16 1 ∷ [])) [] ∷ []) .texts ≡ (65 ∷ []) ∷ (1 ∷ []) ∷ []
-
   -- names are undecorated where that is on, functions and symbols separately: `_A` is stored as it is, or as `A`
   pub switches : map (λ (x : Setup). converted x (tree (named (95 ∷ 65 ∷ []) [] []) [] ∷ symbol-row (record { address = 64; size = 0; name = some (95 ∷ 67 ∷ []) }) ∷ []) .texts)
       (record { functions-on = false; symbols-on = true } ∷ record { functions-on = true; symbols-on = false } ∷ []) ≡ ((95 ∷ 65 ∷ []) ∷ (67 ∷ []) ∷ []) ∷ ((65 ∷ []) ∷ (95 ∷ 67 ∷ []) ∷ []) ∷ []
-
   -- a symbol doesn't replace a function's location; its text is stored all the same, and its end put
   pub not-replaced : converted setup (tree (root 16 16 []) [] ∷ sym 16 32 ∷ [])
       ≡ record {
@@ -79,7 +68,6 @@ pub record Corners : Type 0 where
         ranges = record { key = 16; value = at none 0 0 none } ∷ record { key = 32; value = nowhere } ∷ record { key = 48; value = nowhere } ∷ [];
         last = some 32;
       }
-
   -- it replaces the empty mapping, in place; and at or above the last end it clears it
   pub end-replaced : converted setup (tree (root 16 16 []) [] ∷ sym 32 0 ∷ [])
       ≡ record {
@@ -90,10 +78,8 @@ pub record Corners : Type 0 where
         ranges = record { key = 16; value = at none 0 0 none } ∷ record { key = 32; value = at none 0 1 none } ∷ [];
         last = none;
       }
-
   -- an unnamed symbol, and one above MAX, changes nothing; an end above MAX isn't put
   pub nothing-changed : converted setup (symbol-row (record { address = 5; size = 1; name = none }) ∷ sym 0x1_0000_0000 1 ∷ []) ≡ nothing
-
   pub straddles : starts (converted setup (sym 0xfffffff0 16 ∷ sym 0xfffffff8 7 ∷ [])) ≡ 0xfffffff0 ∷ 0xfffffff8 ∷ MAX ∷ []
 
 pub corners : Corners

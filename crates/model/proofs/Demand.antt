@@ -12,14 +12,14 @@ use Rattle.model.specs.Rows.{MAX, LineRow, FunctionRow, SymbolRow, Given
 use Rattle.model.specs.Machine.{OpM}
 use Rattle.model.specs.Converter.{input, deep, op, Setup, Tables, nothing, range-at, plain, converted}
 use Rattle.model.specs.Frames.{Frame, frames-of, frames-at}
-use Rattle.model.specs.Premises.{reach, RowWell, WellNested, RootsClear, Separate, AllSeparate, nested-at}
+use Rattle.model.specs.Premises.{reach, RowWell, WellNested, RootsClear, Separate, AllSeparate, nested-at, stack-of}
 use Rattle.model.proofs.Ideal.{Well, covering}
 use Rattle.model.proofs.Spans.{∈-cases, ∈-left, ∈-right, ∈-append, ∈-map, map-∈, asc-from}
 use Rattle.model.proofs.Means.{SoundOp, op-of, deep-of}
 use Rattle.model.proofs.Simulate.{machine-demand, machine-finds, machine-plain, machine-good}
 use Rattle.model.proofs.Chains.{frames-found, best-is}
 use Rattle.model.proofs.Keeps.{Any, Ordered, ordered-nothing, means, relates, plain-laws}
-use Rattle.model.proofs.Derive.{sound-op, well-op, all-clear, first-deep, found-is, covers-is, root-line}
+use Rattle.model.proofs.Derive.{stack-nested, sound-op, well-op, all-clear, first-deep, found-is, covers-is, root-line}
 
 vacant : (k : ℕ) → range-at (nothing .ranges) k ≡ none
 unfolding range-at
@@ -57,6 +57,10 @@ module _ (X : Setup) (gs : List Given) (well : (g : Given) → g ∈ gs → Well
     -- and at one that a line of any row covers
     pub demand : let found = nested-at X x (q ∷ rs) in found ≢ [] → (frames-at (converted X gs) x ≡ reverse (items found)) × (depths found ≡ upto 0 (length found))
     demand h = let (n, j, c) = root-line X x q rs (well (tree-rows q rs) i) h in demand-root n j c
+
+    -- the same frames, by recursion on the tree
+    pub demand-stack : nested-at X x (q ∷ rs) ≢ [] → frames-at (converted X gs) x ≡ stack-of X x 0 (q ∷ rs)
+    demand-stack h = demand h .0 ∙ sym (stack-nested X x q rs (well (tree-rows q rs) i))
 
   -- ── No row of another tree covers that address ──
 

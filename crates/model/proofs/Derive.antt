@@ -3,21 +3,22 @@ use mathlib.Core.Path.{_≡_, refl, sym, ap, _∙_, subst}
 use mathlib.Core.Bool.{Bool, true, false, cond}
 use mathlib.Core.Option.{Option, none, some}
 use mathlib.Core.Logic.{_⊎_, inl, inr, _≢_, ⊎-elim}
-use mathlib.Core.List.{List, [], _∷_, map}
+use mathlib.Core.List.{List, [], _∷_, _++_, map, reverse}
 use Prim.Native.Nat.{ℕ, zero, suc, _+_, _≤_, _<_}
 use native.Mathlib.Omega.{arith}
 use lib.Dec.{ltb, leb, eqb}
-use borrow.Author.Tests.{le-ltb, le-leb, lt-leb, eq-eqb, ne-eqb, leb-true, eqb-false, ltb-false}
-use Rattle.model.specs.Basics.{_∈_, here, there, Span, Deep, Asc, Apart, coversb, Covers}
+use borrow.Author.Tests.{lt-ltb, le-ltb, le-leb, lt-leb, eq-eqb, ne-eqb, leb-true, eqb-false, ltb-false}
+use Rattle.model.specs.Basics.{_∈_, here, there, Span, Deep, items, Asc, Apart, coversb, Covers}
 use Rattle.model.specs.Rows.{MAX, cut32, Text, LineRow, FunctionRow, SymbolRow, Given, tree-rows, symbol-row, line-size, boundaries, skipped, function-end, symbol-skipped, symbol-end}
 use Rattle.model.specs.Machine.{OpM}
 use Rattle.model.specs.Converter.{input, deep, op, Setup}
 use Rattle.model.specs.Frames.{Frame}
-use Rattle.model.specs.Premises.{reach, reaches, all-reaches, inlinees, Legal, RowWell, LastAt, InlineeWell, RowsWell, TreeWell, WellNested, Named, Counted, NotIn, SymbolClear, Separate, AllSeparate, wanted, line-at, nested-at}
-use Rattle.model.proofs.Ideal.{Line, Row, Op, idle, Nested, Forest, nil, row, spans, spans-of, LastEnd, Within, WellRow, WellInlinee, WellTree, Well, Clear, ClearOps, AllClear, frame-at, covering, preorder}
+use Rattle.model.specs.Premises.{reach, reaches, all-reaches, inlinees, Legal, RowWell, LastAt, InlineeWell, RowsWell, TreeWell, WellNested, Named, Counted, NotIn, SymbolClear, Separate, AllSeparate, wanted, line-at, nested-at, stack-of}
+use Rattle.model.proofs.Ideal.{Line, Row, Op, idle, Nested, Forest, nil, row, spans, spans-of, LastEnd, Within, WellRow, WellInlinee, WellTree, Well, Clear, ClearOps, AllClear, frame-at, stack-at, covering, preorder}
 use Rattle.model.proofs.Maps.{lt-or-ge, eq-or-ne}
-use Rattle.model.proofs.Spans.{∈-elim, ∈-map, map-∈, ∈-cases}
-use Rattle.model.proofs.Stacks.{root-covers}
+use Rattle.model.proofs.Spans.{∈-elim, ∈-map, map-∈, ∈-cases, covered?, Out}
+use Rattle.model.proofs.Trees.{stack-skip}
+use Rattle.model.proofs.Stacks.{plain-tree, root-covers}
 use Rattle.model.proofs.Depths.{under, Steps, under-above, under-at, under-below, rows-are}
 use Rattle.model.proofs.Means.{line-of, row-of, deep-of, kids-of, op-of, inner, Sound, SoundTree, SoundOp}
 use Rattle.model.proofs.Keeps.{means}
@@ -350,3 +351,58 @@ module _ (X : Setup) where
       let (l, i, c) = root-covers x (rowOf q) (kids-of input (means X) (map deep rs)) (well-tree q rs w) (λ e. h (sym (found-rows x q rs w) ∙ e)) in
       let (n, j, e) = map-∈ (lineOf q) (q .lines) i in
       (n, j, subst (λ (s : Span). Covers s x) (covers-is q (w .rows .0) n j) (subst (λ (t : Line Frame). Covers (t .span) x) e c))
+
+  -- ── The frames that demand 3 asks for: plainly and by recursion ──
+
+  under-none : (d : ℕ) (rs : List (Deep (Row Frame))) → ((r : Deep (Row Frame)) → r ∈ rs → d < r .depth) → under d rs ≡ nil
+  unfolding under
+  under-none d [] h = refl
+  under-none d (r ∷ rs) h = under-below d r rs (h r here) ∙ under-none d rs (λ p i. h p (there i))
+
+  stack-under : (x d : ℕ) (rs : List FunctionRow) → RowsWell rs → stack-of X x d rs ≡ stack-at (under d (deeps rs)) x
+  unfolding stack-of stack-at
+  stack-under x d [] w = ap (λ (f : Forest Frame). stack-at f x) (sym (under-none d [] (λ r i. elim i [ ])))
+  stack-under x d (q ∷ rs) w = go (lt-or-ge (q .depth) d) (eq-or-ne (q .depth) d) (stack-under x d rs (w .3)) (stack-under x (suc d) rs (w .3))
+    where
+      here-is : (o : Option LineRow) → line-at (q .lines) x ≡ o → frame-at (map (lineOf q) (q .lines)) x ≡ frame-of-line q (line-at (q .lines) x) → stack-of X x d rs ≡ stack-at (under d (deeps rs)) x
+          → stack-of X x (suc d) rs ≡ stack-at (under (suc d) (deeps rs)) x
+          → elim (line-at (q .lines) x) [ none ↦ stack-of X x d rs | some n ↦ stack-of X x (suc d) rs ++ (wanted X q n ∷ []) ] ≡ stack-at (row (rowOf q) (under (suc d) (deeps rs)) (under d (deeps rs))) x
+      here-is none e f p k = rw (e, f ∙ ap (frame-of-line q) e, stack-at) p
+      here-is (some n) e f p k = rw (e, f ∙ ap (frame-of-line q) e, stack-at) (ap (λ (t : List Frame). t ++ (wanted X q n ∷ [])) k)
+
+      go : (q .depth < d) ⊎ (d ≤ q .depth) → (q .depth ≡ d) ⊎ (q .depth ≢ d) → stack-of X x d rs ≡ stack-at (under d (deeps rs)) x → stack-of X x (suc d) rs ≡ stack-at (under (suc d) (deeps rs)) x
+          → stack-of X x d (q ∷ rs) ≡ stack-at (under d (deeps (q ∷ rs))) x
+      go (inl h) z p k = rw (lt-ltb (q .depth) d h, stack-of, under-above d (record { depth = q .depth; item = rowOf q }) (deeps rs) h)
+      go (inr h) (inl z) p k =
+          rw (le-ltb (q .depth) d h, eq-eqb (q .depth) d z, stack-of, under-at d (record { depth = q .depth; item = rowOf q }) (deeps rs) z)
+          (here-is (line-at (q .lines) x) refl (frame-line q x (q .lines) (line-low q (w .0)) (w .0 .numbers)) p k)
+      go (inr h) (inr z) p k =
+          rw (le-ltb (q .depth) d h, ne-eqb (q .depth) d z, stack-of, under-below d (record { depth = q .depth; item = rowOf q }) (deeps rs) (omega arith)) p
+
+  -- AT EACH ADDRESS THEY ARE THE SAME
+  pub stack-nested : (x : ℕ) (q : FunctionRow) (rs : List FunctionRow) → TreeWell q rs → stack-of X x 0 (q ∷ rs) ≡ reverse (items (nested-at X x (q ∷ rs)))
+  unfolding stack-at
+  stack-nested x q rs w = as-tree ∙ ⊎-elim hit miss (covered? x (spans-of (rowOf q .lines)))
+    where
+      kids : Forest Frame
+      kids = kids-of input (means X) (map deep rs)
+
+      as-tree : stack-of X x 0 (q ∷ rs) ≡ stack-at (row (rowOf q) kids nil) x
+      as-tree =
+          stack-under x 0 (q ∷ rs) (w .rows)
+          ∙ ap (λ (f : Forest Frame). stack-at f x)
+          (under-at 0 (record { depth = q .depth; item = rowOf q }) (deeps rs) (w .first) ∙ ap (row (rowOf q) kids) (under-none 0 (deeps rs) (λ r i. let h = deeper-deeps 0 rs (w .legal) r i in omega arith)))
+
+      hit : (s : Span) × (s ∈ spans-of (rowOf q .lines)) × Covers s x → stack-at (row (rowOf q) kids nil) x ≡ reverse (items (nested-at X x (q ∷ rs)))
+      hit (s, i, c) =
+          let (l, j, e) = map-∈ (λ (k : Line Frame). k .span) (rowOf q .lines) i in
+          plain-tree x (rowOf q) kids (well-tree q rs w) l j (subst (λ (t : Span). Covers t x) e c) .stack-is ∙ ap (λ (t : List (Deep Frame)). reverse (items t)) (found-rows x q rs w)
+
+      miss : Out x (spans-of (rowOf q .lines)) → stack-at (row (rowOf q) kids nil) x ≡ reverse (items (nested-at X x (q ∷ rs)))
+      miss out = stack-skip (rowOf q) kids nil x out ∙ none-there (nested-at X x (q ∷ rs)) refl
+        where
+          none-there : (v : List (Deep Frame)) → nested-at X x (q ∷ rs) ≡ v → _≡_ {A = List Frame} [] (reverse (items v))
+          none-there [] e = refl
+          none-there (d ∷ v) e =
+              let (l, i, c) = root-covers x (rowOf q) kids (well-tree q rs w) (λ z. let bad : _≡_ {A = List (Deep Frame)} [] (d ∷ v) = sym z ∙ found-rows x q rs w ∙ e in let no : _≡_ {A = ℕ} 0 1 = cc in omega arith) in
+              absurd (⊎-elim (λ z. omega (arith, c)) (λ z. omega (arith, c)) (out (l .span) (∈-map (λ (k : Line Frame). k .span) i)))

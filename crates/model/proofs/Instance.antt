@@ -15,7 +15,7 @@ use Rattle.model.specs.Frames.{Frame, callers, frames-of, better, best, 
 use Rattle.model.specs.Premises.{inlinees, RowWell, InlineeWell, TreeWell, WellNested, SymbolClear, Separate, AllSeparate, line-at, nested-at}
 use Rattle.model.proofs.Spans.{∈-elim}
 use Rattle.model.proofs.Demand.{demand}
-use Rattle.model.proofs.Worked.{plain-setup, trk, pos, ars, prs, src, line, root-row, inlinee-row, frame}
+use Rattle.model.proofs.Worked.{worked, plain-setup, trk, pos, ars, prs, src, line, root-row, inlinee-row, frame}
 
 abbrev second-row : FunctionRow
 second-row = record { depth = 0; address = 0x1010; size = 4; inline = false; language = 3; name = pos; comp-dir = []; lines = line 0x1010 none 7 prs ∷ line 0x1012 (some 2) 8 prs ∷ [] }
@@ -23,7 +23,7 @@ second-row = record { depth = 0; address = 0x1010; size = 4; inline = false; lan
 abbrev symbol-of : ℕ → ℕ → SymbolRow
 symbol-of a z = record { address = a; size = z; name = some trk }
 
-abbrev list : List Given
+abbrev pub list : List Given
 list =
     symbol-row (symbol-of 0x0ff0 16)
     ∷ tree-rows root-row (inlinee-row ∷ [])
@@ -84,7 +84,7 @@ second-tree : TreeWell second-row []
 unfolding inlinees
 second-tree = record { first = refl; legal = tt; root = refl; others = empty _; rows = (second-well, empty _, tt, tt) }
 
-list-well : (g : Given) → g ∈ list → WellNested g
+pub list-well : (g : Given) → g ∈ list → WellNested g
 list-well = ∈-elim WellNested tt (∈-elim WellNested root-tree (∈-elim WellNested tt (∈-elim WellNested second-tree (∈-elim WellNested tt (∈-elim WellNested tt (∈-elim WellNested tt (empty _)))))))
 
 clear-low : (q : FunctionRow) (y : SymbolRow) → y .address ≤ q .address → y .address + y .size ≤ q .address → SymbolClear q y
@@ -93,7 +93,7 @@ clear-low q y h k = record { start = λ c. inl h; end = λ c z m. inl k }
 clear-high : (q : FunctionRow) (y : SymbolRow) → q .address + q .size ≤ y .address → SymbolClear q y
 clear-high q y h = record { start = λ c. inr h; end = λ c z m. inr (omega arith) }
 
-list-separate : AllSeparate list
+pub list-separate : AllSeparate list
 list-separate = (
   ∈-elim (Separate (symbol-row (symbol-of 0x0ff0 16))) (clear-low root-row (symbol-of 0x0ff0 16) (omega arith) (omega arith))
       (∈-elim (Separate (symbol-row (symbol-of 0x0ff0 16))) tt
@@ -125,7 +125,14 @@ list-separate = (
   ),
 )
 
--- what the theorem gives of it, and what the tables give by computation
+-- the worked file's call alone meets them too
+pub worked-well : (g : Given) → g ∈ worked → WellNested g
+worked-well = ∈-elim WellNested root-tree (empty _)
+
+pub worked-separate : AllSeparate worked
+worked-separate = (empty _, tt)
+
+-- what the theorem gives of the list, and what the tables give by computation
 list-1003 : frames-at (converted plain-setup list) 0x1003 ≡ frame pos MAX 50 prs ∷ frame trk 0x1000 10 ars ∷ []
 unfolding nested-at line-at utf8 chars charLen UTF8-char fits within
 list-1003 = demand plain-setup list list-well list-separate root-row (inlinee-row ∷ []) (there here) 0x1003 (λ e. let bad : _≡_ {A = ℕ} 0 1 = cc in omega arith) .0

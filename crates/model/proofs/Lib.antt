@@ -19,8 +19,11 @@ pub mod Couple
 pub mod Always
 pub mod Compact
 pub mod Grown
+pub mod Encoded
 pub mod Capped
 pub mod Written
+pub mod FileRows
+pub mod Sections
 pub mod Worked
 pub mod Instance
 pub mod Corners

@@ -29,9 +29,6 @@ module _ {F : Type 0} where
   abbrev pub Keeps : Option (List F) → Option (List F) → Type 0
   Keeps o o′ = (f : F) (w : List F) → o ≡ some (f ∷ w) → o′ ≡ some (f ∷ w)
 
-  pub keeps-eq : {o o′ : Option (List F)} → o′ ≡ o → Keeps o o′
-  keeps-eq e f w h = e ∙ h
-
   pub insert-same : (a : ℕ) (v : List F) (m : Map F) → insert a v m a ≡ some v
   unfolding insert
   insert-same a v m = rw (eq-eqb a a refl)

@@ -469,9 +469,5 @@ module _ {Q N Y R P L C S F : Type 0} (I : Input Q N Y) (M : Machine Q N Y R P L
           rows-are (map (deep-of I T) rs) (steps-of 1 rs (g .steps)) (deeper-of rs (g .deeper)) (row-of I T q) in
           subst (λ (t : List (Deep (Row F))). (stack ≡ reverse (items (covering x t))) × (depths (covering x t) ≡ upto 0 (length (covering x t)))) e (p .stack-is, p .depths-are)
 
-      -- and the writer's sentinel changes nothing
-      pub machine-finish : finishM I M s ≡ s
-      machine-finish = finish-is s (done .good)
-
       pub machine-good : K .Good s
       machine-good = done .good

@@ -2,16 +2,14 @@
 use mathlib.Core.Path.{_≡_, refl, sym, _∙_, subst}
 use mathlib.Core.Option.{none, some}
 use mathlib.Core.Logic.{inl, inr, _≢_, ⊎-elim}
-use mathlib.Core.List.{List, [], _∷_, reverse}
+use mathlib.Core.List.{List, [], _∷_}
 use Prim.Native.Nat.{ℕ, _≤_, _<_}
 use native.Mathlib.Omega.{arith}
-use lib.ListN.{length}
-use Rattle.model.specs.Basics.{_∈_, here, there, Covers, items, depths, upto}
-use Rattle.model.proofs.Ideal.{Line, Row, Forest, nil, row, Op, tree, symbol, idle, Map, empty, look, convert-root, convert-symbol, convert-op, run, WellTree, Well, NotInside, Clear, ClearOps, AllClear, stack-at, preorder, covering}
+use Rattle.model.specs.Basics.{_∈_, here, there, Covers}
+use Rattle.model.proofs.Ideal.{Line, Row, Forest, nil, row, Op, tree, symbol, idle, Map, empty, look, convert-root, convert-symbol, convert-op, run, WellTree, Well, NotInside, Clear, ClearOps, AllClear, stack-at}
 use Rattle.model.proofs.Maps.{Keeps, soft-other, soft-keeps, end-other, end-keeps, Sees, sees-look, sees-keep, Solid, solid-mid}
 use Rattle.model.proofs.Spans.{∈-cases, ∈-map, asc-from}
 use Rattle.model.proofs.Trees.{stack-row, root-off, root-out, root-sees}
-use Rattle.model.proofs.Stacks.{plain-tree, root-covers}
 
 module _ {F : Type 0} where
   apart-key : (r : Row F) (a k : ℕ) → NotInside a r → r .entry < k → k < r .stop → k ≢ a
@@ -73,15 +71,3 @@ module _ {F : Type 0} where
     -- THE THEOREM
     pub demand : (os : List (Op F)) → ((o : Op F) → o ∈ os → Well o) → AllClear os → tree r kids ∈ os → look (run os empty) x ≡ stack-at (row r kids nil) x
     demand os w c j = sees-look (run-sees os empty w c j (λ k h g. refl))
-
-    -- the same, said plainly: the frames of the rows that have a line covering x, deepest first, and their depths are 0, 1, ..
-    pub demand-plain : (os : List (Op F)) → ((o : Op F) → o ∈ os → Well o) → AllClear os → tree r kids ∈ os
-        → let found = covering x (preorder 0 (row r kids nil)) in (look (run os empty) x ≡ reverse (items found)) × (depths found ≡ upto 0 (length found))
-    demand-plain os w c j =
-        let p = plain-tree x r kids (w (tree r kids) j) l i cov in
-        (demand os w c j ∙ p .stack-is, p .depths-are)
-
-  -- THE THEOREM FOR ANY ROW: wherever a line of some row of the tree covers x
-  pub demand-any : (r : Row F) (kids : Forest F) (x : ℕ) (os : List (Op F)) → ((o : Op F) → o ∈ os → Well o) → AllClear os → tree r kids ∈ os
-      → let found = covering x (preorder 0 (row r kids nil)) in found ≢ [] → (look (run os empty) x ≡ reverse (items found)) × (depths found ≡ upto 0 (length found))
-  demand-any r kids x os w c j h = let (l, i, cov) = root-covers x r kids (w (tree r kids) j) h in demand-plain r kids l i x cov os w c j

@@ -19,13 +19,16 @@ use Rattle.model.specs.Written.{place-range, by-start, over, written, lo
 use Rattle.model.proofs.Maps.{lt-or-ge, eq-or-ne}
 use Rattle.model.proofs.Spans.{∈-elim}
 use Rattle.model.proofs.Intern.{At, at-length, at-elem}
-use Rattle.model.proofs.Chains.{Larger, Chain, off, top, deeper, chain-larger, Down, CallsDown, frame-found, frames-found, range-here, range-there, best-is, best-answers, Answers}
+use Rattle.model.proofs.Chains.{Larger, Chain, off, top, deeper, chain-larger, Down, CallsDown, frame-found, frames-found, range-here, range-there, best-is, best-answers, Answers, Unique}
 use Rattle.model.proofs.Demand.{demand}
 use Rattle.model.proofs.Always.{always, frames-short}
 
 -- ── In order of start ──
 
 module _ {L : Type 0} where
+  none-some : {A : Type 0} {l : L} → _≡_ {A = Option L} none (some l) → A
+  none-some e = let bad : _≡_ {A = ℕ} 0 1 = cc in absurd (omega arith)
+
   -- strictly ascending, from b on
   abbrev pub Sorted : ℕ → List (Entry L) → Type 0
   Sorted b [] = Unit {0}
@@ -90,14 +93,27 @@ module _ {L : Type 0} where
   by-start-sorted [] = tt
   by-start-sorted (e ∷ es) = placed-sorted 0 (e .key) (e .value) (by-start es) (omega arith) (by-start-sorted es)
 
+  placed-length : (k : ℕ) (v : L) (t : List (Entry L)) → range-at t k ≡ none → length (place-range k v t) ≡ suc (length t)
+  unfolding place-range
+  placed-length k v [] h = refl
+  placed-length k v (e ∷ es) h = go (lt-or-ge k (e .key)) (eq-or-ne k (e .key)) (placed-length k v es)
+    where
+      go : (k < e .key) ⊎ (e .key ≤ k) → (k ≡ e .key) ⊎ (k ≢ e .key) → (range-at es k ≡ none → length (place-range k v es) ≡ suc (length es)) → length (place-range k v (e ∷ es)) ≡ suc (suc (length es))
+      go (inl g) z ih = rw (place-before k v e es g)
+      go (inr g) (inl z) ih = none-some (sym h ∙ range-here e es k z)
+      go (inr g) (inr z) ih = rw (place-after k v e es (omega arith)) (ap suc (ih (sym (range-there e es k z) ∙ h)))
+
+  -- as many as there were, where each start stands once
+  pub by-start-length : (t : List (Entry L)) → Unique t → length (by-start t) ≡ length t
+  unfolding by-start
+  by-start-length [] u = refl
+  by-start-length (e ∷ es) u = placed-length (e .key) (e .value) (by-start es) (by-start-same es (e .key) ∙ u .0) ∙ ap suc (by-start-length es (u .1))
+
   -- below the first start there is none
   pub none-low : (b : ℕ) (t : List (Entry L)) → Sorted b t → (x : ℕ) → x < b → range-at t x ≡ none
   unfolding range-at
   none-low b [] s x h = refl
   none-low b (e ∷ es) s x h = range-there e es x (omega (arith, s .0)) ∙ none-low (suc (e .key)) es (s .1) x (omega (arith, s .0))
-
-  none-some : {A : Type 0} {l : L} → _≡_ {A = Option L} none (some l) → A
-  none-some e = let bad : _≡_ {A = ℕ} 0 1 = cc in absurd (omega arith)
 
   some-eq : (p q : L) → _≡_ {A = Option L} (some p) (some q) → p ≡ q
   some-eq p q r = cc

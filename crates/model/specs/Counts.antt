@@ -1,19 +1,16 @@
 -- What tables need of the memory that is lent for them: rows and text bytes; and 17's condition.
-use mathlib.Core.Bool.{Bool, true, false, _&&_}
+use mathlib.Core.Bool.{Bool, _&&_}
 use mathlib.Core.List.{List, [], _∷_}
-use Prim.Native.Nat.{ℕ, zero, suc, _+_, _/_}
+use Prim.Native.Nat.{ℕ, _+_, _≤_}
 use lib.ListN.{length, take}
-use lib.Dec.{ltb, leb}
+use lib.Dec.{leb}
+use Rattle.text.specs.Leb128.{encoded}
 use Rattle.model.specs.Rows.{Text}
 use Rattle.model.specs.Converter.{Tables}
 
--- "shortest unsigned LEB128 length, then bytes": the bytes of the length n, with k + 1 bytes at most
-unfoldable pub leb-bytes : ℕ → ℕ → ℕ
-leb-bytes zero n = 1
-leb-bytes (suc k) n = elim (ltb n 128) [ true ↦ 1 | false ↦ suc (leb-bytes k (n / 128)) ]
-
+-- "shortest unsigned LEB128 length, then bytes"
 unfoldable pub text-size : Text → ℕ
-text-size t = leb-bytes 9 (length t) + length t
+text-size t = length (encoded (length t)) + length t
 
 abbrev pub text-bytes : List Text → ℕ
 text-bytes [] = 0
@@ -23,7 +20,7 @@ text-bytes (t ∷ ts) = text-size t + text-bytes ts
 abbrev pub text-offset : List Text → ℕ → ℕ
 text-offset ts i = text-bytes (take i ts)
 
--- "Capacity is the lent length"; the index of texts is a table too
+-- "A table's capacity is its lent length": rows, and bytes of texts; the index of the texts is a table too
 pub record Capacities : Type 0 where
   pub texts : ℕ
   pub bytes : ℕ
@@ -32,7 +29,16 @@ pub record Capacities : Type 0 where
   pub calls : ℕ
   pub ranges : ℕ
 
--- what 17 asks: "a table would need more rows or bytes after this call than its capacity" is `false`
+-- "at most 16,777,216 rows (text: 268,435,456 bytes)"
+pub record Lent (K : Capacities) : Type 0 where
+  pub texts : K .texts ≤ 16777216
+  pub bytes : K .bytes ≤ 268435456
+  pub files : K .files ≤ 16777216
+  pub functions : K .functions ≤ 16777216
+  pub calls : K .calls ≤ 16777216
+  pub ranges : K .ranges ≤ 16777216
+
+-- 17 is "a table would need more rows or bytes after this call than its capacity": this is `false` then
 module _ (K : Capacities) where
   unfoldable pub fits? : Tables → Bool
   fits? s =

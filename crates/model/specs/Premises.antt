@@ -5,7 +5,7 @@ use mathlib.Core.Option.{Option, none, some}
 use mathlib.Core.Logic.{_⊎_}
 use mathlib.Core.List.{List, [], _∷_, _++_, map}
 use Prim.Native.Nat.{ℕ, suc, _+_, _≤_, _<_}
-use lib.Dec.{leb, eqb}
+use lib.Dec.{ltb, leb, eqb}
 use Rattle.model.specs.Basics.{_∈_, Span, Asc, Apart, coversb, Deep}
 use Rattle.model.specs.Rows.{MAX, Text, LineRow, FunctionRow, SymbolRow, Given, tree-rows, symbol-row, line-size}
 use Rattle.model.specs.Converter.{Setup, function-name, line-texts, entry-of}
@@ -114,3 +114,10 @@ module _ (X : Setup) where
   unfoldable pub nested-at : ℕ → List FunctionRow → List (Deep Frame)
   nested-at x [] = []
   nested-at x (q ∷ rs) = elim (line-at (q .lines) x) [ none ↦ nested-at x rs | some n ↦ record { depth = q .depth; item = wanted q n } ∷ nested-at x rs ]
+
+  -- the same by recursion on the tree: of the rows at depth d, up to the first that is less deep, the one that has a line covering x, below what its inlinees give
+  unfoldable pub stack-of : ℕ → ℕ → List FunctionRow → List Frame
+  stack-of x d [] = []
+  stack-of x d (q ∷ rs) =
+      cond (ltb (q .depth) d) []
+      (cond (eqb (q .depth) d) (elim (line-at (q .lines) x) [ none ↦ stack-of x d rs | some n ↦ stack-of x (suc d) rs ++ (wanted q n ∷ []) ]) (stack-of x d rs))

@@ -1,11 +1,20 @@
--- The branches of `undecorated`, one equation each, in the order of the code.
+-- The branches of `parses` and of `undecorated`, one equation each, in the order of the code.
 use Prim.Native.Nat.{ℕ}
 use mathlib.Core.Path.{_≡_}
 use mathlib.Core.List.{List, [], _∷_}
 use mathlib.Core.Bool.{true, false}
 use mathlib.Core.Option.{none, some}
 use lib.ListN.{take, drop}
-use Rattle.names.specs.Names.{starts-with, contains, cut, prefixed, undecorated}
+use Rattle.names.specs.Names.{starts-with, contains, number, parses, cut, prefixed, undecorated}
+
+module _ (s : List ℕ) where
+  pub plus : starts-with (43 ∷ []) s ≡ true → parses s ≡ number (drop 1 s)
+  unfolding parses
+  plus h = rw h
+
+  pub no-plus : starts-with (43 ∷ []) s ≡ false → parses s ≡ number s
+  unfolding parses
+  no-plus h = rw h
 
 module _ (s : List ℕ) where
   pub mangled : starts-with (63 ∷ []) s ≡ true → undecorated s ≡ s

@@ -1,3 +1,5 @@
 pub mod Laws
 pub mod Sizes
 pub mod Branches
+pub mod Parts
+pub mod Kept

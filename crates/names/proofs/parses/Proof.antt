@@ -1,7 +1,7 @@
 -- `parses` passes a plus over; where it stands the name has a byte.
 use mathlib.Core.Path.{sym, _∙_}
-use Rattle.names.specs.Names.{parses}
 use Rattle.names.proofs.Laws.{rest, starts-within}
+use Rattle.names.proofs.Branches.{plus, no-plus}
 use borrow.Author.Needs.{needs}
 use Rattle.names.proofs.parses.Statement.{statement}
 use Rattle.names.proofs.parses.Tie as tie
@@ -25,15 +25,15 @@ number-requires : tie.Need-number-requires
 number-requires c κs = search needs
 
 returns : tie.Need-returns
-unfolding parses
-returns c = rw (sym (c .before .before .before .starts-with .ensures) ∙ c .before .before .if1 .taken, ← rest 1 (c .before .before .before .before .before .before .args .s .now)) (c .number .ensures)
+returns c =
+    let s = c .before .before .before .before .before .before .args .s .now in
+    rw (rest 1 s) at (c .number .ensures) ∙ sym (plus s (sym (c .before .before .before .starts-with .ensures) ∙ c .before .before .if1 .taken))
 
 number-requires-2 : tie.Need-number-requires-2
 number-requires-2 c κs = search needs
 
 returns-2 : tie.Need-returns-2
-unfolding parses
-returns-2 c = rw (sym (c .before .before .starts-with .ensures) ∙ c .before .if1 .left) (c .number2 .ensures)
+returns-2 c = c .number2 .ensures ∙ sym (no-plus _ (sym (c .before .before .starts-with .ensures) ∙ c .before .if1 .left))
 
 pub parses-spec : {M : Type 1} → statement M
 parses-spec =
