@@ -2,7 +2,7 @@
 use Prim.Native.Nat.{ℕ, zero, suc, _+_, _*_, _<_, _≤_}
 use mathlib.Core.Path.{_≡_, refl, sym, _∙_, ap, ap₂}
 use mathlib.Core.List.{List, [], _∷_, _++_}
-use mathlib.Core.Bool.{Bool, true, false, cond}
+use mathlib.Core.Bool.{Bool, true, false, _&&_}
 use native.Mathlib.Omega.{arith}
 use native.Mathlib.Numerals.{add-one}
 use native.Mathlib.Nat.{add-zero, add-suc, suc-add}
@@ -19,13 +19,13 @@ pub no-ft : false ≡ true → ⊥
 no-ft e = let z : _≡_ {A = ℕ} 0 1 = cc in omega arith
 
 -- ---- sameRow is equality
-words-eq : (xs ys : List ℕ) → sameWords xs ys ≡ true → xs ≡ ys
+pub words-eq : (xs ys : List ℕ) → sameWords xs ys ≡ true → xs ≡ ys
 words-eq [] [] e = refl
 words-eq [] (y ∷ ys) e = absurd (no-ft e)
 words-eq (x ∷ xs) [] e = absurd (no-ft e)
 words-eq (x ∷ xs) (y ∷ ys) e = go (eqb x y) refl e (λ f. words-eq xs ys f)
   where
-    go : (b : Bool) → eqb x y ≡ b → cond b (sameWords xs ys) false ≡ true → (sameWords xs ys ≡ true → xs ≡ ys) → x ∷ xs ≡ y ∷ ys
+    go : (b : Bool) → eqb x y ≡ b → b && sameWords xs ys ≡ true → (sameWords xs ys ≡ true → xs ≡ ys) → x ∷ xs ≡ y ∷ ys
     go true f e ih = ap₂ (λ (z : ℕ) (l : List ℕ). z ∷ l) (eqb-true x y f) (ih e)
     go false f e ih = absurd (no-ft e)
 
@@ -33,13 +33,23 @@ pub same-eq : (x y : Row) → sameRow x y ≡ true → x ≡ y
 unfolding sameRow
 same-eq x y e = ap rowOf (words-eq (rowWords x) (rowWords y) e)
 
-words-refl : (xs : List ℕ) → sameWords xs xs ≡ true
+pub words-refl : (xs : List ℕ) → sameWords xs xs ≡ true
 words-refl [] = refl
 words-refl (x ∷ xs) = rw (eq-eqb x x refl) (words-refl xs)
 
 pub same-refl : (x : Row) → sameRow x x ≡ true
 unfolding sameRow
 same-refl x = words-refl (rowWords x)
+
+pub words-short : (xs ys : List ℕ) → length xs < length ys → sameWords xs ys ≡ false
+words-short [] [] h = absurd (omega arith)
+words-short [] (y ∷ ys) h = refl
+words-short (x ∷ xs) [] h = refl
+words-short (x ∷ xs) (y ∷ ys) h = go (eqb x y) (words-short xs ys (omega arith))
+  where
+    go : (b : Bool) → sameWords xs ys ≡ false → (b && sameWords xs ys) ≡ false
+    go true e = e
+    go false e = refl
 
 -- by the first word alone
 pub key-one : (x : Row) → keyOf 1 x ≡ startRow (x .a)
@@ -50,7 +60,7 @@ pub same-one : (x q : Row) → sameKey 1 x q ≡ eqb (x .a) (q .a)
 unfolding sameRow
 same-one x q = rw (key-one x, key-one q) (go (eqb (x .a) (q .a)))
   where
-    go : (b : Bool) → cond b true false ≡ b
+    go : (b : Bool) → b && true ≡ b
     go true = refl
     go false = refl
 

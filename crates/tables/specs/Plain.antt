@@ -9,7 +9,7 @@ use Rattle.tables.specs.Table.{rowAt, linkAt, headAt, keyOf, sameRow, ha
 use Rattle.tables.specs.Ranges.{putOf, change, rangeRow}
 use Rattle.tables.specs.declared.Row.{Row}
 use Rattle.tables.specs.declared.Inserted.{Inserted}
-use Rattle.tables.specs.declared.ranges.SourceLocation.{SourceLocation}
+use Rattle.raw.specs.declared.SourceLocation.{SourceLocation}
 use Rattle.tables.specs.declared.ranges.Found.{Found}
 use Rattle.tables.specs.declared.ranges.Found.the-variants.{Absent, At}
 use Rattle.tables.specs.declared.ranges.Was.{Was}

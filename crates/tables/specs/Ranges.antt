@@ -7,7 +7,7 @@ use lib.ListN.{length}
 use Rattle.tables.specs.Table.{rowAt, setRow, sameRow, capacityOf, lookupOf, insertOf, Left, left}
 use Rattle.tables.specs.declared.Row.{Row}
 use Rattle.tables.specs.declared.Inserted.{Inserted}
-use Rattle.tables.specs.declared.ranges.SourceLocation.{SourceLocation}
+use Rattle.raw.specs.declared.SourceLocation.{SourceLocation}
 use Rattle.tables.specs.declared.ranges.Found.{Found}
 use Rattle.tables.specs.declared.ranges.Found.the-variants.{Absent, At}
 use Rattle.tables.specs.declared.ranges.Was.{Was}

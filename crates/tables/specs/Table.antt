@@ -72,7 +72,7 @@ abbrev pub sameWords : List ℕ → List ℕ → Bool
 sameWords [] [] = true
 sameWords [] (y ∷ ys) = false
 sameWords (x ∷ xs) [] = false
-sameWords (x ∷ xs) (y ∷ ys) = cond (eqb x y) (sameWords xs ys) false
+sameWords (x ∷ xs) (y ∷ ys) = eqb x y && sameWords xs ys
 
 unfoldable pub sameRow : Row → Row → Bool
 sameRow x y = sameWords (rowWords x) (rowWords y)

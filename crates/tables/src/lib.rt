@@ -11,6 +11,7 @@ ghost use Rattle.tables.specs.Table.{rowAt, setRow, keyOf, sameRow, capa
 
 pub mod index_set;
 pub mod ranges;
+pub mod strings;
 
 // The six words of a row.
 pub struct Row {

@@ -1,17 +1,11 @@
 // A BTreeMap from starts to source locations, by exact key only: rows in order of insertion, found by their first word.
 use crate::Row;
+use raw::SourceLocation;
 ghost use mathlib.Core.Path.{_≡_};
 ghost use Rattle.tables.specs.Table.{left};
 ghost use Rattle.tables.specs.Ranges.{getOf, putOf, replaceOf, rangeRow};
 
-// A location: words b to e of a row.
-pub struct SourceLocation {
-    pub file_idx: u32,
-    pub line: u32,
-    pub function_idx: u32,
-    pub inlined_into_idx: u32,
-}
-
+// What a start holds: words b to e of its row.
 pub enum Found {
     Absent,
     At(SourceLocation),
