@@ -1,0 +1,40 @@
+-- `function_at` meets its contract: a row that is not inside is cut out, with zeros, and read.
+use mathlib.Core.Path.{sym, _∙_}
+use borrow.Author.Tests.{leb-true}
+use Rattle.raw.proofs.Rows.{function-cut}
+use borrow.Author.Needs.{needs}
+use Rattle.raw.proofs.function_at.Statement.{statement}
+use Rattle.raw.proofs.function_at.Tie as tie
+
+inside-requires : tie.Need-inside-requires
+inside-requires c κs = search needs
+
+load-function-requires : tie.Need-load-function-requires
+load-function-requires c κs = leb-true _ _ (sym (c .before .inside .ensures) ∙ c .if1 .taken)
+
+returns : tie.Need-returns
+returns c = search needs
+
+cut-requires : tie.Need-cut-requires
+cut-requires c κs = search needs
+
+slice-aggregate-load-function : tie.Need-slice-aggregate-load-function
+slice-aggregate-load-function c = search needs
+
+load-function-requires-2 : tie.Need-load-function-requires-2
+load-function-requires-2 c κs = search needs
+
+returns-2 : tie.Need-returns-2
+returns-2 c = c .load-function2 .ensures ∙ rw (c .before .before .cut .ensures) (function-cut (c .before .before .before .before .before .before .args .s .now) (c .before .before .before .before .before .before .args .at))
+
+pub function-at-spec : {M : Type 1} → statement M
+function-at-spec =
+    tie.close
+    (tie.spec
+    inside-requires
+    load-function-requires
+    returns
+    cut-requires
+    slice-aggregate-load-function
+    load-function-requires-2
+    returns-2)
