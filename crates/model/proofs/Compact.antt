@@ -11,6 +11,7 @@ use lib.ListN.{length}
 use lib.Dec.{ltb, leb, eqb}
 use Rattle.text.specs.Utf8.{utf8}
 use Rattle.names.specs.Names.{undecorated}
+use Rattle.names.proofs.Kept.{utf8-kept}
 use borrow.Author.Tests.{eq-eqb, ltb-false, leb-true}
 use Rattle.model.specs.Basics.{_∈_, Deep, intern}
 use Rattle.model.specs.Rows.{MAX, Text, LineRow, FunctionRow, SymbolRow, Given, tree-rows, symbol-row, skipped, function-end, symbol-skipped, symbol-end}
@@ -157,10 +158,9 @@ compact-nothing = record {
   ranges-low = λ k l e. let bad : _≡_ {A = ℕ} 0 1 = cc in absurd (omega arith);
 }
 
--- undecorating keeps UTF-8: a lemma of the names
-module _ (keeps : (t : Text) → utf8 t ≡ true → utf8 (undecorated t) ≡ true) (X : Setup) where
+module _ (X : Setup) where
   named-ok : (b : Bool) (t : Text) → utf8 t ≡ true → utf8 (cond b (undecorated t) t) ≡ true
-  named-ok true t h = keeps t h
+  named-ok true t h = utf8-kept t h
   named-ok false t h = h
 
   directory-ok : (q : FunctionRow) → Storable (directory-of q)

@@ -9,13 +9,11 @@ use Prim.Native.Nat.{ℕ, zero, suc, _+_, _^_, _≤_, _<_}
 use native.Mathlib.Omega.{arith}
 use lib.ListN.{length, take, drop, getD, getElem?, length-append, length-map}
 use Rattle.text.specs.Leb128.{encoded}
-use Rattle.text.specs.Utf8.{utf8}
 use Rattle.text.specs.Texts.{read-text, bytes-of, text-part}
 use Rattle.text.specs.declared.strings.Text as text-type
 use Rattle.text.specs.declared.strings.Text.the-variants as text
 use Rattle.text.proofs.Leb128Laws.{lt-or-ge, length-last, length-more, decoded-past}
 use Rattle.text.proofs.TextLaws.{read-stored, part-stored, absent-prefix}
-use Rattle.names.specs.Names.{undecorated}
 use Rattle.model.specs.Basics.{_∈_, Entry}
 use Rattle.model.specs.Rows.{MAX, Text, Given}
 use Rattle.model.specs.Converter.{Setup, File, Function, Location, nowhere, at, Tables, range-at, converted}
@@ -27,7 +25,7 @@ use Rattle.model.proofs.Intern.{At, at-append, at-map}
 use Rattle.model.proofs.Chains.{at-get, CallsDown, range-here, range-there}
 use Rattle.model.proofs.Always.{Within, InTables, starts-unique, callers-earlier, calls-within, ranges-within, names-within, files-within}
 use Rattle.model.proofs.Compact.{Low, Texts, Compact, GivenFits, always-compact}
-use Rattle.model.proofs.Capped.{Fits, needs}
+use Rattle.model.proofs.Grown.{Fits, needs}
 use Rattle.model.proofs.Written.{Sorted, by-start-same, by-start-sorted, by-start-length}
 
 -- ── The tables ──
@@ -71,8 +69,7 @@ in-tables : (s : Tables) (r : List (Entry Location)) (l : Location) → InTables
 in-tables s r nowhere h = h
 in-tables s r (at f n i c) h = h
 
--- undecorating keeps UTF-8: a lemma of the names
-module _ (keeps : (t : Text) → utf8 t ≡ true → utf8 (undecorated t) ≡ true) (X : Setup) (gs : List Given) (fitting : (g : Given) → g ∈ gs → GivenFits g) (K : Capacities) (lent : Lent K) (room : fits? K (converted X gs) ≡ true) where
+module _ (X : Setup) (gs : List Given) (fitting : (g : Given) → g ∈ gs → GivenFits g) (K : Capacities) (lent : Lent K) (room : fits? K (converted X gs) ≡ true) where
   abbrev s : Tables
   s = converted X gs
 
@@ -86,7 +83,7 @@ module _ (keeps : (t : Text) → utf8 t ≡ true → utf8 (undecorated t) ≡ tr
   pub written-in-file : InFile (written s)
   written-in-file =
       let n : Fits K s = needs K s room in
-      let c : Compact s = always-compact keeps X gs fitting in
+      let c : Compact s = always-compact X gs fitting in
       record {
         few-bytes = omega (arith, n .bytes, lent .bytes);
         few-texts = omega (arith, n .texts, lent .texts);

@@ -19,6 +19,7 @@ pub mod Couple
 pub mod Always
 pub mod Compact
 pub mod Grown
+pub mod Encoded
 pub mod Capped
 pub mod Written
 pub mod FileRows

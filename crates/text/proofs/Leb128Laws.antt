@@ -1,20 +1,20 @@
 -- LEB128: the standard's algorithm gives the shortest form of a number; decoding gives back what it encoded, and accepts exactly
 -- the well-formed sequences of at most ten bytes and 64 bits. Assumes nothing.
-use Prim.Native.Nat.{ℕ, zero, suc, _+_, _-_, _*_, _/_, _%_, _^_, _≤_, _<_}
-use mathlib.Core.Path.{_≡_, refl, sym, ap, _∙_}
+use Prim.Native.Nat.{ℕ, zero, suc, _+_, _-_, _/_, _%_, _^_, _≤_, _<_}
+use mathlib.Core.Path.{_≡_, refl, ap}
 use mathlib.Core.Logic.{_⊎_, inl, inr, ⊎-elim, _↔_}
 use mathlib.Core.List.{List, [], _∷_, _++_}
-use mathlib.Core.Bool.{Bool, true, false, cond, _&&_, and-false}
-use native.Mathlib.Nat.{div-lt-iff-lt-mul, pow-suc, pow-le-pow-right, mul-add, mul-assoc, mul-le-mul-left, add-assoc, le-refl}
+use mathlib.Core.Bool.{Bool, true, false, cond, _&&_, false≢true}
+use native.Mathlib.Nat.{div-lt-iff-lt-mul, pow-suc, le-refl}
 use native.Mathlib.Numerals.{add-one}
 use native.Mathlib.Omega.{arith}
 use lib.Dec.{ltb, leb, lit<}
-use lib.ListN.{length, drop, getD, set, drop-of-length-le}
+use lib.ListN.{length, drop, set, drop-of-length-le}
 use lib.Pow.{areBytes}
-use lib.Seq.{drop-at, drop-cons, sets}
+use lib.Seq.{drop-at, sets}
 use borrow.Author.Tests.{ltb-true, ltb-false, leb-true, lt-ltb, le-ltb, le-leb, lt-leb}
+use Rattle.text.proofs.Utf8Steps.{and-left, and-right}
 use Rattle.text.specs.Leb128.{leb-value, well-formed, encoded-in, encoded, leb-prefix, number, decoded, Accepted, written, wrote}
-use Rattle.text.specs.declared.leb128.Leb.{Leb}
 use Rattle.text.specs.declared.leb128.Leb.the-variants.{Absent, Number}
 
 pub lt-or-ge : (a b : ℕ) → (a < b) ⊎ (b ≤ a)
@@ -23,10 +23,6 @@ lt-or-ge a b = go (ltb a b) refl
     go : (t : Bool) → ltb a b ≡ t → (a < b) ⊎ (b ≤ a)
     go true e = inl (ltb-true a b e)
     go false e = inr (ltb-false a b e)
-
-and-both : (a b : Bool) → (a && b) ≡ true → (a ≡ true) × (b ≡ true)
-and-both true b e = (refl, e)
-and-both false b e = absurd (let z : _≡_ {A = ℕ} 0 1 = cc in omega arith)
 
 -- ---- the encoding
 
@@ -84,16 +80,16 @@ encoded-value = by-groups (λ v. leb-value (encoded v) ≡ v) (λ v h. rw (encod
 -- no sequence that means v is shorter
 pub shortest : (s : List ℕ) (v : ℕ) → well-formed s ≡ true → leb-value s ≡ v → length (encoded v) ≤ length s
 unfolding well-formed leb-value
-shortest [] v w e = absurd (let z : _≡_ {A = ℕ} 0 1 = cc in omega arith)
+shortest [] v w e = absurd (false≢true w)
 shortest (b ∷ []) v w e = rw (encoded-last v (omega arith)) (omega arith)
 shortest (b ∷ (c ∷ s)) v w e =
     ⊎-elim (λ h. rw (encoded-last v h) (omega arith))
-    (λ h. rw (encoded-more v h) (let r = shortest (c ∷ s) (v / 128) (and-both (leb 128 b) (well-formed (c ∷ s)) w .1) (omega arith) in omega arith)) (lt-or-ge v 128)
+    (λ h. rw (encoded-more v h) (let r = shortest (c ∷ s) (v / 128) (and-right (leb 128 b) (well-formed (c ∷ s)) w) (omega arith) in omega arith)) (lt-or-ge v 128)
 
 -- and of that length there is no other
 pub shortest-only : (s : List ℕ) (v : ℕ) → areBytes s ≡ true → well-formed s ≡ true → leb-value s ≡ v → length s ≡ length (encoded v) → s ≡ encoded v
 unfolding well-formed leb-value
-shortest-only [] v a w e l = absurd (let z : _≡_ {A = ℕ} 0 1 = cc in omega arith)
+shortest-only [] v a w e l = absurd (false≢true w)
 shortest-only (b ∷ []) v a w e l = let h = ltb-true b 128 w in let g : b ≡ v = omega arith in rw (encoded-last v (omega arith), g)
 shortest-only (b ∷ (c ∷ s)) v a w e l = go (lt-or-ge v 128) (shortest-only (c ∷ s) (v / 128))
   where
@@ -103,12 +99,10 @@ shortest-only (b ∷ (c ∷ s)) v a w e l = go (lt-or-ge v 128) (shortest-only (
     go : (v < 128) ⊎ (128 ≤ v) → tail (v / 128) → b ∷ (c ∷ s) ≡ encoded v
     go (inl h) r = absurd (let k = rw (encoded-last v h) at l in omega arith)
     go (inr h) r =
-        let ab = and-both (ltb b 256) (areBytes (c ∷ s)) a in
-        let wb = and-both (leb 128 b) (well-formed (c ∷ s)) w in
-        let b₀ = ltb-true b 256 (ab .0) in
-        let b₁ = leb-true 128 b (wb .0) in
+        let b₀ = ltb-true b 256 (and-left (ltb b 256) (areBytes (c ∷ s)) a) in
+        let b₁ = leb-true 128 b (and-left (leb 128 b) (well-formed (c ∷ s)) w) in
         let k = rw (encoded-more v h) at l in
-        let t : c ∷ s ≡ encoded (v / 128) = r (ab .1) (wb .1) (omega arith) (omega arith) in
+        let t : c ∷ s ≡ encoded (v / 128) = r (and-right (ltb b 256) (areBytes (c ∷ s)) a) (and-right (leb 128 b) (well-formed (c ∷ s)) w) (omega arith) (omega arith) in
         let hd : b ≡ v % 128 + 128 = omega arith in
         rw (encoded-more v h, ← t, hd)
 
@@ -149,12 +143,11 @@ wrote-none s at v n e h = rw (lt-leb (at + length (encoded v)) (length s) (omega
 -- a well-formed sequence is all that a number takes, whatever follows
 prefix-formed : (p q : List ℕ) → well-formed p ≡ true → leb-prefix (p ++ q) ≡ p
 unfolding well-formed leb-prefix
-prefix-formed [] q w = absurd (let z : _≡_ {A = ℕ} 0 1 = cc in omega arith)
+prefix-formed [] q w = absurd (false≢true w)
 prefix-formed (b ∷ []) q w = rw w
 prefix-formed (b ∷ (c ∷ s)) q w =
-    let wb = and-both (leb 128 b) (well-formed (c ∷ s)) w in
-    let h = leb-true 128 b (wb .0) in
-    rw (le-ltb b 128 h) (ap (λ t. b ∷ t) (prefix-formed (c ∷ s) q (wb .1)))
+    let h = leb-true 128 b (and-left (leb 128 b) (well-formed (c ∷ s)) w) in
+    rw (le-ltb b 128 h) (ap (λ t. b ∷ t) (prefix-formed (c ∷ s) q (and-right (leb 128 b) (well-formed (c ∷ s)) w)))
 
 -- it begins what it is taken of
 suffix : List ℕ → List ℕ

@@ -1,7 +1,6 @@
 -- Document 01's marked values M11 and M12, computed. Assumes nothing.
-use Prim.Native.Nat.{ℕ}
 use mathlib.Core.Path.{_≡_, refl}
-use mathlib.Core.List.{List, [], _∷_}
+use mathlib.Core.List.{[], _∷_}
 use mathlib.Core.Bool.{true, false}
 use Rattle.text.specs.Leb128.{encoded, encoded-in}
 use Rattle.text.specs.Utf8.{utf8, chars, charLen, fits, within, UTF8-char}

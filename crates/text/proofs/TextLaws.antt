@@ -1,8 +1,8 @@
 -- Texts: where a text that was read lies, and that a stored text reads back. Assumes nothing.
-use Prim.Native.Nat.{ℕ, suc, _+_, _-_, _^_, _≤_, _<_}
+use Prim.Native.Nat.{ℕ, _+_, _-_, _^_, _≤_, _<_}
 use mathlib.Core.Path.{_≡_, refl, sym, ap, _∙_}
 use mathlib.Core.List.{List, [], _∷_, _++_, append-assoc}
-use mathlib.Core.Bool.{Bool, true, false, cond, _&&_}
+use mathlib.Core.Bool.{Bool, true, false, cond, _&&_, false≢true}
 use native.Mathlib.Omega.{arith}
 use lib.Dec.{leb}
 use lib.ListN.{length, take, drop, length-append, length-drop}
@@ -13,14 +13,13 @@ use Rattle.text.specs.Utf8.{utf8}
 use Rattle.text.specs.Texts.{text-after, read-text, bytes-of, text-part}
 use Rattle.text.specs.declared.leb128.Leb.{Leb}
 use Rattle.text.specs.declared.leb128.Leb.the-variants as prefix
-use Rattle.text.specs.declared.strings.Text.{Text}
 use Rattle.text.specs.declared.strings.Text.the-variants.{Absent, At}
 use Rattle.text.proofs.Leb128Laws.{decoded-only, decoded-encoded}
 
 -- a well-formed sequence is not empty
 formed-length : (p : List ℕ) → well-formed p ≡ true → 0 < length p
 unfolding well-formed
-formed-length [] w = absurd (let z : _≡_ {A = ℕ} 0 1 = cc in omega arith)
+formed-length [] w = absurd (false≢true w)
 formed-length (b ∷ p) w = omega arith
 
 -- a prefix lies inside the section

@@ -2,7 +2,7 @@
 -- `ascii-cut`, `utf8-take-ascii`, `utf8-drop-ascii`, `utf8-after-ascii`.
 use Prim.Native.Nat.{ℕ, zero, suc, _+_, _*_, _-_, _/_, _%_, _<_, _≤_}
 use mathlib.Core.Path.{_≡_, refl, sym, _∙_, ap}
-use mathlib.Core.Bool.{Bool, true, false, cond, _&&_, _||_, false≢true}
+use mathlib.Core.Bool.{Bool, true, false, cond, _&&_, _||_, false≢true, and-false}
 use mathlib.Core.List.{List, [], _∷_, _++_, append-assoc}
 use mathlib.Core.Logic.{_⊎_, inl, inr, ⊎-elim}
 use native.Mathlib.Omega.{arith}
@@ -11,17 +11,8 @@ use lib.Dec.{leb, ltb}
 use lib.ListN.{length, getD, take, drop, length-drop, drop-of-length-le}
 use lib.Seq.{take-all, drop-append-le, drop-cons, split-at}
 use borrow.Author.Tests.{le-leb, lt-leb, leb-true, ltb-true, ltb-false}
-use Rattle.text.specs.Utf8.{Range, _to_, UTF8-tail, UTF8-char, within, fits, charLen, chars, utf8, scalar, encode, encodeAll, allScalar}
+use Rattle.text.specs.Utf8.{Range, _to_, UTF8-tail, UTF8-char, within, fits, charLen, utf8, scalar, encode, encodeAll, allScalar}
 use Rattle.text.proofs.Utf8Steps.{and-left, and-right, charLen-le, utf8-nil, utf8-none, utf8-char}
-
--- The cases of RFC 3629 that are often got wrong: a surrogate, D800, is not UTF-8, and the last character number, 10FFFF, is.
-pub surrogate : utf8 (0xED ∷ 0xA0 ∷ 0x80 ∷ []) ≡ false
-unfolding utf8 chars charLen UTF8-char fits within
-surrogate = refl
-
-pub last : utf8 (0xF4 ∷ 0x8F ∷ 0xBF ∷ 0xBF ∷ []) ≡ true
-unfolding utf8 chars charLen UTF8-char fits within
-last = refl
 
 below : (a b : ℕ) → a < b ⊎ b ≤ a
 below a b = go (ltb a b) refl
@@ -123,10 +114,6 @@ passed lo rows zero = true
 passed lo [] (suc k) = true
 passed lo ([] ∷ rows) (suc k) = false
 passed lo ((r ∷ rs) ∷ rows) (suc k) = ltb (r .hi) lo && passed lo rows k
-
-and-false : (a : Bool) → (a && false) ≡ false
-and-false true = refl
-and-false false = refl
 
 over : (r : Range) (a : ℕ) → r .hi < a → within r a ≡ false
 unfolding within

@@ -1,7 +1,7 @@
 -- How the definitions of specs/Utf8.antt go on: one range more, one alternative more, one char more.
 use Prim.Native.Nat.{ℕ, zero, suc, _<_, _≤_}
 use mathlib.Core.Path.{_≡_, refl, sym, _∙_}
-use mathlib.Core.Bool.{Bool, true, false, cond, _&&_, false≢true}
+use mathlib.Core.Bool.{Bool, true, false, cond, _&&_, false≢true, and-true, and-assoc}
 use mathlib.Core.List.{List, [], _∷_, _++_}
 use native.Mathlib.Omega.{arith}
 use lib.Dec.{leb·suc-suc, eqb·suc-zero}
@@ -13,14 +13,6 @@ use Rattle.text.specs.Utf8.{Range, UTF8-char, within, octetIn, fits, cha
 octet-suc : (b : ℕ) (s : List ℕ) (k : ℕ) (r : Range) → octetIn (b ∷ s) (suc k) r ≡ octetIn s k r
 unfolding octetIn
 octet-suc b s k r = rw (leb·suc-suc (suc k) (length s))
-
-and-true : (a : Bool) → (a && true) ≡ a
-and-true true = refl
-and-true false = refl
-
-and-assoc : (a b c : Bool) → (a && (b && c)) ≡ ((a && b) && c)
-and-assoc true b c = refl
-and-assoc false b c = refl
 
 pub and-left : (a b : Bool) → (a && b) ≡ true → a ≡ true
 and-left true b e = refl
@@ -35,7 +27,7 @@ unfolding fits octetIn
 fits-snoc [] r [] = refl
 fits-snoc [] r (b ∷ s) = rw (and-true (within r b), lt-ltb 0 (length (b ∷ s)) (omega arith))
 fits-snoc (q ∷ rs) r [] = refl
-fits-snoc (q ∷ rs) r (b ∷ s) = rw (fits-snoc rs r s, and-assoc (within q b), octet-suc b s (length rs) r)
+fits-snoc (q ∷ rs) r (b ∷ s) = rw (fits-snoc rs r s, octet-suc b s (length rs) r) (sym (and-assoc (within q b) (fits rs s) (octetIn s (length rs) r)))
 
 pub fits-one : (r : Range) (s : List ℕ) → fits (r ∷ []) s ≡ octetIn s 0 r
 unfolding fits

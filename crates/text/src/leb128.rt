@@ -78,10 +78,10 @@ pub fn read_leb128(s: &[u8], at: usize) -> Leb
         }
         let byte = wide(s[at + i]);
         if byte < 128 {
-            return Leb::Number {
-                value: value + unit * byte,
-                len: i + 1,
-            };
+            let last = unit * byte;
+            let whole = value + last;
+            let len = i + 1;
+            return Leb::Number { value: whole, len };
         }
         value = value + unit * (byte - 128);
         unit = unit * 128;
@@ -95,8 +95,10 @@ pub fn read_leb128(s: &[u8], at: usize) -> Leb
     if 1 < tenth {
         return Leb::Absent;
     }
+    let high = unit * tenth;
+    let sum = value + high;
     Leb::Number {
-        value: value + unit * tenth,
+        value: sum,
         len: 10,
     }
 }

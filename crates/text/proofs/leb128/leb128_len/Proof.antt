@@ -1,5 +1,5 @@
 -- `leb128_len` meets its contract. The invariant: the bytes counted and those of what is left make one more than those of v. Assumes nothing.
-use Prim.Native.Nat.{_+_, _/_, _≤_}
+use Prim.Native.Nat.{_+_}
 use mathlib.Core.Path.{_≡_, refl}
 use native.Mathlib.Omega.{arith}
 use borrow.Author.Needs.{needs}

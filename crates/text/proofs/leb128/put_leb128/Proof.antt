@@ -1,5 +1,5 @@
 -- `put_leb128` meets its contract. The invariant: what is left, stored from i on, gives what v stored from at on gives. Assumes nothing.
-use Prim.Native.Nat.{_+_, _/_, _≤_}
+use Prim.Native.Nat.{_+_, _≤_}
 use mathlib.Core.Path.{_≡_, refl, _∙_}
 use native.Mathlib.Omega.{arith}
 use lib.ListN.{length, length-set}

@@ -1,5 +1,5 @@
 -- `read_leb128` meets its contract. The invariant is `Read` of proofs/Leb128Reading.antt. Assumes nothing.
-use Prim.Native.Nat.{_+_, _-_, _*_}
+use Prim.Native.Nat.{_+_, _-_}
 use native.Mathlib.Omega.{arith}
 use borrow.Author.Needs.{needs}
 use Rattle.text.proofs.Leb128Reading.{Read, read-first, read-cut, read-fits, read-last, read-more, tenth-fits, tenth-last, tenth-wide}
@@ -34,14 +34,14 @@ shared-slice-read-wide c = omega arith
 wide-requires : tie.Need-wide-requires Inv-loop μ-loop
 wide-requires c κs = search needs
 
-mul-t15 : tie.Need-mul-t15 Inv-loop μ-loop
-mul-t15 c = omega (arith, read-fits (c .before .wide .result) (c .before .before .before .before .before .loop .inv) (c .before .before .before .before .loop-test .taken) (c .if3 .taken))
+mul-last : tie.Need-mul-last Inv-loop μ-loop
+mul-last c = omega (arith, read-fits (c .before .wide .result) (c .before .before .before .before .before .loop .inv) (c .before .before .before .before .loop-test .taken) (c .if3 .taken))
 
-add-t16 : tie.Need-add-t16 Inv-loop μ-loop
-add-t16 c = omega (arith, read-fits (c .before .wide .result) (c .before .before .before .before .before .loop .inv) (c .before .before .before .before .loop-test .taken) (c .if3 .taken))
+add-whole : tie.Need-add-whole Inv-loop μ-loop
+add-whole c = omega (arith, read-fits (c .before .wide .result) (c .before .before .before .before .before .loop .inv) (c .before .before .before .before .loop-test .taken) (c .if3 .taken))
 
-add-t17 : tie.Need-add-t17 Inv-loop μ-loop
-add-t17 c = omega arith
+add-len : tie.Need-add-len Inv-loop μ-loop
+add-len c = omega arith
 
 returns-3 : tie.Need-returns-3 Inv-loop μ-loop
 returns-3 c = read-last (c .before .wide .result) (c .before .before .before .before .before .loop .inv) (c .before .before .before .before .loop-test .taken) (omega arith) (c .before .wide .ensures) (c .if3 .taken)
@@ -79,11 +79,11 @@ wide-requires-2 c κs = search needs
 returns-5 : tie.Need-returns-5 Inv-loop μ-loop
 returns-5 c = tenth-wide (c .before .wide2 .result) (c .before .before .before .before .before .loop .inv) (omega arith) (omega arith) (c .before .wide2 .ensures) (c .if5 .taken) (omega (arith, (c .before .before .shared-slice-known3 .given (c .before .before .before .before .before .before .before .before .args .at + 9))))
 
-mul-t22 : tie.Need-mul-t22 Inv-loop μ-loop
-mul-t22 c = omega (arith, tenth-fits (c .before .wide2 .result) (c .before .before .before .before .before .loop .inv) (omega arith) (omega arith))
+mul-high : tie.Need-mul-high Inv-loop μ-loop
+mul-high c = omega (arith, tenth-fits (c .before .wide2 .result) (c .before .before .before .before .before .loop .inv) (omega arith) (omega arith))
 
-add-t23 : tie.Need-add-t23 Inv-loop μ-loop
-add-t23 c = omega (arith, tenth-fits (c .before .wide2 .result) (c .before .before .before .before .before .loop .inv) (omega arith) (omega arith))
+add-sum : tie.Need-add-sum Inv-loop μ-loop
+add-sum c = omega (arith, tenth-fits (c .before .wide2 .result) (c .before .before .before .before .before .loop .inv) (omega arith) (omega arith))
 
 returns-6 : tie.Need-returns-6 Inv-loop μ-loop
 returns-6 c = tenth-last (c .before .wide2 .result) (c .before .before .before .before .before .loop .inv) (omega arith) (omega arith) (c .before .wide2 .ensures) (omega arith)
@@ -101,9 +101,9 @@ read-leb128-spec =
     add-wide
     shared-slice-read-wide
     wide-requires
-    mul-t15
-    add-t16
-    add-t17
+    mul-last
+    add-whole
+    add-len
     returns-3
     mul-value
     add-value
@@ -116,6 +116,6 @@ read-leb128-spec =
     shared-slice-read-wide-2
     wide-requires-2
     returns-5
-    mul-t22
-    add-t23
+    mul-high
+    add-sum
     returns-6)

@@ -1,5 +1,4 @@
 -- `read_text` meets its contract: each answer by its law of proofs/TextLaws.antt. Assumes nothing.
-use Prim.Native.Nat.{_+_, _-_}
 use mathlib.Core.Path.{sym, _∙_}
 use native.Mathlib.Omega.{arith}
 use Rattle.text.proofs.TextLaws.{prefix-within, absent-prefix, absent-cut, absent-bytes, present}

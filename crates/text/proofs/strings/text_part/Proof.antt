@@ -1,5 +1,4 @@
 -- `text_part` meets its contract. Assumes nothing.
-use Prim.Native.Nat.{_+_, _-_}
 use mathlib.Core.Path.{sym, _∙_}
 use native.Mathlib.Omega.{arith}
 use Rattle.text.proofs.TextLaws.{text-within, part-absent, part-present}
