@@ -8,17 +8,15 @@ use mathlib.Core.Logic.{_⊎_, inl, inr, ⊎-elim}
 use native.Mathlib.Omega.{arith}
 use native.Mathlib.Nat.{zero-add}
 use lib.Dec.{eqb, ltb}
-use lib.ListN.{length, getD, set, replicate, length-replicate, length-set}
+use lib.ListN.{length, getD, set, replicate, length-replicate}
 use lib.Seq.{set-getD}
 use borrow.Author.Tests.{eqb-true, eqb-false, lt-ltb, le-ltb, ltb-true, ltb-false}
-use Rattle.tables.specs.Table.{rowAt, headAt, hitAt, keyOf, sameRow, hashOf, bucketIn, capacityOf, lookupOf, appendOf, overOf, insertAt, insertOf, setRow, left, inserted, Left}
-use Rattle.tables.specs.Ranges.{getOf, putOf, putAt, replaceOf, change, startRow, rangeRow, locationOf}
-use Rattle.tables.specs.Plain.{rowsOf, sameKey, keyHash, putRows, wasIn, putAll, putAllRows, lastPut, Pair, pairRow, Chained, Holds}
+use Rattle.tables.specs.Table.{rowAt, hitAt, keyOf, sameRow, hashOf, capacityOf, lookupOf, overOf, insertAt, insertOf, setRow, left, inserted, Left}
+use Rattle.tables.specs.Ranges.{getOf, putOf, putAt, replaceOf, change, startRow, locationOf}
+use Rattle.tables.specs.Plain.{rowsOf, keyHash, putRows, wasIn, putAll, putAllRows, lastPut, Pair, pairRow, Holds}
 use Rattle.tables.specs.declared.Row.{Row}
-use Rattle.tables.specs.declared.Inserted.{Inserted}
 use Rattle.tables.specs.declared.ranges.Found.{Found}
 use Rattle.tables.specs.declared.ranges.Found.the-variants.{Absent, At}
-use Rattle.tables.specs.declared.ranges.Was.{Was}
 use Rattle.tables.specs.declared.ranges.Was.the-variants.{Vacant, Same, Changed}
 use Rattle.tables.specs.declared.ranges.Change.{Change}
 use Rattle.tables.proofs.Room.{room-is}
@@ -28,10 +26,6 @@ use Rattle.tables.proofs.Steps.{Look, found, none, chained-over}
 use Rattle.tables.proofs.Sets.{begun, hit-is, looked, length-is, row-is, earlier, more, long-more, holds-more, over-most, Over}
 
 -- ---- the plain map
--- a row of the list has q's start
-abbrev starts : List Row → Row → ℕ → Bool
-starts rows q i = eqb (getD rows i q .a) (q .a)
-
 put-none : (rows : List Row) (q d : Row) → ((i : ℕ) → i < length rows → eqb (getD rows i d .a) (q .a) ≡ false) → putRows rows q ≡ rows ++ (q ∷ [])
 unfolding putRows
 put-none [] q d h = refl

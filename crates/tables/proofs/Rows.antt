@@ -1,6 +1,6 @@
 -- Laws of the rows of a table: equality of rows, a row overwritten, a row appended, and the list of the first rows.
 use Prim.Native.Nat.{ℕ, zero, suc, _+_, _*_, _<_, _≤_}
-use mathlib.Core.Path.{_≡_, refl, sym, _∙_, ap, ap₂}
+use mathlib.Core.Path.{_≡_, refl, _∙_, ap, ap₂}
 use mathlib.Core.List.{List, [], _∷_, _++_}
 use mathlib.Core.Bool.{Bool, true, false, _&&_}
 use native.Mathlib.Omega.{arith}
@@ -36,10 +36,6 @@ same-eq x y e = ap rowOf (words-eq (rowWords x) (rowWords y) e)
 pub words-refl : (xs : List ℕ) → sameWords xs xs ≡ true
 words-refl [] = refl
 words-refl (x ∷ xs) = rw (eq-eqb x x refl) (words-refl xs)
-
-pub same-refl : (x : Row) → sameRow x x ≡ true
-unfolding sameRow
-same-refl x = words-refl (rowWords x)
 
 pub words-short : (xs ys : List ℕ) → length xs < length ys → sameWords xs ys ≡ false
 words-short [] [] h = absurd (omega arith)

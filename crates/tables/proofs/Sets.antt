@@ -1,6 +1,6 @@
 -- The table is an index set: `insertOf` does to it what `intern` does to the plain list of its rows. `step` is one call; `index-set` is any list of calls
 -- on zeroed memory that stays within the capacity, and `index-set-exact` says that the count passes the capacity exactly where the plain list does.
-use Prim.Native.Nat.{ℕ, zero, suc, _+_, _*_, _<_, _≤_}
+use Prim.Native.Nat.{ℕ, _+_, _*_, _<_, _≤_}
 use mathlib.Core.Path.{_≡_, refl, sym, _∙_, ap, ap₂}
 use mathlib.Core.List.{List, [], _∷_, _++_}
 use mathlib.Core.Bool.{Bool, true, false, cond}
@@ -11,7 +11,7 @@ use lib.Dec.{eqb, ltb}
 use lib.ListN.{length, getD, replicate, length-replicate}
 use borrow.Author.Tests.{eqb-true, eqb-false, lt-ltb, le-ltb, ltb-true, ltb-false}
 use Rattle.tables.specs.Table.{rowAt, headAt, hitAt, keyOf, hashOf, bucketIn, capacityOf, lookupOf, appendOf, overOf, insertAt, insertOf, left, inserted, Left}
-use Rattle.tables.specs.Plain.{rowsOf, sameKey, keyHash, intern, internAll, indicesIn, insertAll, indicesOf, Chained, Holds}
+use Rattle.tables.specs.Plain.{rowsOf, sameKey, keyHash, intern, internAll, indicesIn, insertAll, indicesOf, Holds}
 use Rattle.tables.specs.declared.Row.{Row}
 use Rattle.tables.specs.declared.Inserted.{Inserted}
 use Rattle.tables.proofs.Room.{room-is}

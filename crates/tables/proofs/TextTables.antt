@@ -1,7 +1,7 @@
 -- The lent memory is a string table: `insertTextOf` does to it what `withText` does to the plain list of texts. `step` is one call. `string-table` is any list of
 -- calls on a zeroed index that stays within the capacities; `string-table-exact` says that a count passes its capacity exactly where the plain list needs more;
 -- `reads-back` says that what was stored reads back, at once and after more is stored.
-use Prim.Native.Nat.{ℕ, zero, suc, _+_, _*_, _^_, _<_, _≤_}
+use Prim.Native.Nat.{ℕ, suc, _+_, _^_, _<_, _≤_}
 use mathlib.Core.Path.{_≡_, refl, sym, _∙_, ap, ap₂}
 use mathlib.Core.List.{List, [], _∷_, _++_, append-nil}
 use mathlib.Core.Bool.{Bool, true, false, cond, _&&_}
@@ -14,7 +14,7 @@ use lib.Seq.{sets, sets-eq, length-sets, take-at, length-take-le, getD-append-se
 use borrow.Author.Tests.{eq-eqb, ne-eqb, eqb-true, eqb-false, lt-ltb, le-ltb, ltb-true, ltb-false, le-leb, lt-leb, leb-true, leb-false}
 use Rattle.text.specs.Leb128.{encoded}
 use Rattle.text.specs.Utf8.{utf8}
-use Rattle.text.specs.Texts.{read-text, text-part}
+use Rattle.text.specs.Texts.{text-part}
 use Rattle.text.proofs.Leb128Laws.{decoded-past}
 use Rattle.text.proofs.TextLaws.{stored-bytes, part-stored, part-absent, absent-prefix}
 use Rattle.tables.specs.Table.{rowAt, capacityOf, overOf, sameWords}
@@ -22,7 +22,7 @@ use Rattle.tables.specs.Strings.{textCapacityOf, storedText, textSize, t
 use Rattle.tables.specs.Plain.{intern, rowsOf, rowsFrom, Chained}
 use Rattle.tables.specs.PlainTexts.{textBytes, textOffset, section, withText, offsetIn, withTexts, offsetsIn, insertTexts, offsetsOf, textRows, rowHash, Texts}
 use Rattle.tables.specs.declared.Row.{Row}
-use Rattle.tables.proofs.Room.{room-is, TextRoom, text-room}
+use Rattle.tables.proofs.Room.{room-is, text-room}
 use Rattle.tables.proofs.Items.{intern-none, intern-found, one-more}
 use Rattle.tables.proofs.Rows.{no-ft, words-eq, words-refl, rows-length, rows-getD, length-append as append-length}
 use Rattle.tables.proofs.Steps.{Look, found, none, look, chained-more, rows-stored, chained-begun}

@@ -1,8 +1,8 @@
 -- The same over plain lists: an index set of any items, and a map from starts to locations; and when a table is the plain list.
 use Prim.Native.Nat.{ℕ, zero, suc, _<_, _≤_}
 use mathlib.Core.Path.{_≡_}
-use mathlib.Core.List.{List, [], _∷_, _++_}
-use mathlib.Core.Bool.{Bool, true, false, cond}
+use mathlib.Core.List.{List, [], _∷_}
+use mathlib.Core.Bool.{Bool, false, cond}
 use lib.Dec.{eqb}
 use lib.ListN.{length}
 use Rattle.tables.specs.Table.{rowAt, linkAt, headAt, keyOf, sameRow, hashOf, bucketOf, capacityOf, Left, left, inserted, insertOf}
@@ -11,7 +11,7 @@ use Rattle.tables.specs.declared.Row.{Row}
 use Rattle.tables.specs.declared.Inserted.{Inserted}
 use Rattle.raw.specs.declared.SourceLocation.{SourceLocation}
 use Rattle.tables.specs.declared.ranges.Found.{Found}
-use Rattle.tables.specs.declared.ranges.Found.the-variants.{Absent, At}
+use Rattle.tables.specs.declared.ranges.Found.the-variants.{At}
 use Rattle.tables.specs.declared.ranges.Was.{Was}
 use Rattle.tables.specs.declared.ranges.Was.the-variants.{Vacant, Same, Changed}
 use Rattle.tables.specs.declared.ranges.Change.{Change}

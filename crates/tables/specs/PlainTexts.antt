@@ -3,7 +3,7 @@
 use Prim.Native.Nat.{ℕ, _+_, _<_, _≤_}
 use mathlib.Core.Path.{_≡_}
 use mathlib.Core.List.{List, [], _∷_, _++_}
-use mathlib.Core.Bool.{Bool, true, false}
+use mathlib.Core.Bool.{false}
 use lib.ListN.{length, getD, take}
 use Rattle.tables.specs.Table.{sameWords, capacityOf}
 use Rattle.tables.specs.Strings.{textCapacityOf, storedText, textSize, textRow, insertTextOf, StringsLeft, stringsLeft, stored}

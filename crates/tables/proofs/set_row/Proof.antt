@@ -1,9 +1,9 @@
-use Prim.Native.Nat.{ℕ, _+_, _*_, _<_}
-use mathlib.Core.Path.{_≡_, refl}
+use Prim.Native.Nat.{ℕ, _+_, _*_}
+use mathlib.Core.Path.{_≡_}
 use mathlib.Core.List.{List}
 use native.Mathlib.Omega.{arith}
 use native.Mathlib.Numerals.{add-one}
-use lib.ListN.{set, length, length-set}
+use lib.ListN.{set, length-set}
 use Rattle.tables.specs.Table.{setRow}
 use Rattle.tables.specs.declared.Row.{Row}
 use borrow.Author.Needs.{needs}

@@ -1,12 +1,11 @@
 -- The loop's invariant: what the bytes that are left make of x is what all of them make of the length.
-use Prim.Native.Nat.{ℕ, suc, _+_, _-_, _%_, _<_, _≤_}
-use mathlib.Core.Path.{_≡_, refl, sym, _∙_}
+use Prim.Native.Nat.{ℕ, _+_, _-_, _%_, _<_, _≤_}
+use mathlib.Core.Path.{_≡_, refl, _∙_}
 use mathlib.Core.List.{List, _∷_}
 use native.Mathlib.Omega.{arith}
 use native.Mathlib.Numerals.{add-one}
 use lib.ListN.{length, getD, take, drop, length-drop}
 use lib.Seq.{drop-cons, take-all}
-use borrow.Author.Needs.{needs}
 use Rattle.tables.specs.Strings.{mixed, four, hashFrom, textHash}
 use Rattle.tables.proofs.strings.hash.Statement.{statement}
 use Rattle.tables.proofs.strings.hash.Tie as tie

@@ -11,9 +11,8 @@ use borrow.Author.Tests.{leb-true, ltb-true}
 use Rattle.text.specs.Leb128.{encoded}
 use Rattle.tables.specs.Table.{capacityOf}
 use Rattle.tables.specs.Strings.{textCapacityOf, textSize, storedText, textHash, textRow, indexOf, fullOf, storeOf, stringsLeft, stored}
-use Rattle.tables.specs.declared.Row.{Row}
 use Rattle.tables.specs.declared.strings.Stored.{Stored}
-use Rattle.tables.proofs.Room.{room-is, cap-most, TextRoom, text-room}
+use Rattle.tables.proofs.Room.{cap-most, TextRoom, text-room}
 use Rattle.tables.proofs.strings.store.Statement.{statement}
 use Rattle.tables.proofs.strings.store.Tie as tie
 
