@@ -1,1 +1,1 @@
-pub mod File
+pub mod Sections

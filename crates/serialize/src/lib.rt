@@ -1,55 +1,101 @@
 // The written file: writer.rs, `serialize`, from the lent tables into a lent output.
-use raw::{File, Function, Header, SourceLocation, VersionInfo};
-use steps::{fits, Converter, LastAddr};
+use raw::{File, Function, Range, SourceLocation};
 use tables::ranges::Found;
+ghost use mathlib.Core.Path.{_≡_};
+ghost use Prim.Native.Nat.{_+_, _*_, _≤_};
+ghost use lib.ListN.{length};
+ghost use lib.Seq.{sets};
+ghost use Rattle.raw.specs.Bytes.{tableBytes};
+ghost use Rattle.tables.specs.Plain.{rowsOf};
+ghost use Rattle.serialize.specs.Sections.{file-row, function-row, call-row, entries, entry-row, entries-at, entry-location, range-sections, vacant-end};
 
-// What writing answers: document 01's number (0 for success), and the file's length.
-pub struct Written {
-    pub code: u32,
-    pub len: usize,
+pub enum LastAddr {
+    Unset,
+    Set(u32),
 }
 
 // `count` file rows from `at` on.
-fn write_files(out: &mut [u8], at: usize, files: &[u32], count: u32) {
+fn write_files(out: &mut [u8], at: usize, files: &[u32], count: u32)
+    requires { ⌜ at + count * 24 ≤ length (now out) ⌝ }
+    ensures { λ _. ⌜ now (out .exit) ≡ sets (now (out .entry)) at (tableBytes file-row (rowsOf (now (files .entry)) count)) ⌝ }
+{
     let mut i: u32 = 0;
     while i < count {
         let r = tables::row_at(files, i);
-        let f = File { comp_dir_offset: r.a, directory_offset: r.b, name_offset: r.c, srcsrv_name_offset: r.d, srcsrv_dir_offset: r.e, srcsrv_revision_offset: r.f };
-        raw::write_file(out, at + (i as usize) * 24, f);
+        raw::write_file(
+            out,
+            at + (i as usize) * 24,
+            File {
+                comp_dir_offset: r.a,
+                directory_offset: r.b,
+                name_offset: r.c,
+                srcsrv_name_offset: r.d,
+                srcsrv_dir_offset: r.e,
+                srcsrv_revision_offset: r.f,
+            },
+        );
         i += 1;
     }
 }
 
 // `count` function rows from `at` on.
-fn write_functions(out: &mut [u8], at: usize, functions: &[u32], count: u32) {
+fn write_functions(out: &mut [u8], at: usize, functions: &[u32], count: u32)
+    requires { ⌜ at + count * 16 ≤ length (now out) ⌝ }
+    ensures { λ _. ⌜ now (out .exit) ≡ sets (now (out .entry)) at (tableBytes function-row (rowsOf (now (functions .entry)) count)) ⌝ }
+{
     let mut i: u32 = 0;
     while i < count {
         let r = tables::row_at(functions, i);
-        let f = Function { name_offset: r.a, comp_dir_offset: r.b, entry_pc: r.c, lang: r.d };
-        raw::write_function(out, at + (i as usize) * 16, f);
+        raw::write_function(
+            out,
+            at + (i as usize) * 16,
+            Function {
+                name_offset: r.a,
+                comp_dir_offset: r.b,
+                entry_pc: r.c,
+                lang: r.d,
+            },
+        );
         i += 1;
     }
 }
 
 // `count` call locations from `at` on.
-fn write_call_locations(out: &mut [u8], at: usize, call_locations: &[u32], count: u32) {
+fn write_call_locations(out: &mut [u8], at: usize, call_locations: &[u32], count: u32)
+    requires { ⌜ at + count * 16 ≤ length (now out) ⌝ }
+    ensures { λ _. ⌜ now (out .exit) ≡ sets (now (out .entry)) at (tableBytes call-row (rowsOf (now («call_locations» .entry)) count)) ⌝ }
+{
     let mut i: u32 = 0;
     while i < count {
         let r = tables::row_at(call_locations, i);
-        let l = SourceLocation { file_idx: r.a, line: r.b, function_idx: r.c, inlined_into_idx: r.d };
-        raw::write_location(out, at + (i as usize) * 16, l);
+        raw::write_location(
+            out,
+            at + (i as usize) * 16,
+            SourceLocation {
+                file_idx: r.a,
+                line: r.b,
+                function_idx: r.c,
+                inlined_into_idx: r.d,
+            },
+        );
         i += 1;
     }
 }
 
 // An entry: a range's start and its row number, eight bytes.
-fn write_entry(out: &mut [u8], at: usize, start: u32, row: u32) {
-    raw::write_range(out, at, raw::Range(start));
-    raw::write_range(out, at + 4, raw::Range(row));
+fn write_entry(out: &mut [u8], at: usize, start: u32, row: u32)
+    requires { ⌜ at + 8 ≤ length (now out) ⌝ }
+    ensures { λ _. ⌜ now (out .exit) ≡ sets (now (out .entry)) at (entry-row (record { from = start; to = row })) ⌝ }
+{
+    raw::write_range(out, at, Range(start));
+    raw::write_range(out, at + 4, Range(row));
 }
 
-// Start and row number of each range, as entries from `at` on.
-fn write_entries(out: &mut [u8], at: usize, ranges: &[u32], count: u32) {
+// The entries of the ranges from `at` on.
+fn write_entries(out: &mut [u8], at: usize, ranges: &[u32], count: u32)
+    requires { ⌜ at + count * 8 ≤ length (now out) ⌝ }
+    ensures { λ _. ⌜ now (out .exit) ≡ sets (now (out .entry)) at (tableBytes entry-row (entries 0 (rowsOf (now (ranges .entry)) count))) ⌝ }
+{
     let mut i: u32 = 0;
     while i < count {
         let r = tables::row_at(ranges, i);
@@ -58,24 +104,38 @@ fn write_entries(out: &mut [u8], at: usize, ranges: &[u32], count: u32) {
     }
 }
 
-// The entries sorted; then from each, in order, its location and its start.
-fn write_ranges(out: &mut [u8], locations: usize, entries: usize, starts: usize, ranges: &[u32], count: u32, all: u32) {
+// The location of an entry: the sentinel's is the empty mapping.
+fn entry_location(ranges: &[u32], count: u32, start: u32, row: u32) -> SourceLocation
+    ensures { λ r. ⌜ r ≡ entry-location (now (ranges .entry)) count (record { from = start; to = row }) ⌝ }
+{
+    if row < count {
+        let r = tables::row_at(ranges, row);
+        return SourceLocation {
+            file_idx: r.b,
+            line: r.c,
+            function_idx: r.d,
+            inlined_into_idx: r.e,
+        };
+    }
+    SourceLocation::NO_SOURCE_LOCATION
+}
+
+// The locations of the ranges from `at` on, then their starts, in the order of the entries. There are `all` of them, in the second half of the room for
+// the locations: location i ends where entry i does at the latest, and nothing is read that was written over.
+fn write_ranges(out: &mut [u8], at: usize, ranges: &[u32], count: u32, all: u32)
+    requires { ⌜ at + all * 20 ≤ length (now out) ⌝ }
+    ensures { λ _. ⌜ now (out .exit) ≡ sets (now (out .entry)) at (range-sections (now (ranges .entry)) count (entries-at all (now (out .entry)) (at + all * 8))) ⌝ }
+{
+    let entries = at + (all as usize) * 8;
+    let starts = at + (all as usize) * 16;
     let mut i: u32 = 0;
     while i < all {
         let k = i as usize;
         let start = raw::range_at(out, entries + k * 8);
         let row = raw::range_at(out, entries + k * 8 + 4);
-        let l = entry_location(ranges, count, row.0);
+        let l = entry_location(ranges, count, start.0, row.0);
         raw::write_range(out, starts + k * 4, start);
-        raw::write_location(out, locations + k * 16, l);
+        raw::write_location(out, at + k * 16, l);
         i += 1;
     }
-}
-
-fn entry_location(ranges: &[u32], count: u32, row: u32) -> SourceLocation {
-    if row < count {
-        let r = tables::row_at(ranges, row);
-        return SourceLocation { file_idx: r.b, line: r.c, function_idx: r.d, inlined_into_idx: r.e };
-    }
-    SourceLocation::NO_SOURCE_LOCATION
 }
