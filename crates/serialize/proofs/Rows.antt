@@ -1,8 +1,8 @@
 -- Rows stored one after the other: one law for each turn of a loop, over the row's size and its bytes; and the entries.
-use Prim.Native.Nat.{ℕ, zero, suc, _+_, _*_, _≤_}
+use Prim.Native.Nat.{ℕ, zero, suc, _+_, _*_, _/_, _%_}
 use mathlib.Core.Path.{_≡_, refl, ap, sym, _∙_}
 use mathlib.Core.List.{List, [], _∷_, _++_, append-assoc, append-nil}
-use native.Mathlib.Nat.{zero-add, add-zero, add-suc, suc-add}
+use native.Mathlib.Nat.{zero-add, add-zero, add-suc, suc-add, add-mul-mod-self-left}
 use native.Mathlib.Numerals.{add-one}
 use native.Mathlib.Omega.{arith}
 use lib.ListN.{length, length-append}
@@ -16,7 +16,7 @@ use Rattle.tables.specs.Table.{rowAt}
 use Rattle.tables.specs.Plain.{rowsOf}
 use Rattle.tables.specs.declared.Row.{Row}
 use Rattle.tables.proofs.Rows.{rows-more, rows-length}
-use Rattle.serialize.specs.Sections.{file-of, function-of, call-of, file-row, function-row, call-row, entries, entry-row, entries-at, entry-location, location-row, start-row}
+use Rattle.serialize.specs.Sections.{file-of, function-of, call-of, file-row, function-row, call-row, entries, entry-row, entries-at, entry-location, location-row, start-row, padding}
 
 -- ── Sizes ──
 
@@ -111,3 +111,13 @@ pub entries-at-more : (n : ℕ) (s : List ℕ) (at : ℕ) → entries-at (suc n)
 unfolding entries-at
 entries-at-more zero s at = rw (add-zero at)
 entries-at-more (suc n) s at = let e : at + 8 * suc n ≡ at + 8 + 8 * n = omega arith in rw e (ap (λ (l : List Span). entry-at s at ∷ l) (entries-at-more n s (at + 8)))
+
+-- ── Padding ──
+
+pub padding-odd : (n : ℕ) → n % 2 ≡ 1 → padding (n * 4) ≡ rangeBytes (record { 0 = 0 })
+unfolding padding rangeBytes words le
+padding-odd n h = let e : n * 4 ≡ 4 + 8 * (n / 2) = omega arith in rw (e, add-mul-mod-self-left 4 8 (n / 2))
+
+pub padding-even : (n : ℕ) → n % 2 ≡ 0 → padding (n * 4) ≡ []
+unfolding padding
+padding-even n h = let e : n * 4 ≡ 0 + 8 * (n / 2) = omega arith in rw (e, add-mul-mod-self-left 0 8 (n / 2))

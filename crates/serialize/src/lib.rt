@@ -3,11 +3,14 @@ use raw::{File, Function, Range, SourceLocation};
 use tables::ranges::Found;
 ghost use mathlib.Core.Path.{_≡_};
 ghost use Prim.Native.Nat.{_+_, _*_, _≤_};
-ghost use lib.ListN.{length};
+ghost use mathlib.Core.List.{_++_};
+ghost use lib.ListN.{length, take};
 ghost use lib.Seq.{sets};
-ghost use Rattle.raw.specs.Bytes.{tableBytes};
+ghost use Rattle.model.specs.Basics.{sort};
+ghost use Rattle.raw.specs.Bytes.{Words, tableBytes};
 ghost use Rattle.tables.specs.Plain.{rowsOf};
-ghost use Rattle.serialize.specs.Sections.{file-row, function-row, call-row, entries, entry-row, entries-at, entry-location, range-sections, vacant-end};
+ghost use Rattle.sorting.specs.Pairs.{pairWords};
+ghost use Rattle.serialize.specs.Sections.{file-row, function-row, call-row, entries, entry-row, entries-at, entry-location, range-sections, vacant-end, sentinel, padding};
 
 pub enum LastAddr {
     Unset,
@@ -136,6 +139,76 @@ fn write_ranges(out: &mut [u8], at: usize, ranges: &[u32], count: u32, all: u32)
         let l = entry_location(ranges, count, start.0, row.0);
         raw::write_range(out, starts + k * 4, start);
         raw::write_location(out, at + k * 16, l);
+        i += 1;
+    }
+}
+
+// The last end, where it is vacant among the ranges.
+fn vacant_end(last: LastAddr, ranges: &[u32], count: u32) -> LastAddr
+    ensures { λ r. ⌜ r ≡ vacant-end last (now (ranges .entry)) count ⌝ }
+{
+    match last {
+        LastAddr::Unset => LastAddr::Unset,
+        LastAddr::Set(a) => match tables::ranges::get(ranges, count, a) {
+            Found::Absent => LastAddr::Set(a),
+            Found::At(_) => LastAddr::Unset,
+        },
+    }
+}
+
+// How many ranges the file has: the sentinel is one more.
+fn num_ranges(count: u32, end: LastAddr) -> u32
+    requires { ⌜ count ≤ 16777216 ⌝ }
+    ensures { λ r. ⌜ r ≡ count + length (sentinel end count) ⌝ }
+{
+    match end {
+        LastAddr::Unset => count,
+        LastAddr::Set(_) => count + 1,
+    }
+}
+
+// The sentinel's entry, if there is one.
+fn write_sentinel(out: &mut [u8], at: usize, end: LastAddr, count: u32)
+    requires { ⌜ at + 8 * length (sentinel end count) ≤ length (now out) ⌝ }
+    ensures { λ _. ⌜ (now (out .exit) ≡ sets (now (out .entry)) at (tableBytes entry-row (sentinel end count))) × Words (pairWords (sentinel end count)) ⌝ }
+{
+    match end {
+        LastAddr::Unset => {}
+        LastAddr::Set(a) => write_entry(out, at, a, count),
+    }
+}
+
+// The locations of the ranges from `at` on and then their starts, ascending. The entries are sorted in the second half of the room for the locations.
+fn write_sorted(out: &mut [u8], at: usize, ranges: &[u32], count: u32, end: LastAddr, all: u32)
+    requires { ⌜ (all ≡ count + length (sentinel end count)) × (at + all * 20 ≤ length (now out)) ⌝ }
+    ensures { λ _. ⌜ now (out .exit) ≡ sets (now (out .entry)) at (range-sections (now (ranges .entry)) count (sort (entries 0 (rowsOf (now (ranges .entry)) count) ++ sentinel end count))) ⌝ }
+{
+    let entries = at + (all as usize) * 8;
+    let starts = at + (all as usize) * 16;
+    write_entries(out, entries, ranges, count);
+    write_sentinel(out, entries + (count as usize) * 8, end, count);
+    sorting::sort_entries(&mut out[entries..starts]);
+    write_ranges(out, at, ranges, count, all);
+}
+
+// Zeros from the end of so many range starts up to a multiple of 8: four or none.
+fn write_padding(out: &mut [u8], at: usize, all: u32)
+    ensures { λ _. ⌜ now (out .exit) ≡ sets (now (out .entry)) at (padding (all * 4)) ⌝ }
+{
+    if all % 2 == 1 {
+        raw::write_range(out, at, Range(0));
+    }
+}
+
+// The first `n` bytes of the texts from `at` on.
+fn write_texts(out: &mut [u8], at: usize, texts: &[u8], n: u32)
+    requires { ⌜ (n ≤ length (now texts)) × (at + n ≤ length (now out)) ⌝ }
+    ensures { λ _. ⌜ now (out .exit) ≡ sets (now (out .entry)) at (take n (now (texts .entry))) ⌝ }
+{
+    let end = n as usize;
+    let mut i: usize = 0;
+    while i < end {
+        out[at + i] = texts[i];
         i += 1;
     }
 }
