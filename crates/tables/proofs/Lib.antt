@@ -6,3 +6,5 @@ pub mod Rows
 pub mod Steps
 pub mod Sets
 pub mod Maps
+pub mod Sections
+pub mod TextTables

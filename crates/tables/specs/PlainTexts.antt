@@ -62,6 +62,9 @@ abbrev pub textRows : ℕ → List (List ℕ) → List Row
 textRows offset [] = []
 textRows offset (t ∷ ts) = textRow offset t ∷ textRows (offset + textSize t) ts
 
+abbrev pub rowHash : Row → ℕ
+rowHash r = r .d
+
 pub record Texts (text strings : List ℕ) (bytes count : ℕ) (ts : List (List ℕ)) : Type 0 where
   pub stands : take bytes text ≡ section ts
   pub size : bytes ≡ textBytes ts
@@ -69,4 +72,4 @@ pub record Texts (text strings : List ℕ) (bytes count : ℕ) (ts : List (List 
   pub room : bytes ≤ textCapacityOf (length text)
   pub row-room : count ≤ capacityOf (length strings)
   pub apart : (i j : ℕ) → i < j → j < length ts → sameWords (getD ts i []) (getD ts j []) ≡ false
-  pub chained : Chained (λ r. r .d) (capacityOf (length strings)) count strings
+  pub chained : Chained rowHash (capacityOf (length strings)) count strings
