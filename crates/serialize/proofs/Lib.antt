@@ -2,3 +2,5 @@ pub mod Runs
 pub mod Rows
 pub mod Ranges
 pub mod Sorted
+pub mod Whole
+pub mod Answers

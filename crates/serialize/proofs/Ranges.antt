@@ -36,16 +36,16 @@ module _ (t : List ℕ) (n : ℕ) (s : List ℕ) (at all i : ℕ) where
 
   -- one turn
   pub turned-more : i < all → (p : Span) → p ≡ entry-at s (at + all * 8 + 8 * i)
-    → sets (sets (turned t n s at all i) (at + all * 16 + i * 4) (start-row p)) (at + i * 16) (location-row t n p) ≡ turned t n s at all (i + 1)
+      → sets (sets (turned t n s at all i) (at + all * 16 + i * 4) (start-row p)) (at + i * 16) (location-row t n p) ≡ turned t n s at all (i + 1)
   unfolding turned
   turned-more h p e =
       let es = entries-at i s (at + all * 8) in
       let l : length es ≡ i = length-entries-at i s (at + all * 8) in
       let x = sets s at (tableBytes (location-row t n) es) in
       let starts : sets (sets x (at + all * 16) (tableBytes start-row es)) (at + all * 16 + i * 4) (start-row p) ≡ sets x (at + all * 16) (tableBytes start-row (es ++ (p ∷ [])))
-          = table-turn start-row 4 length-start-row x (sets x (at + all * 16) (tableBytes start-row es)) (at + all * 16) (at + all * 16 + i * 4) es p refl (omega arith) in
+      = table-turn start-row 4 length-start-row x (sets x (at + all * 16) (tableBytes start-row es)) (at + all * 16) (at + all * 16 + i * 4) es p refl (omega arith) in
       let locations : sets x (at + i * 16) (location-row t n p) ≡ sets s at (tableBytes (location-row t n) (es ++ (p ∷ [])))
-          = table-turn (location-row t n) 16 (length-location-row t n) s x at (at + i * 16) es p refl (omega arith) in
+      = table-turn (location-row t n) 16 (length-location-row t n) s x at (at + i * 16) es p refl (omega arith) in
       let more : entries-at (i + 1) s (at + all * 8) ≡ es ++ (p ∷ []) = rw (add-one i, e) (entries-at-more i s (at + all * 8)) in
       rw (starts, more)
       (sym (sets-comm (location-row t n p) (tableBytes start-row (es ++ (p ∷ []))) x (at + i * 16) (at + all * 16) (rw (length-location-row t n p) (omega arith)))
@@ -53,8 +53,8 @@ module _ (t : List ℕ) (n : ℕ) (s : List ℕ) (at all i : ℕ) where
 
   -- the same, as the code makes it: from start and row number, read at entry i
   pub turned-step : (out : List ℕ) → out ≡ turned t n s at all i → i < all → (start row : Range) (l : SourceLocation) (out₁ out₂ : List ℕ)
-    → start ≡ rangeAt out (at + all * 8 + i * 8) → row ≡ rangeAt out (at + all * 8 + i * 8 + 4) → l ≡ entry-location t n (record { from = start .0; to = row .0 })
-    → out₁ ≡ sets out (at + all * 16 + i * 4) (rangeBytes start) → out₂ ≡ sets out₁ (at + i * 16) (locationBytes l) → out₂ ≡ turned t n s at all (i + 1)
+      → start ≡ rangeAt out (at + all * 8 + i * 8) → row ≡ rangeAt out (at + all * 8 + i * 8 + 4) → l ≡ entry-location t n (record { from = start .0; to = row .0 })
+      → out₁ ≡ sets out (at + all * 16 + i * 4) (rangeBytes start) → out₂ ≡ sets out₁ (at + i * 16) (locationBytes l) → out₂ ≡ turned t n s at all (i + 1)
   unfolding location-row start-row
   turned-step out e h start row l out₁ out₂ es er el e₁ e₂ =
       let k : at + all * 8 + i * 8 ≡ at + all * 8 + 8 * i = omega arith in

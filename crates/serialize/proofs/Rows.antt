@@ -65,7 +65,7 @@ module _ {A : Type 0} (bytes : A → List ℕ) (size : ℕ) (long : (x : A) → 
 
 -- the same of the first rows of a lent table, where r is the next row and `new` what its turn leaves
 pub rows-turn : (bytes : Row → List ℕ) (size : ℕ) → ((r : Row) → length (bytes r) ≡ size) → (s out new : List ℕ) (at to : ℕ) (t : List ℕ) (i : ℕ) (r : Row)
-  → r ≡ rowAt t i → to ≡ at + size * i → out ≡ sets s at (tableBytes bytes (rowsOf t i)) → new ≡ sets out to (bytes r) → new ≡ sets s at (tableBytes bytes (rowsOf t (i + 1)))
+    → r ≡ rowAt t i → to ≡ at + size * i → out ≡ sets s at (tableBytes bytes (rowsOf t i)) → new ≡ sets out to (bytes r) → new ≡ sets s at (tableBytes bytes (rowsOf t (i + 1)))
 rows-turn bytes size long s out new at to t i r er h e f =
     rw (f, er, add-one i, rows-more t 0 i, zero-add i)
     (table-turn bytes size long s out at to (rowsOf t i) (rowAt t i) e (rw (rows-length t 0 i) h))
@@ -83,8 +83,8 @@ entries-more k [] r = rw (add-zero k)
 entries-more k (x ∷ rs) r = ap (λ (l : List Span). record { from = x .a; to = k } ∷ l) (rw (add-suc k (length rs), ← suc-add k (length rs)) (entries-more (suc k) rs r))
 
 pub entries-turn : (s out new : List ℕ) (at to : ℕ) (t : List ℕ) (i : ℕ) (r : Row)
-  → r ≡ rowAt t i → to ≡ at + 8 * i → out ≡ sets s at (tableBytes entry-row (entries 0 (rowsOf t i))) → new ≡ sets out to (entry-row (record { from = r .a; to = i }))
-  → new ≡ sets s at (tableBytes entry-row (entries 0 (rowsOf t (i + 1))))
+    → r ≡ rowAt t i → to ≡ at + 8 * i → out ≡ sets s at (tableBytes entry-row (entries 0 (rowsOf t i))) → new ≡ sets out to (entry-row (record { from = r .a; to = i }))
+    → new ≡ sets s at (tableBytes entry-row (entries 0 (rowsOf t (i + 1))))
 entries-turn s out new at to t i r er h e f =
     rw (f, er, add-one i, rows-more t 0 i, zero-add i, entries-more 0 (rowsOf t i) (rowAt t i), rows-length t 0 i, zero-add i)
     (table-turn entry-row 8 length-entry-row s out at to (entries 0 (rowsOf t i)) (record { from = rowAt t i .a; to = i }) e (rw (length-entries 0 (rowsOf t i), rows-length t 0 i) h))

@@ -17,8 +17,8 @@ use Rattle.tables.proofs.Rows.{rows-length}
 use Rattle.sorting.specs.Pairs.{pairWords, sortedBytesOf}
 use Rattle.sorting.proofs.Pairs.{length-pairWords, sorted-entries}
 use Rattle.sorting.proofs.Order.{sort-length}
-use Rattle.serialize.specs.declared.LastAddr.{LastAddr}
-use Rattle.serialize.specs.declared.LastAddr.the-variants.{Unset, Set}
+use Rattle.steps.specs.declared.LastAddr.{LastAddr}
+use Rattle.steps.specs.declared.LastAddr.the-variants.{Unset, Set}
 use Rattle.serialize.specs.Sections.{entries, sentinel, entry-row, entries-at, location-row, start-row, range-sections}
 use Rattle.serialize.proofs.Runs.{sets-cover, take-before, drop-after}
 use Rattle.serialize.proofs.Rows.{length-entry-row, length-location-row, length-start-row, length-entries, table-append}
@@ -63,7 +63,7 @@ unfolding tableBytes pairWords
 sentinel-none s at end n h = rw h (refl, tt)
 
 pub sentinel-one : (s s₁ : List ℕ) (at : ℕ) (end : LastAddr) (a n : ℕ) → end ≡ Set a → a < 2 ^ 32 → n < 2 ^ 32 → s₁ ≡ sets s at (entry-row (record { from = a; to = n }))
-  → (s₁ ≡ sets s at (tableBytes entry-row (sentinel end n))) × Fit (sentinel end n)
+    → (s₁ ≡ sets s at (tableBytes entry-row (sentinel end n))) × Fit (sentinel end n)
 unfolding tableBytes pairWords
 sentinel-one s s₁ at end a n h b d e = rw h (rw (append-nil (entry-row (record { from = a; to = n }))) e, (b, (d, tt)))
 
@@ -96,7 +96,7 @@ length-sections t n ps = simp (length-append, length-table (location-row t n) 16
 module _ (t : List ℕ) (n : ℕ) (ps : List Span) (fit : Fit ps) (all : ℕ) (size : length ps ≡ all) (s : List ℕ) (at : ℕ) (room : at + all * 20 ≤ length s) where
   -- the part that is sorted is the entries, and nothing else changes
   sorted-there : (s₁ part : List ℕ) (k : ℕ) → s₁ ≡ sets s (at + all * 8) (tableBytes entry-row ps) → k ≡ all * 8 → part ≡ sortedBytesOf (midOf (at + all * 8) k s₁)
-    → putMid (at + all * 8) k s₁ part ≡ sets s (at + all * 8) (words (pairWords (sort ps)))
+      → putMid (at + all * 8) k s₁ part ≡ sets s (at + all * 8) (words (pairWords (sort ps)))
   sorted-there s₁ part k e f g =
       let from = at + all * 8 in
       let b = words (pairWords ps) in
@@ -113,8 +113,8 @@ module _ (t : List ℕ) (n : ℕ) (ps : List Span) (fit : Fit ps) (all : ℕ) (s
 
   -- from there the locations and the starts are written, over the entries
   pub ranges-sorted : (s₁ part s₂ : List ℕ) (k : ℕ) → s₁ ≡ sets s (at + all * 8) (tableBytes entry-row ps) → k ≡ all * 8 → part ≡ sortedBytesOf (midOf (at + all * 8) k s₁)
-    → s₂ ≡ sets (putMid (at + all * 8) k s₁ part) at (range-sections t n (entries-at all (putMid (at + all * 8) k s₁ part) (at + all * 8)))
-    → s₂ ≡ sets s at (range-sections t n (sort ps))
+      → s₂ ≡ sets (putMid (at + all * 8) k s₁ part) at (range-sections t n (entries-at all (putMid (at + all * 8) k s₁ part) (at + all * 8)))
+      → s₂ ≡ sets s at (range-sections t n (sort ps))
   ranges-sorted s₁ part s₂ k e f g e₂ =
       let from = at + all * 8 in
       let c = words (pairWords (sort ps)) in
@@ -128,13 +128,13 @@ module _ (t : List ℕ) (n : ℕ) (ps : List Span) (fit : Fit ps) (all : ℕ) (s
 -- the same of the code's calls, one after the other
 module _ (t : List ℕ) (words32 : (j : ℕ) → getD t j 0 < 2 ^ 32) (n all : ℕ) (few : n < 2 ^ 32) (end : LastAddr) (size : all ≡ n + length (sentinel end n)) (s : List ℕ) (at : ℕ) (room : at + all * 20 ≤ length s) where
   pub written-sorted : (s₁ s₂ part s₃ : List ℕ) (k : ℕ) → s₁ ≡ sets s (at + all * 8) (tableBytes entry-row (entries 0 (rowsOf t n)))
-    → (s₂ ≡ sets s₁ (at + all * 8 + n * 8) (tableBytes entry-row (sentinel end n))) × Fit (sentinel end n)
-    → k ≡ all * 8 → part ≡ sortedBytesOf (midOf (at + all * 8) k s₂)
-    → s₃ ≡ sets (putMid (at + all * 8) k s₂ part) at (range-sections t n (entries-at all (putMid (at + all * 8) k s₂ part) (at + all * 8)))
-    → s₃ ≡ sets s at (range-sections t n (sort (entries 0 (rowsOf t n) ++ sentinel end n)))
+      → (s₂ ≡ sets s₁ (at + all * 8 + n * 8) (tableBytes entry-row (sentinel end n))) × Fit (sentinel end n)
+      → k ≡ all * 8 → part ≡ sortedBytesOf (midOf (at + all * 8) k s₂)
+      → s₃ ≡ sets (putMid (at + all * 8) k s₂ part) at (range-sections t n (entries-at all (putMid (at + all * 8) k s₂ part) (at + all * 8)))
+      → s₃ ≡ sets s at (range-sections t n (sort (entries 0 (rowsOf t n) ++ sentinel end n)))
   written-sorted s₁ s₂ part s₃ k e₁ e₂ f g e₃ =
       let rs = entries 0 (rowsOf t n) in
       let l : length rs ≡ n = length-entries 0 (rowsOf t n) ∙ rows-length t 0 n in
       let both : s₂ ≡ sets s (at + all * 8) (tableBytes entry-row (rs ++ sentinel end n)) =
-          e₂ .0 ∙ rw (e₁, table-append entry-row rs (sentinel end n)) (sets-join (tableBytes entry-row rs) (tableBytes entry-row (sentinel end n)) s (at + all * 8) (at + all * 8 + n * 8) (rw (length-table entry-row 8 length-entry-row rs) (omega arith))) in
+      e₂ .0 ∙ rw (e₁, table-append entry-row rs (sentinel end n)) (sets-join (tableBytes entry-row rs) (tableBytes entry-row (sentinel end n)) s (at + all * 8) (at + all * 8 + n * 8) (rw (length-table entry-row 8 length-entry-row rs) (omega arith))) in
       ranges-sorted t n (rs ++ sentinel end n) (fit-append rs (sentinel end n) (fit-entries t words32 0 n (omega arith)) (e₂ .1)) all (simp length-append (omega arith)) s at room s₂ part s₃ k both f g e₃

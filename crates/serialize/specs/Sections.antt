@@ -16,8 +16,8 @@ use Rattle.tables.specs.Plain.{rowsOf}
 use Rattle.tables.specs.declared.Row.{Row}
 use Rattle.tables.specs.declared.ranges.Found.{Found}
 use Rattle.tables.specs.declared.ranges.Found.the-variants.{Absent, At}
-use Rattle.serialize.specs.declared.LastAddr.{LastAddr}
-use Rattle.serialize.specs.declared.LastAddr.the-variants.{Unset, Set}
+use Rattle.steps.specs.declared.LastAddr.{LastAddr}
+use Rattle.steps.specs.declared.LastAddr.the-variants.{Unset, Set}
 
 -- ── Files, functions, call locations ───────────────────────────────────────────────────────────────────────────────────
 

@@ -1,9 +1,17 @@
 // The written file: writer.rs, `serialize`, from the lent tables into a lent output.
-use raw::{File, Function, Range, SourceLocation};
+use raw::File;
+use raw::Function;
+use raw::Header;
+use raw::Range;
+use raw::SourceLocation;
+use raw::VersionInfo;
+use steps::Converter;
+use steps::LastAddr;
+use steps::State;
 use tables::ranges::Found;
 ghost use mathlib.Core.Path.{_≡_};
-ghost use Prim.Native.Nat.{_+_, _*_, _≤_};
-ghost use mathlib.Core.List.{_++_};
+ghost use Prim.Native.Nat.{ℕ, _+_, _*_, _≤_, _<_};
+ghost use mathlib.Core.List.{List, _++_};
 ghost use lib.ListN.{length, take};
 ghost use lib.Seq.{sets};
 ghost use Rattle.model.specs.Basics.{sort};
@@ -11,10 +19,23 @@ ghost use Rattle.raw.specs.Bytes.{Words, tableBytes};
 ghost use Rattle.tables.specs.Plain.{rowsOf};
 ghost use Rattle.sorting.specs.Pairs.{pairWords};
 ghost use Rattle.serialize.specs.Sections.{file-row, function-row, call-row, entries, entry-row, entries-at, entry-location, range-sections, vacant-end, sentinel, padding};
+ghost use Rattle.raw.specs.Rows.{versionInfoBytes, headerBytes};
+ghost use Rattle.serialize.specs.File.{memory, version-info, header-of, layout-of, written-file, Ready, wrote, serializeOf};
 
-pub enum LastAddr {
-    Unset,
-    Set(u32),
+// What writing answers: document 01's number, 0 for success, and the file's length.
+pub struct Written {
+    pub code: u32,
+    pub len: usize,
+}
+
+// Where the sections begin, and the file's length. The files begin at 80.
+struct Layout {
+    functions: usize,
+    call_locations: usize,
+    locations: usize,
+    padding: usize,
+    texts: usize,
+    len: usize,
 }
 
 // `count` file rows from `at` on.
@@ -211,4 +232,134 @@ fn write_texts(out: &mut [u8], at: usize, texts: &[u8], n: u32)
         out[at + i] = texts[i];
         i += 1;
     }
+}
+
+// The layout of a file with `all` ranges.
+fn lay_out(state: State, all: u32) -> Layout
+    ensures { λ r. ⌜ r ≡ layout-of state all ⌝ }
+{
+    let n = all as usize;
+    let functions = 80 + (state.files as usize) * 24;
+    let call_locations = functions + (state.functions as usize) * 16;
+    let locations = call_locations + (state.call_locations as usize) * 16;
+    let padding = locations + n * 16 + n * 4;
+    let texts = padding + n % 2 * 4;
+    let len = texts + (state.string_bytes as usize);
+    Layout {
+        functions,
+        call_locations,
+        locations,
+        padding,
+        texts,
+        len,
+    }
+}
+
+// Magic, version and header of a file with `all` ranges.
+fn write_head(out: &mut [u8], converter: Converter, all: u32)
+    requires { ⌜ converter .state .«call_locations» + all < 4294967296 ⌝ }
+    ensures { λ _. ⌜ now (out .exit) ≡ sets (now (out .entry)) 0 (versionInfoBytes version-info ++ headerBytes (header-of converter all)) ⌝ }
+{
+    let state = converter.state;
+    let debug_id = converter.debug_id;
+    let reserved = [0u8; 14];
+    raw::write_version_info(
+        out,
+        0,
+        VersionInfo {
+            magic: raw::SYMCACHE_MAGIC,
+            version: 9,
+        },
+    );
+    raw::write_header(
+        out,
+        8,
+        Header {
+            debug_id,
+            arch: converter.arch,
+            num_files: state.files,
+            num_functions: state.functions,
+            num_source_locations: state.call_locations + all,
+            num_ranges: all,
+            string_bytes: state.string_bytes,
+            variable_header: 0,
+            reserved,
+        },
+    );
+}
+
+// The file, from the front of the output on. `end` is the sentinel, if there is one, and `all` the number of ranges with it.
+fn write_sections(
+    out: &mut [u8],
+    converter: Converter,
+    end: LastAddr,
+    all: u32,
+    string_bytes: &[u8],
+    files: &[u32],
+    functions: &[u32],
+    call_locations: &[u32],
+    ranges: &[u32],
+)
+    requires { ⌜ Ready converter (now ranges) end all (length (now «string_bytes»)) (length (now out)) ⌝ }
+    ensures { λ _. ⌜ ((i : List ℕ) → now (out .exit) ≡ sets (now (out .entry)) 0 (written-file converter (memory (now («string_bytes» .entry)) i (now (files .entry)) (now (functions .entry)) (now («call_locations» .entry)) (now (ranges .entry))))) ⌝ }
+{
+    let state = converter.state;
+    let at = lay_out(state, all);
+    write_head(out, converter, all);
+    write_files(out, 80, files, state.files);
+    write_functions(out, at.functions, functions, state.functions);
+    write_call_locations(out, at.call_locations, call_locations, state.call_locations);
+    write_sorted(out, at.locations, ranges, state.ranges, end, all);
+    write_padding(out, at.padding, all);
+    write_texts(out, at.texts, string_bytes, state.string_bytes);
+}
+
+// The file of what was converted: its length, and its bytes at the front of the output. The converter is as it was, and may write again.
+pub fn serialize(
+    converter: Converter,
+    string_bytes: &[u8],
+    strings: &[u32],
+    files: &[u32],
+    functions: &[u32],
+    call_locations: &[u32],
+    ranges: &[u32],
+    out: &mut [u8],
+) -> Written
+    ensures { λ r. ⌜ wrote (r .code) (r .len) (now (out .exit)) ≡ serializeOf converter (memory (now («string_bytes» .entry)) (now (strings .entry)) (now (files .entry)) (now (functions .entry)) (now («call_locations» .entry)) (now (ranges .entry))) (now (out .entry)) ⌝ }
+{
+    let state = converter.state;
+    if !converter.open {
+        return Written { code: 19, len: 0 };
+    }
+    if !steps::fits(
+        state,
+        string_bytes,
+        strings,
+        files,
+        functions,
+        call_locations,
+        ranges,
+    ) {
+        return Written { code: 19, len: 0 };
+    }
+    let last = state.last_addr;
+    let end = vacant_end(last, ranges, state.ranges);
+    let all = num_ranges(state.ranges, end);
+    let at = lay_out(state, all);
+    let len = at.len;
+    if out.len() < len {
+        return Written { code: 18, len: 0 };
+    }
+    write_sections(
+        out,
+        converter,
+        end,
+        all,
+        string_bytes,
+        files,
+        functions,
+        call_locations,
+        ranges,
+    );
+    Written { code: 0, len }
 }

@@ -86,15 +86,14 @@ loop-less c = omega arith
 loop-again : tie.Need-loop-again Inv-loop μ-loop
 loop-again c =
     let l = c .before .before .before .before .before .before .before .before .before .before .before .before .before .before .loop in
-    let a = c .before .before .before .before .before .before .before .before .before .before .before .before .before .before .before .before .before .args in
-    (
+    let a = c .before .before .before .before .before .before .before .before .before .before .before .before .before .before .before .before .before .args in (
       omega arith,
       turned-step (a .ranges .now) (a .count) (a .out .now) (a .at) (a .all) (l .i) (l .out) (l .inv .1) (omega arith) _ _ _ _ _
-      (c .before .before .before .before .before .before .before .before .before .before .before .range-at .ensures)
-      (c .before .before .before .before .before .before .before .before .before .range-at2 .ensures)
-      (c .before .before .before .before .before .before .before .before .entry-location .ensures)
-      (c .before .before .before .before .before .before .write-range .ensures)
-      (c .before .before .write-location .ensures),
+          (c .before .before .before .before .before .before .before .before .before .before .before .range-at .ensures)
+          (c .before .before .before .before .before .before .before .before .before .range-at2 .ensures)
+          (c .before .before .before .before .before .before .before .before .entry-location .ensures)
+          (c .before .before .before .before .before .before .write-range .ensures)
+          (c .before .before .write-location .ensures),
     )
 
 same-length : tie.Need-same-length Inv-loop μ-loop

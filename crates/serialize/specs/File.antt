@@ -1,6 +1,7 @@
 -- The written file, and what writing answers: document 01 "Writer" and "Who causes which number"; writer.rs, `serialize`. For any record and any content of the tables.
-use Prim.Native.Nat.{ℕ, _+_, _*_, _%_}
+use Prim.Native.Nat.{ℕ, _+_, _*_, _%_, _<_, _≤_}
 use mathlib.Core.Bool.{cond, _&&_}
+use mathlib.Core.Path.{_≡_}
 use mathlib.Core.List.{List, _++_}
 use lib.Dec.{leb}
 use lib.ListN.{length, take, drop, replicate}
@@ -10,11 +11,16 @@ use Rattle.raw.specs.Rows.{versionInfoBytes, headerBytes}
 use Rattle.raw.specs.declared.VersionInfo.{VersionInfo}
 use Rattle.raw.specs.declared.Header.{Header}
 use Rattle.tables.specs.Plain.{rowsOf}
-use Rattle.steps.specs.Words.{Memory, words, fits?}
+use Rattle.steps.specs.Words.{Memory, fits?}
+use Rattle.steps.specs.declared.LastAddr.{LastAddr}
 use Rattle.steps.specs.declared.State.{State}
 use Rattle.steps.specs.declared.Converter.{Converter}
-use Rattle.serialize.specs.Sections.{file-row, function-row, call-row, in-order, location-row, start-row, padding}
+use Rattle.serialize.specs.Sections.{file-row, function-row, call-row, vacant-end, sentinel, in-order, location-row, start-row, padding}
 use Rattle.serialize.specs.declared.Layout.{Layout}
+
+-- the six lent tables
+abbrev pub memory : List ℕ → List ℕ → List ℕ → List ℕ → List ℕ → List ℕ → Memory
+memory x i f g c r = record { text = x; strings = i; files = f; functions = g; calls = c; ranges = r }
 
 -- the ranges of the file, ascending, the sentinel with them
 abbrev pub ranges-of : Converter → Memory → List Span
@@ -77,3 +83,13 @@ serializeOf c m out =
     cond (c .open && fits? (record { st = c .state; mm = m }))
     (cond (leb (length (written-file c m)) (length out)) (wrote 0 (length (written-file c m)) (written-file c m ++ drop (length (written-file c m)) out)) (wrote 18 0 out))
     (wrote 19 0 out)
+
+-- ── What a private function's contract cites ───────────────────────────────────────────────────────────────────────────
+
+-- what is known before the sections are written: the sentinel, the number of ranges with it, and that texts and output are long enough
+pub record Ready (c : Converter) (ranges : List ℕ) (end : LastAddr) (n texts out : ℕ) : Type 0 where
+  pub last : end ≡ vacant-end (c .state .«last_addr») ranges (c .state .ranges)
+  pub size : n ≡ c .state .ranges + length (sentinel end (c .state .ranges))
+  pub calls : c .state .«call_locations» + n < 4294967296
+  pub texts-there : c .state .«string_bytes» ≤ texts
+  pub room : layout-of (c .state) n .len ≤ out
