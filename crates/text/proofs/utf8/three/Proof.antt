@@ -1,0 +1,33 @@
+-- `three` meets its contract: the tail is one octet more than `two` has.
+use mathlib.Core.Path.{_∙_, sym}
+use mathlib.Core.List.{[], _∷_}
+use borrow.Author.Needs.{needs}
+use Rattle.text.specs.Utf8.{_to_, UTF8-tail, fits, octetIn}
+use Rattle.text.proofs.Utf8Steps.{fits-snoc, both, first-fails}
+use Rattle.text.proofs.utf8.three.Statement.{statement}
+use Rattle.text.proofs.utf8.three.Tie as tie
+
+two-requires : tie.Need-two-requires
+two-requires c κs = search needs
+
+tail-requires : tie.Need-tail-requires
+tail-requires c κs = search needs
+
+returns : tie.Need-returns
+returns c =
+    let a = c .before .before .before .before .args in
+    let r = a .lo to a .hi in
+    let q = a .lo2 to a .hi2 in
+    let s = a .s .now in
+    both (fits (r ∷ q ∷ []) s) (octetIn s 2 UTF8-tail) (c .before .before .two .ensures) (c .before .if1 .taken) (c .tail .ensures) ∙ sym (fits-snoc (r ∷ q ∷ []) UTF8-tail s)
+
+returns-2 : tie.Need-returns-2
+returns-2 c =
+    let a = c .before .before .before .args in
+    let r = a .lo to a .hi in
+    let q = a .lo2 to a .hi2 in
+    let s = a .s .now in
+    first-fails (fits (r ∷ q ∷ []) s) (octetIn s 2 UTF8-tail) (c .before .two .ensures) (c .if1 .left) ∙ sym (fits-snoc (r ∷ q ∷ []) UTF8-tail s)
+
+pub three-spec : {M : Type 1} → statement M
+three-spec = tie.close (tie.spec two-requires tail-requires returns returns-2)
