@@ -1,2 +1,5 @@
 pub mod Answers
 pub mod ReaderLaws
+pub mod SearchLaws
+pub mod LookupLaws
+pub mod WalkLaws

@@ -2,19 +2,19 @@
 use Prim.Native.Nat.{ℕ, zero, suc, _+_, _*_, _-_, _≤_, _<_, _^_}
 use mathlib.Core.Path.{_≡_, refl, ap, sym, _∙_}
 use mathlib.Core.List.{List}
-use mathlib.Core.Bool.{Bool, true, false, cond, _&&_}
+use mathlib.Core.Bool.{Bool, true, false, cond, not, _&&_}
 use native.Mathlib.Omega.{arith}
 use native.Mathlib.Numerals.{add-one}
 use lib.Dec.{ltb, leb, eqb}
 use lib.ListN.{length}
-use borrow.Author.Tests.{lt-ltb, le-ltb, ltb-true, ltb-false, eq-eqb, ne-eqb}
+use borrow.Author.Tests.{lt-ltb, le-ltb, ltb-true, ltb-false, eq-eqb, ne-eqb, not-false}
 use Rattle.raw.specs.declared.VersionInfo.{VersionInfo}
 use Rattle.raw.specs.declared.Header.{Header}
 use Rattle.raw.specs.Rows.{versionInfoAt, headerAt}
 use Rattle.symcache.specs.declared.SymCache.{SymCache}
 use Rattle.symcache.specs.declared.Parsed.{Parsed}
 use Rattle.symcache.specs.Answers.{Refusal, Answer, gives, refuses, only, refuseIf, andThen, parseAnswer}
-use Rattle.symcache.specs.Reader.{magic, reversedMagic, aligned, layoutOf, tested, parsed, startAt, ascendingFrom, ascending, opened}
+use Rattle.symcache.specs.Reader.{magic, reversedMagic, aligned, layoutOf, tested, parsed, startAt, ascendingFrom, ascending, opened, Within}
 
 pub aligned-up : (n : ℕ) → aligned n ≤ n + 7
 unfolding aligned
@@ -105,14 +105,6 @@ unexpected-bytes n c v f h₁ h₂ h₃ h₄ h₅ h₆ e =
 
 -- ── What an accepted file has ──
 
-pub record Within (n : ℕ) (c : SymCache) : Type 0 where
-  pub files : c .files + 24 * c .«num_files» ≤ n
-  pub functions : c .functions + 16 * c .«num_functions» ≤ n
-  pub locations : c .«source_locations» + 16 * c .«num_source_locations» ≤ n
-  pub ranges : c .ranges + 4 * c .«num_ranges» ≤ n
-  pub fewer : c .«num_ranges» ≤ c .«num_source_locations»
-  pub strings : c .strings + c .«string_bytes» ≤ n
-
 -- a test that an accepted file has passed
 passed : {A : Type 0} (b : Bool) (r : Refusal) (y : Answer A) (a : A) → refuseIf b r y ≡ gives a → (b ≡ false) × (y ≡ gives a)
 unfolding refuseIf
@@ -164,3 +156,17 @@ opened-unordered s c e a = rw (e, andThen, a)
 pub opened-refused : (s : List ℕ) (r : Refusal) → parsed s ≡ refuses r → refuses r ≡ opened s
 unfolding opened andThen refuseIf
 opened-refused s r e = rw (e, andThen)
+
+-- what an opened file has
+pub opened-has : (s : List ℕ) (c : SymCache) → opened s ≡ gives c → Within (length s) c × (ascending (startAt s (c .ranges)) (c .«num_ranges») ≡ true)
+unfolding opened andThen
+opened-has s c e = go (parsed s) refl e
+  where
+    go : (p : Answer SymCache) → parsed s ≡ p
+        → andThen p (λ d. refuseIf (not (ascending (startAt s (d .ranges)) (d .«num_ranges»))) (only 12) (gives d)) ≡ gives c
+        → Within (length s) c × (ascending (startAt s (c .ranges)) (c .«num_ranges») ≡ true)
+    go (gives d) g h =
+        let (t, u) = passed (not (ascending (startAt s (d .ranges)) (d .«num_ranges»))) (only 12) (gives d) c h in
+        let same : d ≡ c = cc in
+        (parsed-within s c (rw same at g) .1, rw same at (not-false (ascending (startAt s (d .ranges)) (d .«num_ranges»)) t))
+    go (refuses r) g h = let z : _≡_ {A = ℕ} 0 1 = cc in absurd (omega arith)

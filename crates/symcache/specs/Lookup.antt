@@ -109,13 +109,14 @@ ended s c k =
     || (leb (c .«num_source_locations») (k .current)
     || (leb (c .«num_source_locations») (k .steps) || met s c (k .current) (k .first) (k .steps)))
 
+abbrev pub framed : List ℕ → SymCache → SourceLocations → Framed
+framed s c k = record {
+  frame = frameIn s c (k .current);
+  next = record { first = k .first; current = locationIn s c (k .current) .«inlined_into_idx»; steps = k .steps + 1 };
+}
+
 unfoldable pub stepIn : List ℕ → SymCache → SourceLocations → Option Framed
-stepIn s c k =
-    cond (ended s c k) none
-    (some (record {
-      frame = frameIn s c (k .current);
-      next = record { first = k .first; current = locationIn s c (k .current) .«inlined_into_idx»; steps = k .steps + 1 };
-    }))
+stepIn s c k = cond (ended s c k) none (some (framed s c k))
 
 unfoldable pub stepped : List ℕ → SourceLocations → Answer (Option Framed)
 stepped s k = andThen (parsed s) (λ c. gives (stepIn s c k))

@@ -1,5 +1,5 @@
 -- The reader: document 01 "Reader" and numbers 1 to 12; `SymCache::parse` of v9/mod.rs over what follows the first eight bytes.
-use Prim.Native.Nat.{ℕ, zero, suc, _+_, _*_, _/_, _-_, _<_, _^_}
+use Prim.Native.Nat.{ℕ, zero, suc, _+_, _*_, _/_, _-_, _≤_, _<_, _^_}
 use mathlib.Core.List.{List}
 use mathlib.Core.Bool.{Bool, true, false, not, _&&_}
 use lib.Dec.{eqb, ltb}
@@ -75,6 +75,15 @@ parsed s =
     (refuseIf (not (eqb (versionInfoAt s 0 .version) 9)) (only 4)
     (refuseIf (ltb (length s) 80) (only 5)
     (tested (length s) (layoutOf (headerAt s 8)) (headerAt s 8 .«variable_header»))))))
+
+-- what an accepted file has: its tables lie in its `n` bytes
+pub record Within (n : ℕ) (c : SymCache) : Type 0 where
+  pub files : c .files + 24 * c .«num_files» ≤ n
+  pub functions : c .functions + 16 * c .«num_functions» ≤ n
+  pub locations : c .«source_locations» + 16 * c .«num_source_locations» ≤ n
+  pub ranges : c .ranges + 4 * c .«num_ranges» ≤ n
+  pub fewer : c .«num_ranges» ≤ c .«num_source_locations»
+  pub strings : c .strings + c .«string_bytes» ≤ n
 
 -- the start of range i
 abbrev pub startAt : List ℕ → ℕ → ℕ → ℕ
