@@ -3,3 +3,4 @@ pub mod ReaderLaws
 pub mod SearchLaws
 pub mod LookupLaws
 pub mod WalkLaws
+pub mod StringLaws

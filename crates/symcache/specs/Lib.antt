@@ -1,3 +1,4 @@
 pub mod Answers
 pub mod Reader
 pub mod Lookup
+pub mod Strings

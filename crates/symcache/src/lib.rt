@@ -7,6 +7,7 @@ ghost use Rattle.symcache.specs.Reader.{aligned, layoutOf, tested, Low, 
 use raw::Header;
 
 pub mod lookup;
+pub mod strings;
 
 // Why a file is refused.
 pub enum ErrorKind {
@@ -174,13 +175,19 @@ pub fn parse(s: &[u8]) -> Parsed
     parse_tables(s.len(), cache, header.variable_header)
 }
 
-// The start of range `i`.
+fn wide(x: u8) -> u32
+    ensures { λ r. ⌜ (r ≡ x) × (x ≤ 255) ⌝ }
+{
+    x as u32
+}
+
+// The start of range `i`: as `raw::range_at` reads it, with no test, for the search.
 fn range_start(s: &[u8], ranges: usize, i: usize) -> u32
     requires { ⌜ ranges + (4 * i + 4) ≤ length (now s) ⌝ }
     ensures { λ r. ⌜ r ≡ startAt (now (s .entry)) ranges i ⌝ }
 {
-    let range = raw::range_at(s, ranges + 4 * i);
-    range.0
+    let at = ranges + 4 * i;
+    wide(s[at]) + 256 * (wide(s[at + 1]) + 256 * (wide(s[at + 2]) + 256 * wide(s[at + 3])))
 }
 
 // Whether the starts of `n` ranges ascend strictly.
