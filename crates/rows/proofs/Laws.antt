@@ -1,0 +1,233 @@
+-- What the definitions compute to under the tests that the code makes: a row by value, a part of the text, a line's addresses, a loop over rows.
+use Prim.Native.Nat.{ℕ, zero, suc, _+_, _-_, _*_, _/_, _%_, _≤_, _<_, min}
+use mathlib.Core.Path.{_≡_, refl, sym, _∙_, ap}
+use mathlib.Core.Bool.{Bool, true, false, cond, _&&_, true≢false, false≢true}
+use mathlib.Core.Logic.{⊎-elim}
+use mathlib.Core.List.{List, [], _∷_}
+use native.Mathlib.Omega.{arith}
+use native.Mathlib.Numerals.{add-one}
+use native.Mathlib.Nat.{eq-or-lt-of-le}
+use lib.ListN.{length, getD, take, drop}
+use lib.Dec.{ltb, leb, eqb}
+use borrow.Author.Tests.{lt-ltb, le-ltb, le-leb, lt-leb, eq-eqb, ne-eqb}
+use Rattle.model.specs.Rows.{MAX}
+use Rattle.rows.specs.declared.Boundaries.{Boundaries}
+use Rattle.rows.specs.declared.FunctionRow.{FunctionRow}
+use Rattle.rows.specs.declared.OptionalPart.{OptionalPart}
+use Rattle.rows.specs.Columns.{Columns, functionRows, lineRows, functionStruct, lineStruct, functionWords, functionRow, lineWords, lineRow, boundariesOf, partOf}
+use Rattle.rows.specs.Refusals.{each, total, count?, depth?, shaped?, readable?, optional?, functionTexts?, lineTexts?, texts?, end?, ends?, room?, refusalOf}
+
+module _ (f64 f32 : List ℕ) (i : ℕ) where
+  pub function-in : i < length f64 / 2 → i < length f32 / 8 → functionWords f64 f32 i ≡ functionRow f64 f32 i
+  unfolding functionRow
+  function-in g h = rw (lt-ltb _ _ g, lt-ltb _ _ h)
+
+  pub function-out64 : length f64 / 2 ≤ i → functionWords [] [] 0 ≡ functionRow f64 f32 i
+  unfolding functionRow
+  function-out64 h = rw (le-ltb _ _ h)
+
+  pub function-out32 : i < length f64 / 2 → length f32 / 8 ≤ i → functionWords [] [] 0 ≡ functionRow f64 f32 i
+  unfolding functionRow
+  function-out32 g h = rw (lt-ltb _ _ g, le-ltb _ _ h)
+
+module _ (l64 l32 : List ℕ) (j : ℕ) where
+  pub line-in : j < length l64 / 3 → j < length l32 / 14 → lineWords l64 l32 j ≡ lineRow l64 l32 j
+  unfolding lineRow
+  line-in g h = rw (lt-ltb _ _ g, lt-ltb _ _ h)
+
+  pub line-out64 : length l64 / 3 ≤ j → lineWords [] [] 0 ≡ lineRow l64 l32 j
+  unfolding lineRow
+  line-out64 h = rw (le-ltb _ _ h)
+
+  pub line-out32 : j < length l64 / 3 → length l32 / 14 ≤ j → lineWords [] [] 0 ≡ lineRow l64 l32 j
+  unfolding lineRow
+  line-out32 g h = rw (lt-ltb _ _ g, le-ltb _ _ h)
+
+module _ (t : List ℕ) (start len : ℕ) where
+  pub part-in : start + len ≤ length t → take (start + len - start) (drop start t) ≡ partOf t start len
+  unfolding partOf
+  part-in h = let e : start + len - start ≡ len = omega arith in rw (e, le-leb _ _ h)
+
+  pub part-out : length t < start + len → [] ≡ partOf t start len
+  unfolding partOf
+  part-out h = rw (lt-leb _ _ h)
+
+module _ (a : ℕ) (h : Bool) (s : ℕ) where
+  boundaries-are : {from to : ℕ} → from ≡ min a MAX → to ≡ min (min a MAX + cond h s 1) MAX → record { start = from; end = to } ≡ boundariesOf a h s
+  unfolding boundariesOf
+  boundaries-are e f = λ i. record { start = e i; end = f i }
+
+  pub boundaries-clamped : MAX ≤ a → record { start = MAX; end = MAX } ≡ boundariesOf a h s
+  boundaries-clamped l = boundaries-are (omega arith) (omega arith)
+
+  pub boundaries-saturated : a < MAX → h ≡ true → MAX - a < s → record { start = a; end = MAX } ≡ boundariesOf a h s
+  boundaries-saturated l e g = boundaries-are (omega arith) (rw e (omega arith))
+
+  pub boundaries-sized : a < MAX → h ≡ true → s ≤ MAX - a → record { start = a; end = a + s } ≡ boundariesOf a h s
+  boundaries-sized l e g = boundaries-are (omega arith) (rw e (omega arith))
+
+  pub boundaries-single : a < MAX → h ≡ false → record { start = a; end = a + 1 } ≡ boundariesOf a h s
+  boundaries-single l e = boundaries-are (omega arith) (rw e (omega arith))
+
+-- ── Loops over rows ──
+
+pub both-left : (a b : Bool) → a && b ≡ true → a ≡ true
+both-left true b e = refl
+both-left false b e = e
+
+pub both-right : (a b : Bool) → a && b ≡ true → b ≡ true
+both-right true b e = e
+both-right false b e = absurd (false≢true e)
+
+below : (i n : ℕ) → i < suc n → i ≤ n
+below i n h = omega arith
+
+module _ (p : ℕ → Bool) where
+  pub each-none : each p 0 ≡ true
+  unfolding each
+  each-none = refl
+
+  pub each-more : (i : ℕ) → each p i ≡ true → p i ≡ true → each p (i + 1) ≡ true
+  unfolding each
+  each-more i e f = rw (add-one, e, f)
+
+  pub each-at : (n i : ℕ) → i < n → each p n ≡ true → p i ≡ true
+  unfolding each
+  each-at zero i h e = absurd (omega arith)
+  each-at (suc n) i h e =
+      ⊎-elim (λ z. ap p z ∙ both-right (each p n) (p n) e) (λ l. each-at n i l (both-left (each p n) (p n) e)) (eq-or-lt-of-le (below i n h))
+
+  pub each-not : (n i : ℕ) → i < n → p i ≡ false → each p n ≡ false
+  each-not n i h f = go (each p n) refl
+    where
+      go : (b : Bool) → each p n ≡ b → each p n ≡ false
+      go true e = absurd (true≢false (sym (each-at n i h e) ∙ f))
+      go false e = e
+
+pub total-none : (f : ℕ → ℕ) → 0 ≡ total f 0
+unfolding total
+total-none f = refl
+
+pub total-more : (f : ℕ → ℕ) (i : ℕ) {sum v : ℕ} → sum ≡ total f i → v ≡ f i → sum + v ≡ total f (i + 1)
+unfolding total
+total-more f i e g = rw (add-one, e, g)
+
+module _ (p : ℕ → Bool) where
+  pub each-end : (n i : ℕ) → i ≤ n → n ≤ i → each p i ≡ true → true ≡ each p n
+  each-end n i g h e = let z : n ≡ i = omega arith in rw z (sym e)
+
+pub total-end : (f : ℕ → ℕ) (n i sum : ℕ) → i ≤ n → n ≤ i → sum ≡ total f i → sum ≡ total f n
+total-end f n i sum g h e = let z : n ≡ i = omega arith in rw z e
+
+-- ── Tests one after the other ──
+
+module _ (x y : Bool) where
+  pub and-stop : x ≡ false → false ≡ x && y
+  and-stop e = rw e
+
+  pub and-then : (r : Bool) → x ≡ true → r ≡ y → r ≡ x && y
+  and-then r e f = rw e f
+
+-- ── 13: depths ──
+
+module _ (d : ℕ → ℕ) where
+  pub depths-first : d 0 ≡ 0 → each (depth? d) 1 ≡ true
+  unfolding each depth?
+  depths-first e = eq-eqb (d 0) 0 e
+
+  pub depths-not-first : (n : ℕ) → 1 ≤ n → (d 0 ≡ 0 → ⊥) → false ≡ each (depth? d) n
+  unfolding depth?
+  depths-not-first n h e = sym (each-not (depth? d) n 0 h (ne-eqb (d 0) 0 e))
+
+  step-zero : (i : ℕ) → 1 ≤ i → d i ≡ 0 → depth? d i ≡ false
+  unfolding depth?
+  step-zero zero h e = absurd (omega arith)
+  step-zero (suc i) h e = rw (le-ltb 0 (d (suc i)) (omega arith))
+
+  step-high : (i : ℕ) → 1 ≤ i → d (i - 1) + 1 < d i → depth? d i ≡ false
+  unfolding depth?
+  step-high zero h l = absurd (omega arith)
+  step-high (suc i) h l = let z : suc i - 1 ≡ i = omega arith in rw (lt-ltb 0 (d (suc i)) (omega arith), lt-leb (d (suc i)) (d i + 1) (rw z at l))
+
+  step-down : (i : ℕ) → 1 ≤ i → (d i ≡ 0 → ⊥) → d i ≤ d (i - 1) + 1 → depth? d i ≡ true
+  unfolding depth?
+  step-down zero h e l = absurd (omega arith)
+  step-down (suc i) h e l =
+      let z : suc i - 1 ≡ i = omega arith in rw (lt-ltb 0 (d (suc i)) (omega (arith, e)), le-leb (d (suc i)) (d i + 1) (rw z at l))
+
+  pub depths-zero : (n i : ℕ) → 1 ≤ i → i < n → d i ≡ 0 → false ≡ each (depth? d) n
+  depths-zero n i g h e = sym (each-not (depth? d) n i h (step-zero i g e))
+
+  pub depths-high : (n i most : ℕ) → 1 ≤ i → i < n → most ≡ d (i - 1) + 1 → most < d i → false ≡ each (depth? d) n
+  depths-high n i most g h e l = sym (each-not (depth? d) n i h (step-high i g (rw e at l)))
+
+  pub depths-more : (i most : ℕ) → 1 ≤ i → each (depth? d) i ≡ true → most ≡ d (i - 1) + 1 → (d i ≡ 0 → ⊥) → d i ≤ most → each (depth? d) (i + 1) ≡ true
+  depths-more i most g a e z l = each-more (depth? d) i a (step-down i g z (rw e at l))
+
+  pub depths-most : (i m : ℕ) → m ≡ d i → m + 1 ≡ d (i + 1 - 1) + 1
+  depths-most i m e = let z : i + 1 - 1 ≡ i = omega arith in rw (z, e)
+
+-- ── 15 ──
+
+pub end-no : (q : FunctionRow) → 0xffff_ffff_ffff_ffff - q .address < q .size → end? q ≡ false
+unfolding end?
+end-no q h = lt-leb (q .address + q .size) 0xffff_ffff_ffff_ffff (omega arith)
+
+pub end-yes : (q : FunctionRow) → q .address ≤ 0xffff_ffff_ffff_ffff → q .size ≤ 0xffff_ffff_ffff_ffff - q .address → end? q ≡ true
+unfolding end?
+end-yes q g h = le-leb (q .address + q .size) 0xffff_ffff_ffff_ffff (omega arith)
+
+-- ── 14: an optional text ──
+
+module _ (t : List ℕ) (o : OptionalPart) where
+  pub optional-present : o .present ≡ true → optional? t o ≡ readable? t (o .part)
+  unfolding optional?
+  optional-present e = rw e
+
+  pub optional-absent : o .present ≡ false → optional? t o ≡ true
+  unfolding optional?
+  optional-absent e = rw e
+
+-- ── 13 to 16 ──
+
+module _ (n : ℕ) where
+  pub count-yes : 0 < n → n ≤ 65536 → count? n ≡ true
+  unfolding count?
+  count-yes g h = rw (lt-ltb 0 n g, le-leb n 65536 h)
+
+  pub count-none : n ≤ 0 → count? n ≡ false
+  unfolding count?
+  count-none g = rw (le-ltb 0 n g)
+
+  pub count-many : 65536 < n → count? n ≡ false
+  unfolding count?
+  count-many g = rw (lt-ltb 0 n (omega arith), lt-leb n 65536 g)
+
+module _ (k : Columns) (s : ℕ) where
+  pub refusal-13 : shaped? k ≡ false → 13 ≡ refusalOf k s
+  unfolding refusalOf
+  refusal-13 e = rw e
+
+  module _ (shape : shaped? k ≡ true) where
+    pub refusal-14-functions : each (λ (i : ℕ). functionTexts? (k .text) (functionStruct k i)) (functionRows k) ≡ false → 14 ≡ refusalOf k s
+    unfolding refusalOf texts?
+    refusal-14-functions e = rw (shape, e)
+
+    module _ (names : each (λ (i : ℕ). functionTexts? (k .text) (functionStruct k i)) (functionRows k) ≡ true) where
+      pub refusal-14-lines : each (λ (j : ℕ). lineTexts? (k .text) (lineStruct k j)) (lineRows k) ≡ false → 14 ≡ refusalOf k s
+      unfolding refusalOf texts?
+      refusal-14-lines e = rw (shape, names, e)
+
+      module _ (files : each (λ (j : ℕ). lineTexts? (k .text) (lineStruct k j)) (lineRows k) ≡ true) where
+        pub refusal-15 : each (λ (i : ℕ). end? (functionStruct k i)) (functionRows k) ≡ false → 15 ≡ refusalOf k s
+        unfolding refusalOf texts? ends?
+        refusal-15 e = rw (shape, names, files, e)
+
+        module _ (low : each (λ (i : ℕ). end? (functionStruct k i)) (functionRows k) ≡ true) where
+          pub refusal-16 : s / 4 < functionRows k + lineRows k → 16 ≡ refusalOf k s
+          unfolding refusalOf texts? ends? room?
+          refusal-16 h = rw (shape, names, files, low, lt-leb (4 * (functionRows k + lineRows k)) s (omega arith))
+
+          pub refusal-0 : functionRows k + lineRows k ≤ s / 4 → 0 ≡ refusalOf k s
+          unfolding refusalOf texts? ends? room?
+          refusal-0 h = rw (shape, names, files, low, le-leb (4 * (functionRows k + lineRows k)) s (omega arith))

@@ -1,0 +1,57 @@
+-- `rows::line_count` meets its contract. The loop's invariant: the sum is that of the rows passed, each below 2^32.
+use Prim.Native.Nat.{ℕ, _≤_, _-_, _*_}
+use mathlib.Core.Path.{_≡_, ap}
+use native.Mathlib.Omega.{arith}
+use borrow.Author.Needs.{needs}
+use Rattle.rows.specs.Columns.{functionRow}
+use Rattle.rows.specs.declared.FunctionRow.{FunctionRow}
+use Rattle.rows.specs.Refusals.{total}
+use Rattle.rows.proofs.Laws.{total-none, total-more, total-end}
+use Rattle.rows.proofs.line_count.Statement.{statement}
+use Rattle.rows.proofs.line_count.Tie as tie
+
+abbrev Inv-loop : tie.InvT-loop
+Inv-loop functions64 functions32 n sum₀ i₀ sum i = (i ≤ n) × (sum ≡ total (λ (r : ℕ). functionRow functions64 functions32 r .lines) i) × (sum ≤ 4294967295 * i)
+
+abbrev μ-loop : tie.MeasureT-loop
+μ-loop functions64 functions32 n sum₀ i₀ sum i = n - i
+
+loop-holds : tie.Need-loop-holds Inv-loop μ-loop
+loop-holds c = (omega arith, total-none _, omega arith)
+
+function-row-requires : tie.Need-function-row-requires Inv-loop μ-loop
+function-row-requires c κs = search needs
+
+cast-sum : tie.Need-cast-sum Inv-loop μ-loop
+cast-sum c = search needs
+
+add-sum : tie.Need-add-sum Inv-loop μ-loop
+add-sum c = omega arith
+
+add-i : tie.Need-add-i Inv-loop μ-loop
+add-i c = omega arith
+
+loop-less : tie.Need-loop-less Inv-loop μ-loop
+loop-less c = omega arith
+
+loop-again : tie.Need-loop-again Inv-loop μ-loop
+loop-again c =
+    (omega arith, total-more _ _ (c .before .before .before .loop .inv .1) (ap (λ (q : FunctionRow). q .lines) (c .before .function-row .ensures)), omega arith)
+
+returns : tie.Need-returns Inv-loop μ-loop
+returns c = total-end _ _ _ _ (c .before .loop .inv .0) (c .loop-test .left) (c .before .loop .inv .1)
+
+pub line-count-spec : {M : Type 1} → statement M
+line-count-spec =
+    tie.close
+    (tie.spec
+    Inv-loop
+    μ-loop
+    loop-holds
+    function-row-requires
+    cast-sum
+    add-sum
+    add-i
+    loop-less
+    loop-again
+    returns)

@@ -1,0 +1,35 @@
+-- `rows::readable` meets its contract: the two tests one after the other.
+use mathlib.Core.Path.{sym, ap, _∙_}
+use borrow.Author.Needs.{needs}
+use Rattle.text.specs.Utf8.{utf8}
+use Rattle.rows.specs.Columns.{textOf}
+use Rattle.rows.specs.Refusals.{inside?, readable?}
+use Rattle.rows.proofs.Laws.{and-stop, and-then}
+use Rattle.rows.proofs.readable.Statement.{statement}
+use Rattle.rows.proofs.readable.Tie as tie
+
+inside-requires : tie.Need-inside-requires
+inside-requires c κs = search needs
+
+part-requires : tie.Need-part-requires
+part-requires c κs = search needs
+
+is-utf8-requires : tie.Need-is-utf8-requires
+is-utf8-requires c κs = search needs
+
+returns : tie.Need-returns
+unfolding readable?
+returns c =
+    let a = c .before .before .before .before .before .args in
+    and-then (inside? (a .text .now) (a .p)) (utf8 (textOf (a .text .now) (a .p))) _ (sym (c .before .before .before .inside .ensures) ∙ c .before .before .if1 .taken)
+    (c .is-utf8 .ensures ∙ ap utf8 (c .before .part .ensures))
+
+returns-2 : tie.Need-returns-2
+unfolding readable?
+returns-2 c =
+    let a = c .before .before .before .args in
+    and-stop (inside? (a .text .now) (a .p)) (utf8 (textOf (a .text .now) (a .p))) (sym (c .before .inside .ensures) ∙ c .if1 .left)
+
+pub readable-spec : {M : Type 1} → statement M
+readable-spec =
+    tie.close (tie.spec inside-requires part-requires is-utf8-requires returns returns-2)

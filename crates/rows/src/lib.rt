@@ -1,0 +1,410 @@
+// What a tree call is given: function rows and line rows as columns of numbers over one lent text; and the numbers 13 to 16.
+ghost use mathlib.Core.Path.{_≡_};
+ghost use mathlib.Core.List.{List};
+ghost use Prim.Native.Nat.{ℕ, _≤_};
+ghost use Rattle.rows.specs.Columns.{columns, functionRow, lineRow, partOf, boundariesOf};
+ghost use Rattle.rows.specs.Refusals.{
+  each,
+  total,
+  lengths?,
+  depth?,
+  shaped?,
+  inside?,
+  readable?,
+  optional?,
+  functionTexts?,
+  lineTexts?,
+  texts?,
+  end?,
+  refusalOf,
+};
+use text::utf8::is_utf8;
+
+// A part of the lent text.
+pub struct TextPart {
+    pub start: u32,
+    pub len: u32,
+}
+
+// A text that may be absent.
+pub struct OptionalPart {
+    pub present: bool,
+    pub part: TextPart,
+}
+
+pub struct FunctionRow {
+    pub depth: u32,
+    pub address: u64,
+    pub size: u64,
+    pub inline: bool,
+    pub language: u32,
+    pub name: TextPart,
+    pub comp_dir: TextPart,
+    pub lines: u32,
+}
+
+pub struct LineRow {
+    pub address: u64,
+    pub has_size: bool,
+    pub size: u64,
+    pub number: u64,
+    pub name: TextPart,
+    pub directory: TextPart,
+    pub srcsrv_name: OptionalPart,
+    pub srcsrv_dir: OptionalPart,
+    pub revision: OptionalPart,
+}
+
+// The addresses from `start` up to but not `end`.
+pub struct Boundaries {
+    pub start: u32,
+    pub end: u32,
+}
+
+// Function row i; zeros where there is none.
+pub fn function_row(functions64: &[u64], functions32: &[u32], i: usize) -> FunctionRow
+    ensures { λ r. ⌜ r ≡ functionRow (now (functions64 .entry)) (now (functions32 .entry)) i ⌝ }
+{
+    if i < functions64.len() / 2 {
+        if i < functions32.len() / 8 {
+            let w = i * 2;
+            let k = i * 8;
+            return FunctionRow {
+                depth: functions32[k],
+                address: functions64[w],
+                size: functions64[w + 1],
+                inline: functions32[k + 1] != 0,
+                language: functions32[k + 2],
+                name: TextPart {
+                    start: functions32[k + 3],
+                    len: functions32[k + 4],
+                },
+                comp_dir: TextPart {
+                    start: functions32[k + 5],
+                    len: functions32[k + 6],
+                },
+                lines: functions32[k + 7],
+            };
+        }
+    }
+    FunctionRow {
+        depth: 0,
+        address: 0,
+        size: 0,
+        inline: false,
+        language: 0,
+        name: TextPart { start: 0, len: 0 },
+        comp_dir: TextPart { start: 0, len: 0 },
+        lines: 0,
+    }
+}
+
+// Line row j; zeros where there is none.
+pub fn line_row(lines64: &[u64], lines32: &[u32], j: usize) -> LineRow
+    ensures { λ r. ⌜ r ≡ lineRow (now (lines64 .entry)) (now (lines32 .entry)) j ⌝ }
+{
+    if j < lines64.len() / 3 {
+        if j < lines32.len() / 14 {
+            let w = j * 3;
+            let k = j * 14;
+            return LineRow {
+                address: lines64[w],
+                has_size: lines32[k] != 0,
+                size: lines64[w + 1],
+                number: lines64[w + 2],
+                name: TextPart {
+                    start: lines32[k + 1],
+                    len: lines32[k + 2],
+                },
+                directory: TextPart {
+                    start: lines32[k + 3],
+                    len: lines32[k + 4],
+                },
+                srcsrv_name: OptionalPart {
+                    present: lines32[k + 5] != 0,
+                    part: TextPart {
+                        start: lines32[k + 6],
+                        len: lines32[k + 7],
+                    },
+                },
+                srcsrv_dir: OptionalPart {
+                    present: lines32[k + 8] != 0,
+                    part: TextPart {
+                        start: lines32[k + 9],
+                        len: lines32[k + 10],
+                    },
+                },
+                revision: OptionalPart {
+                    present: lines32[k + 11] != 0,
+                    part: TextPart {
+                        start: lines32[k + 12],
+                        len: lines32[k + 13],
+                    },
+                },
+            };
+        }
+    }
+    LineRow {
+        address: 0,
+        has_size: false,
+        size: 0,
+        number: 0,
+        name: TextPart { start: 0, len: 0 },
+        directory: TextPart { start: 0, len: 0 },
+        srcsrv_name: OptionalPart {
+            present: false,
+            part: TextPart { start: 0, len: 0 },
+        },
+        srcsrv_dir: OptionalPart {
+            present: false,
+            part: TextPart { start: 0, len: 0 },
+        },
+        revision: OptionalPart {
+            present: false,
+            part: TextPart { start: 0, len: 0 },
+        },
+    }
+}
+
+// A part of the text; empty where it lies outside.
+pub fn part<'a>(text: &'a [u8], p: TextPart) -> &'a [u8]
+    ensures { λ r. ⌜ now r ≡ partOf (now (text .entry)) (p .start) (p .len) ⌝ }
+{
+    let start = p.start as usize;
+    let end = start + p.len as usize;
+    if end <= text.len() {
+        return &text[start..end];
+    }
+    &text[..0]
+}
+
+// A line's addresses: the start clamps and the end saturates at u32::MAX; a line with no size covers one address.
+pub fn line_boundaries(address: u64, has_size: bool, size: u64) -> Boundaries
+    ensures { λ r. ⌜ r ≡ boundariesOf address «has_size» size ⌝ }
+{
+    let max: u64 = 4294967295;
+    if max <= address {
+        return Boundaries {
+            start: 4294967295,
+            end: 4294967295,
+        };
+    }
+    let start = address as u32;
+    if has_size {
+        if max - address < size {
+            return Boundaries {
+                start,
+                end: 4294967295,
+            };
+        }
+        return Boundaries {
+            start,
+            end: start + size as u32,
+        };
+    }
+    Boundaries {
+        start,
+        end: start + 1,
+    }
+}
+
+// 13: the lengths of the slices are those of whole rows, and agree.
+fn lengths(functions64: &[u64], functions32: &[u32], lines64: &[u64], lines32: &[u32]) -> bool
+    ensures { λ r. ⌜ ((t : List ℕ) → r ≡ lengths? (columns (now (functions64 .entry)) (now (functions32 .entry)) (now (lines64 .entry)) (now (lines32 .entry)) t)) ⌝ }
+{
+    if functions64.len() % 2 == 0 {
+        if functions32.len() % 8 == 0 {
+            if lines64.len() % 3 == 0 {
+                if lines32.len() % 14 == 0 {
+                    if functions32.len() / 8 == functions64.len() / 2 {
+                        return lines32.len() / 14 == lines64.len() / 3;
+                    }
+                }
+            }
+        }
+    }
+    false
+}
+
+// 13: the first depth is 0, and each later one is above 0 and at most its predecessor's plus 1.
+fn depths(functions64: &[u64], functions32: &[u32], n: usize) -> bool
+    requires { ⌜ 1 ≤ n ⌝ }
+    ensures { λ r. ⌜ r ≡ each (depth? (λ (i : ℕ). functionRow (now (functions64 .entry)) (now (functions32 .entry)) i .depth)) n ⌝ }
+{
+    if function_row(functions64, functions32, 0).depth != 0 {
+        return false;
+    }
+    let mut most: u64 = 1;
+    let mut i = 1;
+    while i < n {
+        let depth = function_row(functions64, functions32, i).depth as u64;
+        if depth == 0 {
+            return false;
+        }
+        if most < depth {
+            return false;
+        }
+        most = depth + 1;
+        i += 1;
+    }
+    true
+}
+
+// 13: the line counts of the first n rows together.
+fn line_count(functions64: &[u64], functions32: &[u32], n: usize) -> usize
+    requires { ⌜ n ≤ 65536 ⌝ }
+    ensures { λ r. ⌜ r ≡ total (λ (i : ℕ). functionRow (now (functions64 .entry)) (now (functions32 .entry)) i .lines) n ⌝ }
+{
+    let mut sum: usize = 0;
+    let mut i = 0;
+    while i < n {
+        sum += function_row(functions64, functions32, i).lines as usize;
+        i += 1;
+    }
+    sum
+}
+
+// 13: the rows are a tree's.
+fn shaped(functions64: &[u64], functions32: &[u32], lines64: &[u64], lines32: &[u32]) -> bool
+    ensures { λ r. ⌜ ((t : List ℕ) → r ≡ shaped? (columns (now (functions64 .entry)) (now (functions32 .entry)) (now (lines64 .entry)) (now (lines32 .entry)) t)) ⌝ }
+{
+    let n = functions64.len() / 2;
+    if lengths(functions64, functions32, lines64, lines32) {
+        if 0 < n {
+            if n <= 65536 {
+                if depths(functions64, functions32, n) {
+                    return line_count(functions64, functions32, n) == lines64.len() / 3;
+                }
+            }
+        }
+    }
+    false
+}
+
+// 14: the part lies inside the text.
+fn inside(text: &[u8], p: TextPart) -> bool
+    ensures { λ r. ⌜ r ≡ inside? (now (text .entry)) p ⌝ }
+{
+    p.start as usize + p.len as usize <= text.len()
+}
+
+// 14: the part lies inside the text and is UTF-8.
+fn readable(text: &[u8], p: TextPart) -> bool
+    ensures { λ r. ⌜ r ≡ readable? (now (text .entry)) p ⌝ }
+{
+    if inside(text, p) {
+        return is_utf8(part(text, p));
+    }
+    false
+}
+
+// 14: an absent text is not looked at.
+fn optional(text: &[u8], o: OptionalPart) -> bool
+    ensures { λ r. ⌜ r ≡ optional? (now (text .entry)) o ⌝ }
+{
+    if o.present {
+        return readable(text, o.part);
+    }
+    true
+}
+
+// 14: the texts of a function row. A compilation directory may be any bytes.
+fn function_texts(text: &[u8], q: FunctionRow) -> bool
+    ensures { λ r. ⌜ r ≡ functionTexts? (now (text .entry)) q ⌝ }
+{
+    if readable(text, q.name) {
+        return inside(text, q.comp_dir);
+    }
+    false
+}
+
+// 14: the texts of a line row.
+fn line_texts(text: &[u8], l: LineRow) -> bool
+    ensures { λ r. ⌜ r ≡ lineTexts? (now (text .entry)) l ⌝ }
+{
+    if readable(text, l.name) {
+        if readable(text, l.directory) {
+            if optional(text, l.srcsrv_name) {
+                if optional(text, l.srcsrv_dir) {
+                    return optional(text, l.revision);
+                }
+            }
+        }
+    }
+    false
+}
+
+// 14: the texts of the first n function rows, also of those that will be skipped.
+fn functions_texts(functions64: &[u64], functions32: &[u32], text: &[u8], n: usize) -> bool
+    ensures { λ r. ⌜ r ≡ each (λ (i : ℕ). functionTexts? (now (text .entry)) (functionRow (now (functions64 .entry)) (now (functions32 .entry)) i)) n ⌝ }
+{
+    let mut i = 0;
+    while i < n {
+        if function_texts(text, function_row(functions64, functions32, i)) {
+            i += 1;
+        } else {
+            return false;
+        }
+    }
+    true
+}
+
+// 14: the texts of the first n line rows.
+fn lines_texts(lines64: &[u64], lines32: &[u32], text: &[u8], n: usize) -> bool
+    ensures { λ r. ⌜ r ≡ each (λ (j : ℕ). lineTexts? (now (text .entry)) (lineRow (now (lines64 .entry)) (now (lines32 .entry)) j)) n ⌝ }
+{
+    let mut j = 0;
+    while j < n {
+        if line_texts(text, line_row(lines64, lines32, j)) {
+            j += 1;
+        } else {
+            return false;
+        }
+    }
+    true
+}
+
+// 15: address plus size stays below 2^64 in the first n function rows.
+fn ends(functions64: &[u64], functions32: &[u32], n: usize) -> bool
+    ensures { λ r. ⌜ r ≡ each (λ (i : ℕ). end? (functionRow (now (functions64 .entry)) (now (functions32 .entry)) i)) n ⌝ }
+{
+    let mut i = 0;
+    while i < n {
+        let q = function_row(functions64, functions32, i);
+        if 18446744073709551615 - q.address < q.size {
+            return false;
+        }
+        i += 1;
+    }
+    true
+}
+
+// The number that a tree call refuses its rows with: 13, 14, 15 or 16, in that order; 0 where it takes them.
+pub fn refusal(
+    functions64: &[u64],
+    functions32: &[u32],
+    lines64: &[u64],
+    lines32: &[u32],
+    text: &[u8],
+    scratch: usize,
+) -> u32
+    ensures { λ r. ⌜ r ≡ refusalOf (columns (now (functions64 .entry)) (now (functions32 .entry)) (now (lines64 .entry)) (now (lines32 .entry)) (now (text .entry))) scratch ⌝ }
+{
+    let n = functions64.len() / 2;
+    let m = lines64.len() / 3;
+    if shaped(functions64, functions32, lines64, lines32) {
+        if functions_texts(functions64, functions32, text, n) {
+            if lines_texts(lines64, lines32, text, m) {
+                if ends(functions64, functions32, n) {
+                    if n + m <= scratch / 4 {
+                        return 0;
+                    }
+                    return 16;
+                }
+                return 15;
+            }
+        }
+        return 14;
+    }
+    13
+}
