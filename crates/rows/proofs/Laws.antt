@@ -1,7 +1,7 @@
 -- What the definitions compute to under the tests that the code makes: a row by value, a part of the text, a line's addresses, a loop over rows.
 use Prim.Native.Nat.{ℕ, zero, suc, _+_, _-_, _*_, _/_, _%_, _≤_, _<_, min}
 use mathlib.Core.Path.{_≡_, refl, sym, _∙_, ap}
-use mathlib.Core.Bool.{Bool, true, false, cond, _&&_, true≢false, false≢true}
+use mathlib.Core.Bool.{Bool, true, false, cond, _&&_, true≢false}
 use mathlib.Core.Logic.{⊎-elim}
 use mathlib.Core.List.{List, [], _∷_}
 use native.Mathlib.Omega.{arith}
@@ -11,6 +11,7 @@ use lib.ListN.{length, getD, take, drop}
 use lib.Dec.{ltb, leb, eqb}
 use borrow.Author.Tests.{lt-ltb, le-ltb, le-leb, lt-leb, eq-eqb, ne-eqb}
 use Rattle.model.specs.Rows.{MAX}
+use Rattle.model.proofs.Chains.{both-true}
 use Rattle.rows.specs.declared.Boundaries.{Boundaries}
 use Rattle.rows.specs.declared.FunctionRow.{FunctionRow}
 use Rattle.rows.specs.declared.OptionalPart.{OptionalPart}
@@ -71,14 +72,6 @@ module _ (a : ℕ) (h : Bool) (s : ℕ) where
 
 -- ── Loops over rows ──
 
-pub both-left : (a b : Bool) → a && b ≡ true → a ≡ true
-both-left true b e = refl
-both-left false b e = e
-
-pub both-right : (a b : Bool) → a && b ≡ true → b ≡ true
-both-right true b e = e
-both-right false b e = absurd (false≢true e)
-
 below : (i n : ℕ) → i < suc n → i ≤ n
 below i n h = omega arith
 
@@ -95,7 +88,7 @@ module _ (p : ℕ → Bool) where
   unfolding each
   each-at zero i h e = absurd (omega arith)
   each-at (suc n) i h e =
-      ⊎-elim (λ z. ap p z ∙ both-right (each p n) (p n) e) (λ l. each-at n i l (both-left (each p n) (p n) e)) (eq-or-lt-of-le (below i n h))
+      ⊎-elim (λ z. ap p z ∙ both-true (each p n) (p n) e .1) (λ l. each-at n i l (both-true (each p n) (p n) e .0)) (eq-or-lt-of-le (below i n h))
 
   pub each-not : (n i : ℕ) → i < n → p i ≡ false → each p n ≡ false
   each-not n i h f = go (each p n) refl

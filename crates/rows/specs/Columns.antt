@@ -3,7 +3,7 @@
 use mathlib.Core.Bool.{Bool, true, false, cond, not, _&&_}
 use mathlib.Core.Option.{Option, none, some}
 use mathlib.Core.List.{List, [], _∷_}
-use Prim.Native.Nat.{ℕ, zero, suc, _+_, _*_, _/_, min}
+use Prim.Native.Nat.{ℕ, zero, suc, _+_, _-_, _*_, _/_, min}
 use lib.ListN.{length, getD, take, drop}
 use lib.Dec.{ltb, leb, eqb}
 use Rattle.model.specs.Rows.{MAX, Text, LineRow, FunctionRow}
@@ -130,3 +130,10 @@ rowsFrom k i (suc n) j = functionAt k i j ∷ rowsFrom k (suc i) n (j + function
 -- all of them
 abbrev pub treeRows : Columns → List FunctionRow
 treeRows k = rowsFrom k 0 (functionRows k) 0
+
+-- the tree's root, and the rows after it (13 leaves a root)
+abbrev pub rootRow : Columns → FunctionRow
+rootRow k = functionAt k 0 0
+
+abbrev pub laterRows : Columns → List FunctionRow
+laterRows k = rowsFrom k 1 (functionRows k - 1) (functionStruct k 0 .lines)

@@ -184,10 +184,8 @@ pub fn line_boundaries(address: u64, has_size: bool, size: u64) -> Boundaries
 {
     let max: u64 = 4294967295;
     if max <= address {
-        return Boundaries {
-            start: 4294967295,
-            end: 4294967295,
-        };
+        let start: u32 = 4294967295;
+        return Boundaries { start, end: start };
     }
     let start = address as u32;
     if has_size {
@@ -197,15 +195,11 @@ pub fn line_boundaries(address: u64, has_size: bool, size: u64) -> Boundaries
                 end: 4294967295,
             };
         }
-        return Boundaries {
-            start,
-            end: start + size as u32,
-        };
+        let end = start + size as u32;
+        return Boundaries { start, end };
     }
-    Boundaries {
-        start,
-        end: start + 1,
-    }
+    let end = start + 1;
+    Boundaries { start, end }
 }
 
 // 13: the lengths of the slices are those of whole rows, and agree.
@@ -256,10 +250,10 @@ fn line_count(functions64: &[u64], functions32: &[u32], n: usize) -> usize
     ensures { λ r. ⌜ r ≡ total (λ (i : ℕ). functionRow (now (functions64 .entry)) (now (functions32 .entry)) i .lines) n ⌝ }
 {
     let mut sum: usize = 0;
-    let mut i = 0;
-    while i < n {
-        sum += function_row(functions64, functions32, i).lines as usize;
-        i += 1;
+    let mut row = 0;
+    while row < n {
+        sum += function_row(functions64, functions32, row).lines as usize;
+        row += 1;
     }
     sum
 }

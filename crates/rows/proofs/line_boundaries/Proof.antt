@@ -16,17 +16,17 @@ sub-if3 c = search needs
 returns-2 : tie.Need-returns-2
 returns-2 c = boundaries-saturated _ _ _ (c .before .before .if1 .left) (c .before .if2 .taken) (c .if3 .taken)
 
-cast-t9 : tie.Need-cast-t9
-cast-t9 c = search needs
+cast-end : tie.Need-cast-end
+cast-end c = search needs
 
-add-t10 : tie.Need-add-t10
-add-t10 c = search needs
+add-end : tie.Need-add-end
+add-end c = search needs
 
 returns-3 : tie.Need-returns-3
 returns-3 c = boundaries-sized _ _ _ (c .before .before .if1 .left) (c .before .if2 .taken) (c .if3 .left)
 
-add-t11 : tie.Need-add-t11
-add-t11 c = search needs
+add-end-2 : tie.Need-add-end-2
+add-end-2 c = search needs
 
 returns-4 : tie.Need-returns-4
 returns-4 c = boundaries-single _ _ _ (c .before .if1 .left) (c .if2 .left)
@@ -34,4 +34,4 @@ returns-4 c = boundaries-single _ _ _ (c .before .if1 .left) (c .if2 .left)
 pub line-boundaries-spec : {M : Type 1} → statement M
 line-boundaries-spec =
     tie.close
-    (tie.spec returns cast-start sub-if3 returns-2 cast-t9 add-t10 returns-3 add-t11 returns-4)
+    (tie.spec returns cast-start sub-if3 returns-2 cast-end add-end returns-3 add-end-2 returns-4)

@@ -11,10 +11,10 @@ use Rattle.rows.proofs.line_count.Statement.{statement}
 use Rattle.rows.proofs.line_count.Tie as tie
 
 abbrev Inv-loop : tie.InvT-loop
-Inv-loop functions64 functions32 n sum₀ i₀ sum i = (i ≤ n) × (sum ≡ total (λ (r : ℕ). functionRow functions64 functions32 r .lines) i) × (sum ≤ 4294967295 * i)
+Inv-loop functions64 functions32 n sum₀ row₀ sum row = (row ≤ n) × (sum ≡ total (λ (r : ℕ). functionRow functions64 functions32 r .lines) row) × (sum ≤ 4294967295 * row)
 
 abbrev μ-loop : tie.MeasureT-loop
-μ-loop functions64 functions32 n sum₀ i₀ sum i = n - i
+μ-loop functions64 functions32 n sum₀ row₀ sum row = n - row
 
 loop-holds : tie.Need-loop-holds Inv-loop μ-loop
 loop-holds c = (omega arith, total-none _, omega arith)
@@ -28,8 +28,8 @@ cast-sum c = search needs
 add-sum : tie.Need-add-sum Inv-loop μ-loop
 add-sum c = omega arith
 
-add-i : tie.Need-add-i Inv-loop μ-loop
-add-i c = omega arith
+add-row : tie.Need-add-row Inv-loop μ-loop
+add-row c = omega arith
 
 loop-less : tie.Need-loop-less Inv-loop μ-loop
 loop-less c = omega arith
@@ -51,7 +51,7 @@ line-count-spec =
     function-row-requires
     cast-sum
     add-sum
-    add-i
+    add-row
     loop-less
     loop-again
     returns)
