@@ -85,6 +85,10 @@ pub pairs-none : (s : List ℕ) (b n t : ℕ) → n ≤ t → pairsAt s b (n - t
 unfolding pairsAt
 pairs-none s b n t h = let e : n - t ≡ 0 = omega arith in rw e
 
+pub pairs-zero : (s : List ℕ) (b : ℕ) → pairsAt s b 0 ≡ []
+unfolding pairsAt
+pairs-zero s b = refl
+
 pub pairs-whole : (s : List ℕ) (b n : ℕ) → pairsAt s (b + 0 * 2) (n - 0) ≡ pairsAt s b n
 pairs-whole s b n =
     let e : b + 0 * 2 ≡ b = omega arith in
