@@ -1,14 +1,17 @@
 -- Scratch memory of a tree call, in words. The public contracts say only that it is zero at the end; the functions in between go by these.
 use mathlib.Core.Path.{_≡_}
 use mathlib.Core.Bool.{Bool, true, false, cond}
-use mathlib.Core.List.{List, [], _∷_, _++_, map}
-use Prim.Native.Nat.{ℕ, zero, suc, _+_, _*_, _-_, _/_, _%_, _≤_}
+use mathlib.Core.Logic.{_⊎_}
+use mathlib.Core.List.{List, [], _∷_, map}
+use Prim.Native.Nat.{ℕ, zero, suc, _+_, _*_, _-_, _/_, _%_, _≤_, _<_}
 use lib.Dec.{ltb, leb, eqb}
 use lib.ListN.{length, getD, set, take}
 use lib.Seq.{sets}
 use Rattle.model.specs.Basics.{Span}
 use Rattle.model.specs.Rows.{MAX}
-use Rattle.model.specs.Machine.{Input, Machine, Ref, WalkedM, LoopedM, walkM, loopM}
+use Rattle.model.specs.Machine.{Machine, Ref, LoopedM, kid-spansM}
+use Rattle.model.specs.Converter.{input, deep}
+use Rattle.rows.specs.Columns.{Columns, functionRows, rowsFrom}
 
 -- ── Pairs ──────────────────────────────────────────────────────────────────────────────────────────────────────────────
 
@@ -47,11 +50,6 @@ unfoldable pub topOf : List ℕ → ℕ → ℕ
 topOf s zero = 0
 topOf s (suc d) = startAt s d + lenAt s d
 
--- the scratch holds the call locations `ctx` of the depths up to D, each after those of the depth before it
-pub record Stacked (s : List ℕ) (base D : ℕ) (ctx : ℕ → List (Ref ℕ)) : Type 0 where
-  pub holds : (j : ℕ) → j ≤ D → callsOf s base j ≡ ctx j
-  pub above : (j : ℕ) → suc j ≤ D → topOf s j ≤ startAt s j
-
 -- ── A turn of the walk over one line ───────────────────────────────────────────────────────────────────────────────────
 
 pub record Turned (S : Type 0) : Type 0 where
@@ -84,3 +82,17 @@ pub record Lined {S : Type 0} (at n : ℕ) (o : LoopedM ℕ S) (s s′ : List �
   pub calls : refsAt s′ at m ≡ o .calls
   pub few : m ≤ n
   pub kept : take at s′ ≡ take at s
+
+-- ── A row ──────────────────────────────────────────────────────────────────────────────────────────────────────────────
+
+-- the inlinee ranges of a function at depth d: those of the rows from i on, whose line rows begin at j
+abbrev pub kid-spans : Columns → ℕ → ℕ → ℕ → List Span
+kid-spans k d i j = kid-spansM input d (map deep (rowsFrom k i (functionRows k - i) j))
+
+-- what a row at depth d leaves, where the call locations up to its own depth end at pair `top`: the state, the call locations of the next depth from there on, and no other word changed below
+pub record RowDone {S : Type 0} (base d top n : ℕ) (o : LoopedM ℕ S) (s s′ : List ℕ) (w : S) : Type 0 where
+  pub state : w ≡ o .state
+  pub calls : callsOf s′ base (suc d) ≡ o .calls
+  pub start : startAt s′ d ≡ top
+  pub few : lenAt s′ d ≤ n
+  pub kept : (j : ℕ) → j < base + top * 2 → (j < d * 4) ⊎ (d * 4 + 4 ≤ j) → getD s′ j 0 ≡ getD s j 0
