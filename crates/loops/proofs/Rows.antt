@@ -97,3 +97,82 @@ module _ {Q N Y R P L C S : Type 0} (I : Input Q N Y) (M : Machine Q N Y R P L C
   convert-agree (r ∷ rs) D ctx ctx′ w s e =
       let o = rowM I M (r .item) (kid-spansM I (r .depth) rs) (ctx′ (r .depth)) w in
       rw (e (r .depth) (s .0)) (convert-agree rs (suc (r .depth)) (set-atM (suc (r .depth)) (o .calls) ctx) (set-atM (suc (r .depth)) (o .calls) ctx′) (o .state) (s .1) (set-agree ctx ctx′ (r .depth) D (o .calls) (s .0) e))
+
+-- ── The rows of columns ──
+
+pub first-line : (k : Columns) (i : ℕ) → firstLine k (i + 1) ≡ firstLine k i + functionStruct k i .lines
+unfolding total
+first-line k i = rw (add-one i) refl
+
+module _ (k : Columns) where
+  length-lines : (j n : ℕ) → length (linesFrom k j n) ≡ n
+  unfolding linesFrom
+  length-lines j zero = refl
+  length-lines j (suc n) = ap suc (length-lines (suc j) n)
+
+  -- the rows from i on
+  abbrev pub rows-left : ℕ → List (Deep FunctionRow)
+  rows-left i = map deep (rowsFrom k i (functionRows k - i) (firstLine k i))
+
+  pub rows-next : (i : ℕ) → i < functionRows k → rows-left i ≡ deep (functionAt k i (firstLine k i)) ∷ rows-left (i + 1)
+  rows-next i h =
+      let e : functionRows k - i ≡ suc (functionRows k - (i + 1)) = omega arith in
+      rw (e, rowsFrom-more k i (functionRows k - (i + 1)) (firstLine k i), first-line k i, add-one i)
+
+  pub rows-none : (i : ℕ) → functionRows k ≤ i → rows-left i ≡ []
+  unfolding rowsFrom
+  rows-none i h = let e : functionRows k - i ≡ 0 = omega arith in rw e
+
+  -- the inlinee ranges of the rows to come are no more than their lines
+  kids-of : (n i d : ℕ) → kids input d (map deep (rowsFrom k i n (firstLine k i))) + firstLine k i ≤ firstLine k (i + n)
+  unfolding rowsFrom
+  kids-of zero i d = let e : i + 0 ≡ i = omega arith in let h : kids input d [] ≡ 0 = kids-none input d in rw e (omega arith)
+  kids-of (suc n) i d =
+      let r = functionAt k i (firstLine k i) in
+      let rs = map deep (rowsFrom k (suc i) n (firstLine k i + functionStruct k i .lines)) in
+      let z : firstLine k (suc i) ≡ firstLine k i + functionStruct k i .lines = rw (add-one i) at (first-line k i) in
+      let g : kids input d rs + (firstLine k i + functionStruct k i .lines) ≤ firstLine k (suc i + n) = rw z at (kids-of n (suc i) d) in
+      let a : kids input d (deep r ∷ rs) ≤ kids input d rs + length (r .lines) = kids-row input d (deep r) rs in
+      let b : length (r .lines) ≡ functionStruct k i .lines = ap length (functionAt-lines k i (firstLine k i)) ∙ length-lines (firstLine k i) (functionStruct k i .lines) in
+      rw (add-suc i n, ← suc-add i n) (omega arith)
+
+  pub kids-fit : (i d : ℕ) → i ≤ functionRows k → kids input d (rows-left i) + firstLine k i ≤ firstLine k (functionRows k)
+  kids-fit i d h = let e : i + (functionRows k - i) ≡ functionRows k = omega arith in rw e at (kids-of (functionRows k - i) i d)
+
+steps-of : (d : ℕ) (rs : List FunctionRow) → Legal d rs → Steps (suc d) (map deep rs)
+steps-of d [] h = tt
+steps-of d (r ∷ rs) h = (h .1, steps-of (r .depth) rs (h .2))
+
+-- ── What a row leaves of the call locations of its own depth and of those above it ──
+
+module _ (s s′ : List ℕ) (base d top : ℕ) (low : d * 4 + 4 ≤ base) (kept : (j : ℕ) → j < base + top * 2 → (j < d * 4) ⊎ (d * 4 + 4 ≤ j) → getD s′ j 0 ≡ getD s j 0) where
+  word-kept : (j i : ℕ) → j < d → i < 4 → getD s′ (j * 4 + i) 0 ≡ getD s (j * 4 + i) 0
+  word-kept j i h g = kept (j * 4 + i) (omega arith) (inl (omega arith))
+
+  pub start-kept : (j : ℕ) → j < d → startAt s′ j ≡ startAt s j
+  start-kept j h =
+      let z : j * 4 + 0 ≡ j * 4 = omega arith in
+      let a : getD s′ (j * 4) 0 ≡ getD s (j * 4) 0 = rw z at (word-kept j 0 h (omega arith)) in
+      let b : getD s′ (j * 4 + 1) 0 ≡ getD s (j * 4 + 1) 0 = word-kept j 1 h (omega arith) in
+      omega arith
+
+  len-kept : (j : ℕ) → j < d → lenAt s′ j ≡ lenAt s j
+  len-kept j h =
+      let a : getD s′ (j * 4 + 2) 0 ≡ getD s (j * 4 + 2) 0 = word-kept j 2 h (omega arith) in
+      let b : getD s′ (j * 4 + 3) 0 ≡ getD s (j * 4 + 3) 0 = word-kept j 3 h (omega arith) in
+      omega arith
+
+  pub top-kept : (j : ℕ) → j ≤ d → topOf s′ j ≡ topOf s j
+  unfolding topOf
+  top-kept zero h = refl
+  top-kept (suc j) h =
+      let a : startAt s′ j ≡ startAt s j = start-kept j (omega arith) in
+      let b : lenAt s′ j ≡ lenAt s j = len-kept j (omega arith) in
+      omega arith
+
+  pub calls-kept : (j : ℕ) → j ≤ d → topOf s j ≤ top → callsOf s′ base j ≡ callsOf s base j
+  unfolding callsOf topOf
+  calls-kept zero h g = refl
+  calls-kept (suc j) h g =
+      rw (start-kept j (omega arith), len-kept j (omega arith))
+      (ap (map ref-of) (pairs-same s s′ (base + startAt s j * 2) (lenAt s j) (λ i p q. kept i (omega arith) (inr (omega arith)))))
