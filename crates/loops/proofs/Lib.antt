@@ -2,3 +2,4 @@ pub mod Pairs
 pub mod Walks
 pub mod Lines
 pub mod Rows
+pub mod Tree

@@ -105,7 +105,7 @@ unfolding total
 first-line k i = rw (add-one i) refl
 
 module _ (k : Columns) where
-  length-lines : (j n : ℕ) → length (linesFrom k j n) ≡ n
+  pub length-lines : (j n : ℕ) → length (linesFrom k j n) ≡ n
   unfolding linesFrom
   length-lines j zero = refl
   length-lines j (suc n) = ap suc (length-lines (suc j) n)
@@ -139,7 +139,7 @@ module _ (k : Columns) where
   pub kids-fit : (i d : ℕ) → i ≤ functionRows k → kids input d (rows-left i) + firstLine k i ≤ firstLine k (functionRows k)
   kids-fit i d h = let e : i + (functionRows k - i) ≡ functionRows k = omega arith in rw e at (kids-of (functionRows k - i) i d)
 
-steps-of : (d : ℕ) (rs : List FunctionRow) → Legal d rs → Steps (suc d) (map deep rs)
+pub steps-of : (d : ℕ) (rs : List FunctionRow) → Legal d rs → Steps (suc d) (map deep rs)
 steps-of d [] h = tt
 steps-of d (r ∷ rs) h = (h .1, steps-of (r .depth) rs (h .2))
 
