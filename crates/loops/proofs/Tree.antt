@@ -117,3 +117,66 @@ module _ {R P L S : Type 0} (M : Machine FunctionRow LineRow SymbolRow R P L ℕ
 
       below-top : (j : ℕ) → j ≤ d → topOf s j ≤ topOf s d
       below-top j g = let z : j + (d - j) ≡ d = omega arith in rw z at (tops-grow (d - j) j (omega arith))
+
+      module _ (s′ : List ℕ) (w′ : S)
+          (done : RowDone base d (topOf s d) spans (rowM input M q (kid-spans k d (i + 1) (first + functionStruct k i .lines)) (callsOf s base d) w) s s′ w′)
+          (same : length s′ ≡ length s) where
+        abbrev o : LoopedM ℕ S
+        o = rowM input M (functionAt k i (firstLine k i)) (kid-spansM input d (rows-left k (i + 1))) (callsOf s base d) w
+
+        o-is : rowM input M q (kid-spans k d (i + 1) (first + functionStruct k i .lines)) (callsOf s base d) w ≡ o
+        o-is = rw (later, r .first-is)
+
+        table-low : d * 4 + 4 ≤ base
+        table-low = let a = depth-low in omega arith
+
+        -- the call locations that the rows to come may read
+        held : (j : ℕ) → j ≤ suc d → set-atM (suc d) (o .calls) (callsOf s base) j ≡ callsOf s′ base j
+        unfolding set-atM
+        held j g =
+            ⊎-elim (λ z. rw (eq-eqb j (suc d) z, z) (sym (done .calls ∙ ap (λ (x : LoopedM ℕ S). x .calls) o-is)))
+            (λ z. rw (ne-eqb j (suc d) z) (sym (calls-kept s s′ base d (topOf s d) table-low (done .kept) j (omega arith) (below-top j (omega arith)))))
+            (eq-or-ne j (suc d))
+
+        one-row : convertM input M (rows-left k i) (callsOf s base) w ≡ convertM input M (rows-left k (i + 1)) (set-atM (suc d) (o .calls) (callsOf s base)) (o .state)
+        unfolding convertM
+        one-row = rw (rows-next k i h, convertM, functionAt-depth k i (firstLine k i))
+
+        top-next : topOf s′ (suc d) ≤ topOf s d + spans
+        unfolding topOf
+        top-next = omega (arith, done .start, done .few)
+
+        pub next : Rowing s′ (i + 1) (first + functionStruct k i .lines) w′
+        next = record {
+          bound = suc d;
+          all =
+              rw (done .state ∙ ap (λ (x : LoopedM ℕ S). x .state) o-is)
+              (sym (convert-agree input M (rows-left k (i + 1)) (suc d) (set-atM (suc d) (o .calls) (callsOf s base)) (callsOf s′ base) (o .state) (next-steps .1) held)
+              ∙ sym one-row
+              ∙ r .all);
+          done = omega arith;
+          first-is = ap (λ (n : ℕ). n + functionStruct k i .lines) (r .first-is) ∙ sym (first-line k i);
+          steps = next-steps .1;
+          low = omega (arith, next-steps .0, r .low);
+          above = λ j g.
+              ⊎-elim
+              (λ z. rw (z, done .start, top-kept s s′ base d (topOf s d) table-low (done .kept) d (omega arith)) (omega arith))
+              (λ l. rw (start-kept s s′ base d (topOf s d) table-low (done .kept) j l, top-kept s s′ base d (topOf s d) table-low (done .kept) j (omega arith))
+              (r .above j (omega (arith, next-steps .0))))
+              (eq-or-lt-of-le {n = j} {m = d} (omega arith));
+          tops = λ j g.
+              ⊎-elim
+              (λ z.
+                  let a : topOf s′ (suc d) ≤ topOf s d + spans = top-next in
+                  let b : topOf s d ≤ firstLine k (i + 1) + kids input d (rows-left k (i + 1)) = stacked d (omega arith) in
+                  let c : kids input (suc d) (rows-left k (i + 1)) ≡ kids input d (rows-left k (i + 1)) + length (kid-spansM input d (rows-left k (i + 1))) = kids-suc input d (rows-left k (i + 1)) in
+                  let e : spans ≡ length (kid-spansM input d (rows-left k (i + 1))) = ap length later in
+                  rw z (omega arith))
+              (λ l. rw (top-kept s s′ base d (topOf s d) table-low (done .kept) j (omega arith)) (stacked j (omega arith)))
+              (eq-or-lt-of-le {n = j} {m = suc d} g);
+          len = same ∙ r .len;
+        }
+
+    pub ends : (s : List ℕ) (i first : ℕ) (w : S) → Rowing s i first w → functionRows k ≤ i → w ≡ all-rows
+    unfolding convertM
+    ends s i first w r h = rw (rows-none k i h) at (r .all)
