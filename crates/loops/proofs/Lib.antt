@@ -3,3 +3,4 @@ pub mod Walks
 pub mod Lines
 pub mod Rows
 pub mod Tree
+pub mod Visits

@@ -167,11 +167,11 @@ module _ {R P L S : Type 0} (M : Machine FunctionRow LineRow SymbolRow R P L ℕ
           tops = λ j g.
               ⊎-elim
               (λ z.
-                  let a : topOf s′ (suc d) ≤ topOf s d + spans = top-next in
-                  let b : topOf s d ≤ firstLine k (i + 1) + kids input d (rows-left k (i + 1)) = stacked d (omega arith) in
-                  let c : kids input (suc d) (rows-left k (i + 1)) ≡ kids input d (rows-left k (i + 1)) + length (kid-spansM input d (rows-left k (i + 1))) = kids-suc input d (rows-left k (i + 1)) in
-                  let e : spans ≡ length (kid-spansM input d (rows-left k (i + 1))) = ap length later in
-                  rw z (omega arith))
+              let a : topOf s′ (suc d) ≤ topOf s d + spans = top-next in
+              let b : topOf s d ≤ firstLine k (i + 1) + kids input d (rows-left k (i + 1)) = stacked d (omega arith) in
+              let c : kids input (suc d) (rows-left k (i + 1)) ≡ kids input d (rows-left k (i + 1)) + length (kid-spansM input d (rows-left k (i + 1))) = kids-suc input d (rows-left k (i + 1)) in
+              let e : spans ≡ length (kid-spansM input d (rows-left k (i + 1))) = ap length later in
+              rw z (omega arith))
               (λ l. rw (top-kept s s′ base d (topOf s d) table-low (done .kept) j (omega arith)) (stacked j (omega arith)))
               (eq-or-lt-of-le {n = j} {m = suc d} g);
           len = same ∙ r .len;
