@@ -4,3 +4,4 @@ pub mod Lines
 pub mod Rows
 pub mod Tree
 pub mod Visits
+pub mod Gathered

@@ -8,10 +8,11 @@ use lib.Dec.{ltb, leb, eqb}
 use lib.ListN.{length, getD, set, take}
 use lib.Seq.{sets}
 use Rattle.model.specs.Basics.{Span}
-use Rattle.model.specs.Rows.{MAX}
+use Rattle.model.specs.Rows.{MAX, boundaries}
 use Rattle.model.specs.Machine.{Machine, Ref, LoopedM, kid-spansM}
 use Rattle.model.specs.Converter.{input, deep}
-use Rattle.rows.specs.Columns.{Columns, functionRows, rowsFrom}
+use Rattle.rows.specs.Columns.{Columns, functionRows, functionRow, linesFrom, rowsFrom}
+use Rattle.rows.specs.Refusals.{total}
 
 -- ── Pairs ──────────────────────────────────────────────────────────────────────────────────────────────────────────────
 
@@ -85,9 +86,17 @@ pub record Lined {S : Type 0} (at n : ℕ) (o : LoopedM ℕ S) (s s′ : List �
 
 -- ── A row ──────────────────────────────────────────────────────────────────────────────────────────────────────────────
 
+-- the boundaries of n line rows, from row j on
+abbrev pub line-spans : Columns → ℕ → ℕ → List Span
+line-spans k j n = map boundaries (linesFrom k j n)
+
 -- the inlinee ranges of a function at depth d: those of the rows from i on, whose line rows begin at j
 abbrev pub kid-spans : Columns → ℕ → ℕ → ℕ → List Span
 kid-spans k d i j = kid-spansM input d (map deep (rowsFrom k i (functionRows k - i) j))
+
+-- the line rows of each function row lie within the line rows (13 leaves no other rows)
+abbrev pub LinesWithin : List ℕ → List ℕ → List ℕ → Type 0
+LinesWithin f64 f32 l64 = (r : ℕ) → r < length f64 / 2 → total (λ (i : ℕ). functionRow f64 f32 i .lines) r + functionRow f64 f32 r .lines ≤ length l64 / 3
 
 -- what a row at depth d leaves, where the call locations up to its own depth end at pair `top`: the state, the call locations of the next depth from there on, and no other word changed below
 pub record RowDone {S : Type 0} (base d top n : ℕ) (o : LoopedM ℕ S) (s s′ : List ℕ) (w : S) : Type 0 where
