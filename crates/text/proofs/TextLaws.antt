@@ -90,7 +90,7 @@ text-utf8 s at start len e = go (decoded s at) e
 
 -- ---- what is stored reads back
 
-stored-bytes : (p t q : List ℕ) → take (length t) (drop (length p + length (encoded (length t))) (p ++ (encoded (length t) ++ (t ++ q)))) ≡ t
+pub stored-bytes : (p t q : List ℕ) → take (length t) (drop (length p + length (encoded (length t))) (p ++ (encoded (length t) ++ (t ++ q)))) ≡ t
 stored-bytes p t q =
     ap (λ (l : List ℕ). take (length t) l)
     (ap (λ (l : List ℕ). drop (length p + length (encoded (length t))) l) (sym (append-assoc p (encoded (length t)) (t ++ q)))

@@ -1,0 +1,109 @@
+use Prim.Native.Nat.{ℕ, _+_, _<_, _≤_}
+use mathlib.Core.Path.{_≡_}
+use mathlib.Core.List.{List}
+use native.Mathlib.Omega.{arith}
+use lib.ListN.{length}
+use borrow.Author.Needs.{needs}
+use borrow.Author.Tests.{lt-ltb, le-ltb}
+use Rattle.tables.specs.Table.{walk, linkAt, headAt, hitAt, keyOf, hashOf, bucketOf, capacityOf, lookupOf, appendOf, overOf, insertAt, insertOf, left, inserted}
+use Rattle.tables.specs.declared.Row.{Row}
+use Rattle.tables.proofs.Room.{cap-most}
+use Rattle.tables.proofs.insert.Statement.{statement}
+use Rattle.tables.proofs.insert.Tie as tie
+
+module _ (w : ℕ) (t : List ℕ) (n : ℕ) (q : Row) {k : Row} {cap x h l i : ℕ} (e2 : cap ≡ capacityOf (length t)) (e1 : k ≡ keyOf w q) (e6 : x ≡ hashOf k) (e3 : h ≡ bucketOf x cap) (e4 : l ≡ headAt cap t h) (e5 : i ≡ walk (linkAt t) (hitAt t w k) n n l) where
+  at-law : insertAt t n q cap h l i ≡ insertOf w t n q
+  unfolding insertOf lookupOf
+  at-law = rw (e5, e4, e3, e6, e2, e1)
+
+  found : i < n → left (inserted i n) t ≡ insertOf w t n q
+  unfolding insertAt
+  found p = rw (← at-law, lt-ltb i n p)
+
+  stored : n ≤ i → n < cap → {t1 : List ℕ} → t1 ≡ appendOf cap t n q l h → left (inserted i (n + 1)) t1 ≡ insertOf w t n q
+  unfolding insertAt
+  stored p r u = rw (← at-law, le-ltb i n p, lt-ltb n cap r, u)
+
+  full : n ≤ i → cap ≤ n → {m : ℕ} → m ≡ overOf n cap → left (inserted i m) t ≡ insertOf w t n q
+  unfolding insertAt
+  full p r u = rw (← at-law, le-ltb i n p, le-ltb n cap r, u)
+
+few : (t : List ℕ) {cap : ℕ} → cap ≡ capacityOf (length t) → cap ≤ 268435456
+few t e = let m = cap-most (length t) in omega arith
+
+small : (t : List ℕ) {n cap : ℕ} → cap ≡ capacityOf (length t) → n < cap → n < 16777216
+small t e h = let m = cap-most (length t) in omega arith
+
+capacity-requires : tie.Need-capacity-requires
+capacity-requires c κs = search needs
+
+key-requires : tie.Need-key-requires
+key-requires c κs = search needs
+
+hash-requires : tie.Need-hash-requires
+hash-requires c κs = search needs
+
+bucket-requires : tie.Need-bucket-requires
+bucket-requires c κs = search needs
+
+head-at-requires : tie.Need-head-at-requires
+head-at-requires c κs = search needs
+
+find-requires : tie.Need-find-requires
+find-requires c κs = search needs
+
+same-length : tie.Need-same-length
+same-length c = search needs
+
+returns : tie.Need-returns
+returns c =
+    let a = c .before .before .before .before .before .before .before .before .before .before .before .args in
+    found (a .width) (a .t .now) (a .n) (a .row) (c .before .before .before .before .before .before .before .before .capacity .ensures) (c .before .before .before .before .before .before .before .key .ensures) (c .before .before .before .before .before .before .hash .ensures) (c .before .before .before .before .before .bucket .ensures) (c .before .before .before .head-at .ensures)
+    (c .before .find .ensures) (c .if1 .taken)
+
+append-requires : tie.Need-append-requires
+append-requires c κs = small (c .before .before .before .before .before .before .before .before .before .before .before .before .before .args .t .now) (c .before .before .before .before .before .before .before .before .before .before .capacity .ensures) (c .before .if2 .taken)
+
+add-t22 : tie.Need-add-t22
+add-t22 c = search needs
+
+same-length-2 : tie.Need-same-length-2
+same-length-2 c = search needs
+
+returns-2 : tie.Need-returns-2
+returns-2 c =
+    let a = c .before .before .before .before .before .before .before .before .before .before .before .before .before .before .before .before .args in
+    stored (a .width) (a .t .now) (a .n) (a .row) (c .before .before .before .before .before .before .before .before .before .before .before .before .before .capacity .ensures) (c .before .before .before .before .before .before .before .before .before .before .before .before .key .ensures) (c .before .before .before .before .before .before .before .before .before .before .before .hash .ensures) (c .before .before .before .before .before .before .before .before .before .before .bucket .ensures) (c .before .before .before .before .before .before .before .before .head-at .ensures)
+    (c .before .before .before .before .before .before .find .ensures) (c .before .before .before .before .before .if1 .left) (c .before .before .before .before .if2 .taken) (c .before .before .append .ensures)
+
+over-requires : tie.Need-over-requires
+over-requires c κs = few (c .before .before .before .before .before .before .before .before .before .before .before .before .args .t .now) (c .before .before .before .before .before .before .before .before .before .capacity .ensures)
+
+same-length-3 : tie.Need-same-length-3
+same-length-3 c = search needs
+
+returns-3 : tie.Need-returns-3
+returns-3 c =
+    let a = c .before .before .before .before .before .before .before .before .before .before .before .before .before .args in
+    full (a .width) (a .t .now) (a .n) (a .row) (c .before .before .before .before .before .before .before .before .before .before .capacity .ensures) (c .before .before .before .before .before .before .before .before .before .key .ensures) (c .before .before .before .before .before .before .before .before .hash .ensures) (c .before .before .before .before .before .before .before .bucket .ensures) (c .before .before .before .before .before .head-at .ensures)
+    (c .before .before .before .find .ensures) (c .before .before .if1 .left) (c .before .if2 .left) (c .over .ensures)
+
+pub insert-spec : {M : Type 1} → statement M
+insert-spec =
+    tie.close
+    (tie.spec
+    capacity-requires
+    key-requires
+    hash-requires
+    bucket-requires
+    head-at-requires
+    find-requires
+    same-length
+    returns
+    append-requires
+    add-t22
+    same-length-2
+    returns-2
+    over-requires
+    same-length-3
+    returns-3)

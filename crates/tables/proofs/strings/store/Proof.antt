@@ -1,0 +1,177 @@
+use Prim.Native.Nat.{ℕ, _+_, _<_, _≤_}
+use mathlib.Core.Path.{_≡_, refl, sym, _∙_, ap}
+use mathlib.Core.List.{List}
+use mathlib.Core.Bool.{Bool, true, false, _&&_}
+use native.Mathlib.Omega.{arith}
+use lib.Dec.{leb, ltb}
+use lib.ListN.{length}
+use lib.Seq.{sets}
+use borrow.Author.Needs.{needs}
+use borrow.Author.Tests.{leb-true, ltb-true}
+use Rattle.text.specs.Leb128.{encoded}
+use Rattle.tables.specs.Table.{capacityOf}
+use Rattle.tables.specs.Strings.{textCapacityOf, textSize, storedText, textHash, textRow, indexOf, fullOf, storeOf, stringsLeft, stored}
+use Rattle.tables.specs.declared.Row.{Row}
+use Rattle.tables.specs.declared.strings.Stored.{Stored}
+use Rattle.tables.proofs.Room.{room-is, cap-most, TextRoom, text-room}
+use Rattle.tables.proofs.strings.store.Statement.{statement}
+use Rattle.tables.proofs.strings.store.Tie as tie
+
+-- what the test says where it holds
+record Inside (text strings : List ℕ) (bytes count prefix len : ℕ) : Type 0 where
+  within : bytes + (prefix + len) ≤ length text
+  small : bytes + (prefix + len) ≤ 268435456
+  few : count < 16777216
+
+both : (x y : Bool) → (x && y) ≡ true → (x ≡ true) × (y ≡ true)
+both true true e = (refl, refl)
+both true false e = (refl, e)
+both false y e = absurd (let z : _≡_ {A = ℕ} 0 1 = cc in omega arith)
+
+module _ (text strings : List ℕ) (bytes count : ℕ) (t : List ℕ) {cap limit prefix : ℕ} {f : Bool} (e1 : cap ≡ capacityOf (length strings)) (e2 : limit ≡ textCapacityOf (length text)) (e3 : prefix ≡ length (encoded (length t))) (e4 : f ≡ (leb (bytes + (prefix + length t)) limit && ltb count cap)) where
+  inside : f ≡ true → Inside text strings bytes count prefix (length t)
+  inside h =
+      let b = both (leb (bytes + (prefix + length t)) limit) (ltb count cap) (sym e4 ∙ h) in
+      let x : bytes + (prefix + length t) ≤ limit = leb-true _ _ (b .0) in
+      let y : count < cap = ltb-true _ _ (b .1) in
+      let r : TextRoom (length text) (textCapacityOf (length text)) = text-room (length text) in
+      let s = cap-most (length strings) in
+      record { within = omega arith; small = omega arith; few = omega arith }
+
+  few : (limit ≤ 268435456) × (cap ≤ 268435456)
+  few = let r : TextRoom (length text) (textCapacityOf (length text)) = text-room (length text) in let s = cap-most (length strings) in (omega arith, omega arith)
+
+  size-is : prefix + length t ≡ textSize t
+  unfolding textSize
+  size-is = ap (λ (n : ℕ). n + length t) e3
+
+  storing : f ≡ true → {hash start : ℕ} {text₁ strings₁ : List ℕ} → hash ≡ textHash t → start ≡ bytes + prefix → text₁ ≡ sets text bytes (storedText t)
+      → strings₁ ≡ indexOf cap strings count (record { a = bytes; b = start; c = length t; d = hash; e = 0; f = 0 })
+      → stringsLeft (stored bytes (start + length t) (count + 1)) text₁ strings₁ ≡ storeOf text strings bytes count t
+  unfolding storeOf textRow
+  storing h {start = start} g s u v =
+      let k : start + length t ≡ bytes + (prefix + length t) = omega arith in
+      rw (← e2, ← e1, ← size-is, ← e4, h, ← g, ← e3, ← s, k, u, v)
+
+  refused : f ≡ false → {x : Stored} → x ≡ fullOf bytes count (prefix + length t) limit cap → stringsLeft x text strings ≡ storeOf text strings bytes count t
+  unfolding storeOf
+  refused h g = rw (← e2, ← e1, ← size-is, ← e4, h, g)
+
+capacity-requires : tie.Need-capacity-requires
+capacity-requires c κs = search needs
+
+text-capacity-requires : tie.Need-text-capacity-requires
+text-capacity-requires c κs = search needs
+
+leb128-len-requires : tie.Need-leb128-len-requires
+leb128-len-requires c κs = search needs
+
+fits-requires : tie.Need-fits-requires
+fits-requires c κs = search needs
+
+add-start : tie.Need-add-start
+add-start c =
+    let a = c .before .before .before .before .before .before .before .before .before .before .args in
+    let i : Inside (a .text .now) (a .strings .now) (a .bytes) (a .count) (c .before .before .leb128-len .result) (length (a .t .now)) =
+    inside (a .text .now) (a .strings .now) (a .bytes) (a .count) (a .t .now) (c .before .before .before .before .before .capacity .ensures) (c .before .before .before .text-capacity .ensures) (c .before .before .leb128-len .ensures) (c .before .fits2 .ensures) (c .if1 .taken) in
+    omega arith
+
+write-requires : tie.Need-write-requires
+write-requires c κs =
+    let a = c .before .before .before .before .before .before .before .before .before .before .before .args in
+    let i : Inside (a .text .now) (a .strings .now) (a .bytes) (a .count) (c .before .before .before .leb128-len .result) (length (a .t .now)) =
+    inside (a .text .now) (a .strings .now) (a .bytes) (a .count) (a .t .now) (c .before .before .before .before .before .before .capacity .ensures) (c .before .before .before .before .text-capacity .ensures) (c .before .before .before .leb128-len .ensures) (c .before .before .fits2 .ensures) (c .before .if1 .taken) in
+    (ap (λ (n : ℕ). a .bytes + n) (c .before .before .before .leb128-len .ensures), omega arith)
+
+cast-t24 : tie.Need-cast-t24
+cast-t24 c =
+    let a = c .before .before .before .before .before .before .before .before .before .before .before .before .before .before .before .args in
+    let i : Inside (a .text .now) (a .strings .now) (a .bytes) (a .count) (c .before .before .before .before .before .before .before .leb128-len .result) (length (a .t .now)) =
+    inside (a .text .now) (a .strings .now) (a .bytes) (a .count) (a .t .now) (c .before .before .before .before .before .before .before .before .before .before .capacity .ensures) (c .before .before .before .before .before .before .before .before .text-capacity .ensures) (c .before .before .before .before .before .before .before .leb128-len .ensures) (c .before .before .before .before .before .before .fits2 .ensures) (c .before .before .before .before .before .if1 .taken) in
+    omega arith
+
+cast-t26 : tie.Need-cast-t26
+cast-t26 c =
+    let a = c .before .before .before .before .before .before .before .before .before .before .before .before .before .before .before .args in
+    let i : Inside (a .text .now) (a .strings .now) (a .bytes) (a .count) (c .before .before .before .before .before .before .before .leb128-len .result) (length (a .t .now)) =
+    inside (a .text .now) (a .strings .now) (a .bytes) (a .count) (a .t .now) (c .before .before .before .before .before .before .before .before .before .before .capacity .ensures) (c .before .before .before .before .before .before .before .before .text-capacity .ensures) (c .before .before .before .before .before .before .before .leb128-len .ensures) (c .before .before .before .before .before .before .fits2 .ensures) (c .before .before .before .before .before .if1 .taken) in
+    omega arith
+
+index-requires : tie.Need-index-requires
+index-requires c κs =
+    let a = c .before .before .before .before .before .before .before .before .before .before .before .before .before .before .before .args in
+    inside (a .text .now) (a .strings .now) (a .bytes) (a .count) (a .t .now) (c .before .before .before .before .before .before .before .before .before .before .capacity .ensures) (c .before .before .before .before .before .before .before .before .text-capacity .ensures) (c .before .before .before .before .before .before .before .leb128-len .ensures) (c .before .before .before .before .before .before .fits2 .ensures) (c .before .before .before .before .before .if1 .taken) .few
+
+add-t28 : tie.Need-add-t28
+add-t28 c =
+    let a = c .before .before .before .before .before .before .before .before .before .before .before .before .before .before .before .before .before .before .args in
+    let i : Inside (a .text .now) (a .strings .now) (a .bytes) (a .count) (c .before .before .before .before .before .before .before .before .before .before .leb128-len .result) (length (a .t .now)) =
+    inside (a .text .now) (a .strings .now) (a .bytes) (a .count) (a .t .now) (c .before .before .before .before .before .before .before .before .before .before .before .before .before .capacity .ensures) (c .before .before .before .before .before .before .before .before .before .before .before .text-capacity .ensures) (c .before .before .before .before .before .before .before .before .before .before .leb128-len .ensures) (c .before .before .before .before .before .before .before .before .before .fits2 .ensures) (c .before .before .before .before .before .before .before .before .if1 .taken) in
+    omega arith
+
+cast-t24-2 : tie.Need-cast-t24-2
+cast-t24-2 c =
+    let a = c .before .before .before .before .before .before .before .before .before .before .before .before .before .before .before .before .before .before .args in
+    let i : Inside (a .text .now) (a .strings .now) (a .bytes) (a .count) (c .before .before .before .before .before .before .before .before .before .before .leb128-len .result) (length (a .t .now)) =
+    inside (a .text .now) (a .strings .now) (a .bytes) (a .count) (a .t .now) (c .before .before .before .before .before .before .before .before .before .before .before .before .before .capacity .ensures) (c .before .before .before .before .before .before .before .before .before .before .before .text-capacity .ensures) (c .before .before .before .before .before .before .before .before .before .before .leb128-len .ensures) (c .before .before .before .before .before .before .before .before .before .fits2 .ensures) (c .before .before .before .before .before .before .before .before .if1 .taken) in
+    omega arith
+
+add-t26 : tie.Need-add-t26
+add-t26 c =
+    let a = c .before .before .before .before .before .before .before .before .before .before .before .before .before .before .before .before .before .before .args in
+    let i : Inside (a .text .now) (a .strings .now) (a .bytes) (a .count) (c .before .before .before .before .before .before .before .before .before .before .leb128-len .result) (length (a .t .now)) =
+    inside (a .text .now) (a .strings .now) (a .bytes) (a .count) (a .t .now) (c .before .before .before .before .before .before .before .before .before .before .before .before .before .capacity .ensures) (c .before .before .before .before .before .before .before .before .before .before .before .text-capacity .ensures) (c .before .before .before .before .before .before .before .before .before .before .leb128-len .ensures) (c .before .before .before .before .before .before .before .before .before .fits2 .ensures) (c .before .before .before .before .before .before .before .before .if1 .taken) in
+    omega arith
+
+same-length : tie.Need-same-length
+same-length c = search needs
+
+same-length-2 : tie.Need-same-length-2
+same-length-2 c = search needs
+
+returns : tie.Need-returns
+returns c =
+    let a = c .before .before .before .before .before .before .before .before .before .before .before .before .before .before .before .before .before .before .args in
+    storing (a .text .now) (a .strings .now) (a .bytes) (a .count) (a .t .now) (c .before .before .before .before .before .before .before .before .before .before .before .before .before .capacity .ensures) (c .before .before .before .before .before .before .before .before .before .before .before .text-capacity .ensures) (c .before .before .before .before .before .before .before .before .before .before .leb128-len .ensures) (c .before .before .before .before .before .before .before .before .before .fits2 .ensures) (c .before .before .before .before .before .before .before .before .if1 .taken)
+    (c .before .before .before .before .before .before .before .before .before .before .before .before .before .before .before .before .before .before .pre) refl (c .before .before .before .before .before .before .write .ensures) (c .before .before .index .ensures)
+
+full-requires : tie.Need-full-requires
+full-requires c κs =
+    let a = c .before .before .before .before .before .before .before .before .before .before .args in
+    few (a .text .now) (a .strings .now) (a .bytes) (a .count) (a .t .now) (c .before .before .before .before .before .capacity .ensures) (c .before .before .before .text-capacity .ensures) (c .before .before .leb128-len .ensures) (c .before .fits2 .ensures)
+
+same-length-3 : tie.Need-same-length-3
+same-length-3 c = search needs
+
+same-length-4 : tie.Need-same-length-4
+same-length-4 c = search needs
+
+returns-2 : tie.Need-returns-2
+returns-2 c =
+    let a = c .before .before .before .before .before .before .before .before .before .before .before .args in
+    refused (a .text .now) (a .strings .now) (a .bytes) (a .count) (a .t .now) (c .before .before .before .before .before .before .capacity .ensures) (c .before .before .before .before .text-capacity .ensures) (c .before .before .before .leb128-len .ensures) (c .before .before .fits2 .ensures) (c .before .if1 .left)
+    (c .full .ensures)
+
+pub store-spec : {M : Type 1} → statement M
+store-spec =
+    tie.close
+    (tie.spec
+    capacity-requires
+    text-capacity-requires
+    leb128-len-requires
+    fits-requires
+    add-start
+    write-requires
+    cast-t24
+    cast-t26
+    index-requires
+    add-t28
+    cast-t24-2
+    add-t26
+    same-length
+    same-length-2
+    returns
+    full-requires
+    same-length-3
+    same-length-4
+    returns-2)

@@ -1,0 +1,44 @@
+use Prim.Native.Nat.{ℕ, _+_, _≤_}
+use mathlib.Core.Path.{_≡_, sym, _∙_, ap}
+use mathlib.Core.List.{List}
+use native.Mathlib.Omega.{arith}
+use lib.ListN.{length}
+use lib.Seq.{sets, length-sets}
+use borrow.Author.Needs.{needs}
+use borrow.Author.Tests.{le-leb}
+use Rattle.text.specs.Leb128.{encoded, wrote, written, Written}
+use Rattle.raw.proofs.Bytes.{sets-join}
+use Rattle.tables.specs.Strings.{storedText}
+use Rattle.tables.proofs.strings.write.Statement.{statement}
+use Rattle.tables.proofs.strings.write.Tie as tie
+
+module _ (text : List ℕ) (at start : ℕ) (t : List ℕ) {n : ℕ} {text₁ : List ℕ} (p : (start ≡ at + length (encoded (length t))) × (start + length t ≤ length text)) (e : written n text₁ ≡ wrote text at (length t)) where
+  prefixed : text₁ ≡ sets text at (encoded (length t))
+  unfolding wrote
+  prefixed =
+      let s = p .0 in
+      let k = p .1 in
+      let h : at + length (encoded (length t)) ≤ length text = omega arith in
+      ap (λ (x : Written). x .bytes) e ∙ rw (le-leb (at + length (encoded (length t))) (length text) h)
+
+  fits : start + length t ≤ length text₁
+  fits = rw (prefixed, length-sets text at (encoded (length t))) (p .1)
+
+  both : {text₂ : List ℕ} → text₂ ≡ sets text₁ start t → text₂ ≡ sets text at (storedText t)
+  unfolding storedText
+  both f = rw (f, prefixed) (sets-join (encoded (length t)) t text at start (p .0))
+
+write-leb128-requires : tie.Need-write-leb128-requires
+write-leb128-requires c κs = search needs
+
+copy-requires : tie.Need-copy-requires
+copy-requires c κs = let a = c .before .before .before .before .before .before .before .args in fits (a .text .now) (a .at) (a .start) (a .t .now) (c .before .before .before .before .before .before .before .pre) (c .before .before .before .write-leb128 .ensures)
+
+same-length : tie.Need-same-length
+same-length c = search needs
+
+returns : tie.Need-returns
+returns c = let a = c .before .before .before .before .before .before .before .before .before .before .args in both (a .text .now) (a .at) (a .start) (a .t .now) (c .before .before .before .before .before .before .before .before .before .before .pre) (c .before .before .before .before .before .before .write-leb128 .ensures) (c .before .before .copy .ensures)
+
+pub write-spec : {M : Type 1} → statement M
+write-spec = tie.close (tie.spec write-leb128-requires copy-requires same-length returns)

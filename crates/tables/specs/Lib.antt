@@ -1,0 +1,5 @@
+pub mod Table
+pub mod Ranges
+pub mod Strings
+pub mod Plain
+pub mod PlainTexts

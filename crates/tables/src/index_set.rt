@@ -1,0 +1,12 @@
+// An IndexSet of rows: each row once, in the order of insertion.
+use crate::Inserted;
+use crate::Row;
+ghost use mathlib.Core.Path.{_≡_};
+ghost use Rattle.tables.specs.Table.{insertOf, left};
+
+// The number of the row equal to `row`, which is appended where there is none.
+pub fn insert_full(t: &mut [u32], count: u32, row: Row) -> Inserted
+    ensures { λ r. ⌜ left r (now (t .exit)) ≡ insertOf 6 (now (t .entry)) count row ⌝ }
+{
+    crate::insert(t, count, row, 6)
+}

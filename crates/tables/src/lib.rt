@@ -1,0 +1,269 @@
+// The lent tables of the converter, in place of IndexSet, BTreeMap and StringTable.
+//
+// A table is one lent slice of 32-bit words, eight for each row that there is room for. Row i has six words at 7 i and its link at 7 i + 6. After the last
+// row stand the heads of the buckets, as many as rows. A head is the number + 1 of the newest row in its bucket, and a row's link that of the next older
+// one; 0 is none. A new row goes to the head of its chain and nothing else moves, so the newest rows can be taken back in reverse order.
+// The caller keeps the count of rows. Any content and any count is taken. A row that there is no room for makes the count capacity + 1, and there it stays.
+ghost use mathlib.Core.Path.{_≡_};
+ghost use Prim.Native.Nat.{_<_, _≤_};
+ghost use lib.ListN.{length, getD, set};
+ghost use Rattle.tables.specs.Table.{rowAt, setRow, keyOf, sameRow, capacityOf, hashOf, bucketOf, linkAt, headAt, hitAt, walk, appendOf, lookupOf, overOf, insertOf, left};
+
+pub mod index_set;
+pub mod ranges;
+pub mod strings;
+
+// The six words of a row.
+pub struct Row {
+    pub a: u32,
+    pub b: u32,
+    pub c: u32,
+    pub d: u32,
+    pub e: u32,
+    pub f: u32,
+}
+
+// The number of an item, and how many items there are now.
+pub struct Inserted {
+    pub index: u32,
+    pub count: u32,
+}
+
+// How many rows there is room for.
+pub fn capacity(t: &[u32]) -> u32
+    ensures { λ r. ⌜ r ≡ capacityOf (length (now (t .entry))) ⌝ }
+{
+    let n = t.len() / 8;
+    if n < 16777216 {
+        return n as u32;
+    }
+    16777216
+}
+
+// Row i; words past the end are 0.
+pub fn row_at(t: &[u32], i: u32) -> Row
+    ensures { λ r. ⌜ r ≡ rowAt (now (t .entry)) i ⌝ }
+{
+    let k0 = (i as usize) * 7;
+    let k1 = k0 + 1;
+    let k2 = k1 + 1;
+    let k3 = k2 + 1;
+    let k4 = k3 + 1;
+    let k5 = k4 + 1;
+    if k5 < t.len() {
+        return Row {
+            a: t[k0],
+            b: t[k1],
+            c: t[k2],
+            d: t[k3],
+            e: t[k4],
+            f: t[k5],
+        };
+    }
+    let a = word(t, k0);
+    let b = word(t, k1);
+    let c = word(t, k2);
+    let d = word(t, k3);
+    let e = word(t, k4);
+    let f = word(t, k5);
+    Row { a, b, c, d, e, f }
+}
+
+// Row i becomes r; words past the end are not stored.
+fn set_row(t: &mut [u32], i: u32, r: Row)
+    ensures { λ _. ⌜ now (t .exit) ≡ setRow (now (t .entry)) i r ⌝ }
+{
+    let k0 = (i as usize) * 7;
+    let k1 = k0 + 1;
+    let k2 = k1 + 1;
+    let k3 = k2 + 1;
+    let k4 = k3 + 1;
+    let k5 = k4 + 1;
+    if k5 < t.len() {
+        t[k0] = r.a;
+        t[k1] = r.b;
+        t[k2] = r.c;
+        t[k3] = r.d;
+        t[k4] = r.e;
+        t[k5] = r.f;
+        return;
+    }
+    set_word(t, k0, r.a);
+    set_word(t, k1, r.b);
+    set_word(t, k2, r.c);
+    set_word(t, k3, r.d);
+    set_word(t, k4, r.e);
+    set_word(t, k5, r.f);
+}
+
+// The word at j, 0 past the end.
+fn word(t: &[u32], j: usize) -> u32
+    ensures { λ r. ⌜ r ≡ getD (now (t .entry)) j 0 ⌝ }
+{
+    if j < t.len() {
+        return t[j];
+    }
+    0
+}
+
+// The word at j becomes v; past the end nothing changes.
+fn set_word(t: &mut [u32], j: usize, v: u32)
+    ensures { λ r. ⌜ now (t .exit) ≡ set (now (t .entry)) j v ⌝ }
+{
+    if j < t.len() {
+        t[j] = v;
+    }
+}
+
+// The link of row i.
+fn link_at(t: &[u32], i: u32) -> u32
+    ensures { λ r. ⌜ r ≡ linkAt (now (t .entry)) i ⌝ }
+{
+    word(t, (i as usize) * 7 + 6)
+}
+
+// The head of bucket h, in a table of cap rows.
+fn head_at(t: &[u32], cap: u32, h: u32) -> u32
+    ensures { λ r. ⌜ r ≡ headAt cap (now (t .entry)) h ⌝ }
+{
+    word(t, (cap as usize) * 7 + (h as usize))
+}
+
+// The bucket of a hash among as many as cap; 0 where there is none.
+fn bucket(hash: u32, cap: u32) -> u32
+    ensures { λ r. ⌜ r ≡ bucketOf hash cap ⌝ }
+{
+    if cap == 0 {
+        return 0;
+    }
+    hash % cap
+}
+
+// Row n, with its link, at the head of bucket h.
+fn append(t: &mut [u32], cap: u32, n: u32, row: Row, link: u32, h: u32)
+    requires { ⌜ n < 16777216 ⌝ }
+    ensures { λ _. ⌜ now (t .exit) ≡ appendOf cap (now (t .entry)) n row link h ⌝ }
+{
+    set_row(t, n, row);
+    set_word(t, (n as usize) * 7 + 6, link);
+    set_word(t, (cap as usize) * 7 + (h as usize), n + 1);
+}
+
+// A count after what there was no room for: capacity + 1, and above that as it was.
+fn over(n: u32, cap: u32) -> u32
+    requires { ⌜ cap ≤ 268435456 ⌝ }
+    ensures { λ r. ⌜ r ≡ overOf n cap ⌝ }
+{
+    if cap < n {
+        return n;
+    }
+    cap + 1
+}
+
+// What of a row is compared: its first word alone where the width is 1, else all of it.
+fn key(row: Row, width: u32) -> Row
+    ensures { λ r. ⌜ r ≡ keyOf width row ⌝ }
+{
+    if width == 1 {
+        return Row {
+            a: row.a,
+            b: 0,
+            c: 0,
+            d: 0,
+            e: 0,
+            f: 0,
+        };
+    }
+    row
+}
+
+fn same(x: Row, y: Row) -> bool
+    ensures { λ r. ⌜ r ≡ sameRow x y ⌝ }
+{
+    if x.a == y.a {
+        if x.b == y.b {
+            if x.c == y.c {
+                if x.d == y.d {
+                    if x.e == y.e {
+                        return x.f == y.f;
+                    }
+                }
+            }
+        }
+    }
+    false
+}
+
+// The words by factors that no power of two divides, modulo the greatest prime below 2^32.
+fn hash(k: Row) -> u32
+    ensures { λ r. ⌜ r ≡ hashOf k ⌝ }
+{
+    let s = (k.a as u64) * 426336013
+        + (k.b as u64) * 378551279
+        + (k.c as u64) * 511286833
+        + (k.d as u64) * 296414521
+        + (k.e as u64) * 347229887
+        + (k.f as u64) * 467201681;
+    (s % 4294967291) as u32
+}
+
+// Whether row i has the key k: its first word is looked at first.
+fn hit(t: &[u32], i: u32, k: Row, width: u32) -> bool
+    ensures { λ r. ⌜ r ≡ hitAt (now (t .entry)) width k i ⌝ }
+{
+    let a = word(t, (i as usize) * 7);
+    if a == k.a {
+        return same(key(row_at(t, i), width), k);
+    }
+    false
+}
+
+// The row below n with the key k, along the chain that starts at link l; n where there is none. Row numbers must fall on the way, so it ends on any content.
+fn find(t: &[u32], n: u32, l: u32, k: Row, width: u32) -> u32
+    ensures { λ r. ⌜ r ≡ walk (linkAt (now (t .entry))) (hitAt (now (t .entry)) width k) n n l ⌝ }
+{
+    let mut bound = n;
+    let mut at = l;
+    while 0 < at && at <= bound {
+        let i = at - 1;
+        if hit(t, i, k, width) {
+            return i;
+        }
+        bound = i;
+        at = link_at(t, i);
+    }
+    n
+}
+
+// The number of the row with the key of `row` among the first n; n where there is none.
+fn lookup(t: &[u32], n: u32, row: Row, width: u32) -> u32
+    ensures { λ r. ⌜ r ≡ lookupOf width (now (t .entry)) n row ⌝ }
+{
+    let k = key(row, width);
+    let cap = capacity(t);
+    let h = bucket(hash(k), cap);
+    find(t, n, head_at(t, cap, h), k, width)
+}
+
+// The number of the row with the key of `row`, which is appended where there is none. With no room nothing is written, and the count is capacity + 1.
+fn insert(t: &mut [u32], n: u32, row: Row, width: u32) -> Inserted
+    ensures { λ r. ⌜ left r (now (t .exit)) ≡ insertOf width (now (t .entry)) n row ⌝ }
+{
+    let cap = capacity(t);
+    let k = key(row, width);
+    let h = bucket(hash(k), cap);
+    let l = head_at(t, cap, h);
+    let i = find(t, n, l, k, width);
+    if i < n {
+        return Inserted { index: i, count: n };
+    }
+    if n < cap {
+        append(t, cap, n, row, l, h);
+        return Inserted {
+            index: i,
+            count: n + 1,
+        };
+    }
+    let count = over(n, cap);
+    Inserted { index: i, count }
+}

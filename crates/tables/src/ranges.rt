@@ -1,0 +1,99 @@
+// A BTreeMap from starts to source locations, by exact key only: rows in order of insertion, found by their first word.
+use crate::Row;
+use raw::SourceLocation;
+ghost use mathlib.Core.Path.{_≡_};
+ghost use Rattle.tables.specs.Table.{left};
+ghost use Rattle.tables.specs.Ranges.{getOf, putOf, replaceOf, rangeRow};
+
+// What a start holds: words b to e of its row.
+pub enum Found {
+    Absent,
+    At(SourceLocation),
+}
+
+// What a start held before it was put.
+pub enum Was {
+    Vacant,
+    Same,
+    Changed,
+}
+
+pub struct Change {
+    // The number of the row with the start.
+    pub index: u32,
+    pub count: u32,
+    pub was: Was,
+}
+
+// The location at a start.
+pub fn get(t: &[u32], count: u32, start: u32) -> Found
+    ensures { λ r. ⌜ r ≡ getOf (now (t .entry)) count start ⌝ }
+{
+    let i = crate::lookup(
+        t,
+        count,
+        Row {
+            a: start,
+            b: 0,
+            c: 0,
+            d: 0,
+            e: 0,
+            f: 0,
+        },
+        1,
+    );
+    if i < count {
+        let r = crate::row_at(t, i);
+        return Found::At(SourceLocation {
+            file_idx: r.b,
+            line: r.c,
+            function_idx: r.d,
+            inlined_into_idx: r.e,
+        });
+    }
+    Found::Absent
+}
+
+// The location at a start becomes loc. A count above the capacity changes nothing.
+pub fn put(t: &mut [u32], count: u32, start: u32, loc: SourceLocation) -> Change
+    ensures { λ r. ⌜ left r (now (t .exit)) ≡ putOf (now (t .entry)) count (rangeRow start loc) ⌝ }
+{
+    let cap = crate::capacity(t);
+    if cap < count {
+        return Change {
+            index: count,
+            count,
+            was: Was::Vacant,
+        };
+    }
+    let row = Row {
+        a: start,
+        b: loc.file_idx,
+        c: loc.line,
+        d: loc.function_idx,
+        e: loc.inlined_into_idx,
+        f: 0,
+    };
+    let got = crate::insert(t, count, row, 1);
+    let index = got.index;
+    if index < count {
+        let was = replace(t, index, row);
+        return Change { index, count, was };
+    }
+    Change {
+        index,
+        count: got.count,
+        was: Was::Vacant,
+    }
+}
+
+// Row i becomes row.
+fn replace(t: &mut [u32], i: u32, row: Row) -> Was
+    ensures { λ r. ⌜ left r (now (t .exit)) ≡ replaceOf (now (t .entry)) i row ⌝ }
+{
+    if crate::same(crate::row_at(t, i), row) {
+        return Was::Same;
+    }
+    crate::set_row(t, i, row);
+    Was::Changed
+}

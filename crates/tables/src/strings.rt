@@ -1,0 +1,293 @@
+// The string table: each text once, its length as LEB128 and then its bytes, one after the other in the string section.
+// A table indexes the texts. A row has four words: where the text's prefix begins, where its bytes begin, how many there are, and the text's hash.
+use crate::Row;
+use text::leb128::leb128_len;
+use text::leb128::write_leb128;
+ghost use mathlib.Core.Path.{_≡_};
+ghost use mathlib.Core.Bool.{_&&_};
+ghost use Prim.Native.Nat.{_+_, _<_, _≤_};
+ghost use lib.Dec.{leb, ltb};
+ghost use lib.ListN.{length, getD, take, drop};
+ghost use lib.Seq.{sets};
+ghost use Rattle.text.specs.Leb128.{encoded};
+ghost use Rattle.tables.specs.Table.{linkAt, sameWords, walk};
+ghost use Rattle.tables.specs.Strings.{textCapacityOf, storedText, mixed, four, hashFrom, textHash, textAt, findText, indexOf, fullOf, storeOf, insertTextOf, stringsLeft};
+
+pub struct Stored {
+    // Where the prefix of the text begins.
+    pub offset: u32,
+    // How many bytes the section has now, and how many texts.
+    pub bytes: u32,
+    pub count: u32,
+}
+
+// How many bytes of texts there is room for.
+pub fn text_capacity(text: &[u8]) -> u32
+    ensures { λ r. ⌜ r ≡ textCapacityOf (length (now (text .entry))) ⌝ }
+{
+    if text.len() < 268435456 {
+        return text.len() as u32;
+    }
+    268435456
+}
+
+// The offset of t, which is stored where it is not in the section yet; MAX for an empty text, which is not stored. With no room for the bytes or for the row
+// nothing is written, and the count that has none is capacity + 1.
+pub fn insert(text: &mut [u8], strings: &mut [u32], bytes: u32, count: u32, t: &[u8]) -> Stored
+    ensures { λ r. ⌜ stringsLeft r (now (text .exit)) (now (strings .exit)) ≡ insertTextOf (now (text .entry)) (now (strings .entry)) bytes count (now (t .entry)) ⌝ }
+{
+    if t.len() == 0 {
+        return Stored {
+            offset: 4294967295,
+            bytes,
+            count,
+        };
+    }
+    let hash = hash(t);
+    let i = find(text, strings, count, t, hash);
+    if i < count {
+        let row = crate::row_at(strings, i);
+        return Stored {
+            offset: row.a,
+            bytes,
+            count,
+        };
+    }
+    store(text, strings, bytes, count, t, hash)
+}
+
+// A new text at the end of the section and of the index.
+fn store(
+    text: &mut [u8],
+    strings: &mut [u32],
+    bytes: u32,
+    count: u32,
+    t: &[u8],
+    hash: u32,
+) -> Stored
+    requires { ⌜ hash ≡ textHash (now t) ⌝ }
+    ensures { λ r. ⌜ stringsLeft r (now (text .exit)) (now (strings .exit)) ≡ storeOf (now (text .entry)) (now (strings .entry)) bytes count (now (t .entry)) ⌝ }
+{
+    let cap = crate::capacity(strings);
+    let limit = text_capacity(text);
+    let prefix = leb128_len(t.len() as u64);
+    if fits(bytes, count, prefix, t.len(), limit, cap) {
+        let at = bytes as usize;
+        let start = at + prefix;
+        write(text, at, start, t);
+        index(
+            strings,
+            cap,
+            count,
+            Row {
+                a: bytes,
+                b: start as u32,
+                c: t.len() as u32,
+                d: hash,
+                e: 0,
+                f: 0,
+            },
+        );
+        return Stored {
+            offset: bytes,
+            bytes: (start + t.len()) as u32,
+            count: count + 1,
+        };
+    }
+    full(bytes, count, prefix, t.len(), limit, cap)
+}
+
+// Whether there is room for a text of so many bytes, and for its row.
+fn fits(bytes: u32, count: u32, prefix: usize, len: usize, limit: u32, cap: u32) -> bool
+    ensures { λ r. ⌜ r ≡ leb (bytes + (prefix + len)) limit && ltb count cap ⌝ }
+{
+    if room(bytes, prefix, len, limit) {
+        return count < cap;
+    }
+    false
+}
+
+// Whether there is room for a text of so many bytes.
+fn room(bytes: u32, prefix: usize, len: usize, limit: u32) -> bool
+    ensures { λ r. ⌜ r ≡ leb (bytes + (prefix + len)) limit ⌝ }
+{
+    if limit < bytes {
+        return false;
+    }
+    let left = (limit - bytes) as usize;
+    if left < prefix {
+        return false;
+    }
+    len <= left - prefix
+}
+
+// The answer where there is no room: the count of bytes is above its capacity if the text had none, else the count of texts.
+fn full(bytes: u32, count: u32, prefix: usize, len: usize, limit: u32, cap: u32) -> Stored
+    requires { ⌜ (limit ≤ 268435456) × (cap ≤ 268435456) ⌝ }
+    ensures { λ r. ⌜ r ≡ fullOf bytes count (prefix + len) limit cap ⌝ }
+{
+    if room(bytes, prefix, len, limit) {
+        let count = crate::over(count, cap);
+        return Stored {
+            offset: bytes,
+            bytes,
+            count,
+        };
+    }
+    let above = crate::over(bytes, limit);
+    Stored {
+        offset: bytes,
+        bytes: above,
+        count,
+    }
+}
+
+// The length prefix at `at`, and the bytes from start on.
+fn write(text: &mut [u8], at: usize, start: usize, t: &[u8])
+    requires { ⌜ (start ≡ at + length (encoded (length (now t)))) × (start + length (now t) ≤ length (now text)) ⌝ }
+    ensures { λ _. ⌜ now (text .exit) ≡ sets (now (text .entry)) at (storedText (now (t .entry))) ⌝ }
+{
+    write_leb128(text, at, t.len() as u64);
+    copy(text, start, t);
+}
+
+fn copy(text: &mut [u8], start: usize, t: &[u8])
+    requires { ⌜ start + length (now t) ≤ length (now text) ⌝ }
+    ensures { λ _. ⌜ now (text .exit) ≡ sets (now (text .entry)) start (now (t .entry)) ⌝ }
+{
+    let mut i = 0;
+    while i < t.len() {
+        text[start + i] = t[i];
+        i += 1;
+    }
+}
+
+// Row n, at the head of the bucket of its hash.
+fn index(strings: &mut [u32], cap: u32, n: u32, row: Row)
+    requires { ⌜ n < 16777216 ⌝ }
+    ensures { λ _. ⌜ now (strings .exit) ≡ indexOf cap (now (strings .entry)) n row ⌝ }
+{
+    let h = crate::bucket(row.d, cap);
+    let link = crate::head_at(strings, cap, h);
+    crate::append(strings, cap, n, row, link, h);
+}
+
+// The number of the row whose text is t among the first n; n where there is none.
+fn find(text: &[u8], strings: &[u32], n: u32, t: &[u8], hash: u32) -> u32
+    requires { ⌜ hash ≡ textHash (now t) ⌝ }
+    ensures { λ r. ⌜ r ≡ findText (now (text .entry)) (now (strings .entry)) n (now (t .entry)) ⌝ }
+{
+    let cap = crate::capacity(strings);
+    let h = crate::bucket(hash, cap);
+    follow(text, strings, n, crate::head_at(strings, cap, h), t, hash)
+}
+
+// The same, along the chain that starts at link l.
+fn follow(text: &[u8], strings: &[u32], n: u32, l: u32, t: &[u8], hash: u32) -> u32
+    requires { ⌜ hash ≡ textHash (now t) ⌝ }
+    ensures { λ r. ⌜ r ≡ walk (linkAt (now (strings .entry))) (textAt (now (text .entry)) (now (strings .entry)) (now (t .entry))) n n l ⌝ }
+{
+    let mut bound = n;
+    let mut at = l;
+    while 0 < at && at <= bound {
+        let i = at - 1;
+        if is_text(text, strings, i, t, hash) {
+            return i;
+        }
+        bound = i;
+        at = crate::link_at(strings, i);
+    }
+    n
+}
+
+// Whether the text of row i is t: its hash and its length are looked at first.
+fn is_text(text: &[u8], strings: &[u32], i: u32, t: &[u8], hash: u32) -> bool
+    requires { ⌜ hash ≡ textHash (now t) ⌝ }
+    ensures { λ r. ⌜ r ≡ textAt (now (text .entry)) (now (strings .entry)) (now (t .entry)) i ⌝ }
+{
+    let row = crate::row_at(strings, i);
+    if row.d == hash {
+        if row.c as usize == t.len() {
+            return same_at(text, row.b as usize, t);
+        }
+    }
+    false
+}
+
+// Whether the bytes from start on begin with t.
+fn same_at(text: &[u8], start: usize, t: &[u8]) -> bool
+    ensures { λ r. ⌜ r ≡ sameWords (take (length (now (t .entry))) (drop start (now (text .entry)))) (now (t .entry)) ⌝ }
+{
+    if text.len() < start {
+        return t.len() == 0;
+    }
+    if text.len() - start < t.len() {
+        return false;
+    }
+    let end = start + t.len();
+    same(&text[start..end], t)
+}
+
+fn same(x: &[u8], y: &[u8]) -> bool
+    requires { ⌜ length (now x) ≡ length (now y) ⌝ }
+    ensures { λ r. ⌜ r ≡ sameWords (now (x .entry)) (now (y .entry)) ⌝ }
+{
+    let mut i = 0;
+    while i < x.len() {
+        if x[i] != y[i] {
+            return false;
+        }
+        i += 1;
+    }
+    true
+}
+
+// The hash of a text: every byte counts, four at a time.
+fn hash(t: &[u8]) -> u32
+    ensures { λ r. ⌜ r ≡ textHash (now (t .entry)) ⌝ }
+{
+    let mut x = t.len() as u64;
+    let mut i = 0;
+    while 4 <= t.len() - i {
+        x = mix(x, word(t, i));
+        i += 4;
+    }
+    let x = hash_rest(&t[i..], x);
+    (x % 4294967291) as u32
+}
+
+// The last bytes, one by one.
+fn hash_rest(t: &[u8], x: u64) -> u64
+    requires { ⌜ length (now t) < 4 ⌝ }
+    ensures { λ r. ⌜ r ≡ hashFrom x (now (t .entry)) ⌝ }
+{
+    let mut x = x;
+    let mut i = 0;
+    while i < t.len() {
+        x = mix(x, wide(t[i]));
+        i += 1;
+    }
+    x
+}
+
+// x carried on by w.
+fn mix(x: u64, w: u64) -> u64
+    requires { ⌜ w < 4294967296 ⌝ }
+    ensures { λ r. ⌜ r ≡ mixed x w ⌝ }
+{
+    (x % 4294967296 + w) * 1791398085 + x / 4294967296
+}
+
+// Four bytes as a number, the first one lowest.
+fn word(t: &[u8], i: usize) -> u64
+    requires { ⌜ i + 4 ≤ length (now t) ⌝ }
+    ensures { λ r. ⌜ (r ≡ four (getD (now (t .entry)) i 0) (getD (now (t .entry)) (i + 1) 0) (getD (now (t .entry)) (i + 2) 0) (getD (now (t .entry)) (i + 3) 0)) × (r < 4294967296) ⌝ }
+{
+    wide(t[i]) + wide(t[i + 1]) * 256 + wide(t[i + 2]) * 65536 + wide(t[i + 3]) * 16777216
+}
+
+fn wide(b: u8) -> u64
+    ensures { λ r. ⌜ (r ≡ b) × (r < 256) ⌝ }
+{
+    b as u64
+}
