@@ -1,3 +1,4 @@
+use Rattle.writer.proofs.ScratchLaws.{calls-stored}
 use borrow.Author.Needs.{needs}
 use Rattle.writer.proofs.scratch.set_calls.Statement.{statement}
 use Rattle.writer.proofs.scratch.set_calls.Tie as tie
@@ -59,7 +60,9 @@ same-length c = search needs
 
 -- src/scratch.rt:55:1
 returns : tie.Need-returns
-returns c = ?
+returns c =
+    let a = c .before .before .before .before .before .before .before .before .before .before .before .before .before .before .before .before .before .args in
+    calls-stored (a .s .now) _ _ _ _ (a .d) (a .start) (a .len) (c .before .before .before .before .before .before .before .before .before .before .before .before .before .before .set-word .ensures) (c .before .before .before .before .before .before .before .before .before .before .set-word2 .ensures) (c .before .before .before .before .before .before .set-word3 .ensures) (c .before .before .set-word4 .ensures)
 
 pub set-calls-spec : {M : Type 1} → statement M
 set-calls-spec =

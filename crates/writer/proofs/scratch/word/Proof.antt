@@ -20,7 +20,7 @@ returns c = search needs
 
 -- src/scratch.rt:15:1
 returns-2 : tie.Need-returns-2
-returns-2 c = sym (List·getD-eq-default _ 0 (c .if1 .left))
+returns-2 c = let a = c .before .args in sym (List·getD-eq-default (a .s .now) 0 {n = a .j} (c .if1 .left))
 
 pub word-spec : {M : Type 1} → statement M
 word-spec = tie.close (tie.spec mul-result shared-slice-read-result returns returns-2)
