@@ -1,0 +1,209 @@
+-- THE CONVERTER OVER WORDS: what each of its steps does to the lent tables, for any content. It is a `Machine` of the crate model, so its loops are those of the plain
+-- converter; and it is what the contracts cite. A reference that is absent is MAX, as in the file.
+use mathlib.Core.Bool.{Bool, true, false, cond, _&&_}
+use mathlib.Core.Option.{Option, none, some}
+use mathlib.Core.List.{List, [], _∷_}
+use Prim.Native.Nat.{ℕ}
+use lib.Dec.{ltb, leb}
+use lib.ListN.{length}
+use Rattle.model.specs.Rows.{MAX, cut32, Text, LineRow, FunctionRow, SymbolRow}
+use Rattle.model.specs.Machine.{Machine}
+use Rattle.model.specs.Converter.{Setup, Six, function-name, symbol-name, line-texts, entry-of}
+use Rattle.raw.specs.Rows.{noSourceLocation, isNoSourceLocation}
+use Rattle.rows.specs.Columns.{textOf}
+use Rattle.rows.specs.declared.TextPart.{TextPart}
+use Rattle.rows.specs.declared.OptionalPart.{OptionalPart}
+use Rattle.rows.specs.declared.LineRow.{LineRow as LineStruct}
+use Rattle.raw.specs.declared.SourceLocation.{SourceLocation}
+use Rattle.tables.specs.Table.{Left, insertOf, capacityOf}
+use Rattle.tables.specs.Ranges.{rangeRow, getOf, putOf}
+use Rattle.tables.specs.Strings.{insertTextOf, textCapacityOf}
+use Rattle.tables.specs.declared.Row.{Row}
+use Rattle.tables.specs.declared.Inserted.{Inserted}
+use Rattle.tables.specs.declared.ranges.Found.{Found}
+use Rattle.tables.specs.declared.ranges.Found.the-variants.{Absent, At}
+use Rattle.steps.specs.declared.State.{State}
+use Rattle.steps.specs.declared.LastAddr.{LastAddr}
+use Rattle.steps.specs.declared.LastAddr.the-variants.{Unset, Set}
+
+-- ── The state and the lent tables ──────────────────────────────────────────────────────────────────────────────────────
+
+pub record Memory : Type 0 where
+  pub text : List ℕ
+  pub strings : List ℕ
+  pub files : List ℕ
+  pub functions : List ℕ
+  pub calls : List ℕ
+  pub ranges : List ℕ
+
+-- the counts and the last end, by value, and the lent tables
+pub record Words : Type 0 where
+  pub st : State
+  pub mm : Memory
+
+abbrev pub words : State → List ℕ → List ℕ → List ℕ → List ℕ → List ℕ → List ℕ → Words
+words s x i f g c r = record { st = s; mm = record { text = x; strings = i; files = f; functions = g; calls = c; ranges = r } }
+
+-- "one of its counts above the table's capacity" (19); "a table would need more rows or bytes after this call than its capacity" (17)
+unfoldable pub fits? : Words → Bool
+fits? w =
+    leb (w .st .«string_bytes») (textCapacityOf (length (w .mm .text)))
+    && (leb (w .st .strings) (capacityOf (length (w .mm .strings)))
+    && (leb (w .st .files) (capacityOf (length (w .mm .files)))
+    && (leb (w .st .functions) (capacityOf (length (w .mm .functions)))
+    && (leb (w .st .«call_locations») (capacityOf (length (w .mm .calls))) && leb (w .st .ranges) (capacityOf (length (w .mm .ranges)))))))
+
+-- the state with other counts
+abbrev pub with-strings : State → ℕ → ℕ → State
+with-strings s b n = record { «string_bytes» = b; strings = n; files = s .files; functions = s .functions; «call_locations» = s .«call_locations»; ranges = s .ranges; «last_addr» = s .«last_addr» }
+
+abbrev pub with-files : State → ℕ → State
+with-files s n = record { «string_bytes» = s .«string_bytes»; strings = s .strings; files = n; functions = s .functions; «call_locations» = s .«call_locations»; ranges = s .ranges; «last_addr» = s .«last_addr» }
+
+abbrev pub with-functions : State → ℕ → State
+with-functions s n = record { «string_bytes» = s .«string_bytes»; strings = s .strings; files = s .files; functions = n; «call_locations» = s .«call_locations»; ranges = s .ranges; «last_addr» = s .«last_addr» }
+
+abbrev pub with-calls : State → ℕ → State
+with-calls s n = record { «string_bytes» = s .«string_bytes»; strings = s .strings; files = s .files; functions = s .functions; «call_locations» = n; ranges = s .ranges; «last_addr» = s .«last_addr» }
+
+abbrev pub with-ranges : State → ℕ → State
+with-ranges s n = record { «string_bytes» = s .«string_bytes»; strings = s .strings; files = s .files; functions = s .functions; «call_locations» = s .«call_locations»; ranges = n; «last_addr» = s .«last_addr» }
+
+abbrev pub with-last : State → LastAddr → State
+with-last s a = record { «string_bytes» = s .«string_bytes»; strings = s .strings; files = s .files; functions = s .functions; «call_locations» = s .«call_locations»; ranges = s .ranges; «last_addr» = a }
+
+-- ── The steps ──────────────────────────────────────────────────────────────────────────────────────────────────────────
+
+abbrev pub gave : {A : Type 0} → A → Words → A × Words
+gave a s = (a, s)
+
+-- a text into the string table: its offset
+unfoldable pub store : Text → Words → ℕ × Words
+store t s =
+    let r = insertTextOf (s .mm .text) (s .mm .strings) (s .st .«string_bytes») (s .st .strings) t in
+    gave (r .got .offset) (words (with-strings (s .st) (r .got .bytes) (r .got .count)) (r .text) (r .strings) (s .mm .files) (s .mm .functions) (s .mm .calls) (s .mm .ranges))
+
+-- a function into its index set: name, no compilation directory, entry, language
+abbrev pub functionRow : ℕ → ℕ → ℕ → Row
+functionRow name entry lang = record { a = name; b = MAX; c = entry; d = lang; e = 0; f = 0 }
+
+unfoldable pub add-function : ℕ → ℕ → ℕ → Words → ℕ × Words
+add-function name entry lang s =
+    let r = insertOf 6 (s .mm .functions) (s .st .functions) (functionRow name entry lang) in
+    gave (r .got .index) (words (with-functions (s .st) (r .got .count)) (s .mm .text) (s .mm .strings) (s .mm .files) (r .table) (s .mm .calls) (s .mm .ranges))
+
+-- a file into its index set, in the order of the file row
+abbrev pub fileRow : Six ℕ → Row
+fileRow x = record { a = x .comp-dir; b = x .directory; c = x .name; d = x .srcsrv-name; e = x .srcsrv-dir; f = x .revision }
+
+unfoldable pub add-file-row : Row → Words → ℕ × Words
+add-file-row row s =
+    let r = insertOf 6 (s .mm .files) (s .st .files) row in
+    gave (r .got .index) (words (with-files (s .st) (r .got .count)) (s .mm .text) (s .mm .strings) (r .table) (s .mm .functions) (s .mm .calls) (s .mm .ranges))
+
+-- a call location into its index set
+abbrev pub locationRow : SourceLocation → Row
+locationRow l = record { a = l .«file_idx»; b = l .line; c = l .«function_idx»; d = l .«inlined_into_idx»; e = 0; f = 0 }
+
+unfoldable pub add-call : SourceLocation → Words → ℕ × Words
+add-call l s =
+    let r = insertOf 6 (s .mm .calls) (s .st .«call_locations») (locationRow l) in
+    gave (r .got .index) (words (with-calls (s .st) (r .got .count)) (s .mm .text) (s .mm .strings) (s .mm .files) (s .mm .functions) (r .table) (s .mm .ranges))
+
+-- the ranges
+unfoldable pub put-range : ℕ → SourceLocation → Words → Words
+put-range k l s =
+    let r = putOf (s .mm .ranges) (s .st .ranges) (rangeRow k l) in
+    words (with-ranges (s .st) (r .got .count)) (s .mm .text) (s .mm .strings) (s .mm .files) (s .mm .functions) (s .mm .calls) (r .table)
+
+abbrev pub held : Found → Option SourceLocation
+held Absent = none
+held (At l) = some l
+
+abbrev pub get-range : Words → ℕ → Option SourceLocation
+get-range s k = held (getOf (s .mm .ranges) (s .st .ranges) k)
+
+-- "Texts are stored name, directory, compilation directory, srcsrv name, srcsrv directory, revision"
+unfoldable pub store-six : Six Text → Words → Six ℕ × Words
+store-six x s =
+    let a = store (x .name) s in
+    let b = store (x .directory) (a .1) in
+    let c = store (x .comp-dir) (b .1) in
+    let d = store (x .srcsrv-name) (c .1) in
+    let e = store (x .srcsrv-dir) (d .1) in
+    let f = store (x .revision) (e .1) in
+    gave (record { name = a .0; directory = b .0; comp-dir = c .0; srcsrv-name = d .0; srcsrv-dir = e .0; revision = f .0 }) (f .1)
+
+abbrev pub location : ℕ → ℕ → ℕ → ℕ → SourceLocation
+location file line function into = record { «file_idx» = file; line = line; «function_idx» = function; «inlined_into_idx» = into }
+
+-- the same as the words of a file row
+abbrev pub store-row : Six Text → Words → Row × Words
+store-row x s = let t = store-six x s in gave (fileRow (t .0)) (t .1)
+
+-- a line's texts, its file and its location; line numbers are cut to 32 bits
+unfoldable pub locate-six : Six Text → ℕ → ℕ → ℕ → Words → SourceLocation × Words
+locate-six x number function into s =
+    let t = store-six x s in
+    let f = add-file-row (fileRow (t .0)) (t .1) in
+    gave (location (f .0) (cut32 number) function into) (f .1)
+
+-- the texts of a line row, parts of the lent text; an absent text and an empty one are one value before anything is stored
+abbrev pub no-part : TextPart
+no-part = record { start = 0; len = 0 }
+
+abbrev pub or-no-part : OptionalPart → TextPart
+or-no-part o = cond (o .present) (o .part) no-part
+
+unfoldable pub sixOf : List ℕ → TextPart → LineStruct → Six Text
+sixOf t dir l = record {
+  name = textOf t (l .name);
+  directory = textOf t (l .directory);
+  comp-dir = textOf t dir;
+  srcsrv-name = textOf t (or-no-part (l .«srcsrv_name»));
+  srcsrv-dir = textOf t (or-no-part (l .«srcsrv_dir»));
+  revision = textOf t (or-no-part (l .revision));
+}
+
+-- a function's name, as it is stored, and the function
+unfoldable pub begin-named : Text → ℕ → ℕ → Words → ℕ × Words
+begin-named name entry lang s = let t = store name s in add-function (t .0) entry lang (t .1)
+
+-- vacant, or the empty mapping
+abbrev pub free : Found → Bool
+free Absent = true
+free (At l) = isNoSourceLocation l
+
+-- the last end
+abbrev pub last-of : LastAddr → Option ℕ
+last-of Unset = none
+last-of (Set a) = some a
+
+-- "get_or_insert(0)", and the greater end
+abbrev pub later-of : LastAddr → ℕ → LastAddr
+later-of Unset e = Set e
+later-of (Set a) e = cond (ltb a e) (Set e) (Set a)
+
+-- "a named symbol at or above it (unset counts as 0) clears it"
+abbrev pub cleared-of : LastAddr → ℕ → LastAddr
+cleared-of Unset y = Unset
+cleared-of (Set a) y = cond (ltb y a) (Set a) Unset
+
+module _ (X : Setup) where
+  abbrev pub over-words : Machine FunctionRow LineRow SymbolRow ℕ ℕ SourceLocation ℕ Words
+  over-words = record {
+    get = get-range;
+    put = put-range;
+    begin = λ q s. begin-named (function-name X q) (entry-of q) (q .language) s;
+    locate = λ q r n c s. locate-six (line-texts q n) (n .number) r c s;
+    enter = add-call;
+    bare = λ q r. location MAX 0 r MAX;
+    none-loc = noSourceLocation;
+    is-none = isNoSourceLocation;
+    base = MAX;
+    sym-begin = λ y s. store (symbol-name X y) s;
+    sym-locate = λ y p s. let f = add-function p (y .address) MAX s in gave (location MAX 0 (f .0) MAX) (f .1);
+    last = λ s. last-of (s .st .«last_addr»);
+    mark-end = λ e s. record { st = with-last (s .st) (later-of (s .st .«last_addr») e); mm = s .mm };
+    mark-symbol = λ y s. record { st = with-last (s .st) (cleared-of (s .st .«last_addr») y); mm = s .mm };
+  }
