@@ -2,7 +2,7 @@
 -- converter; and it is what the contracts cite. A reference that is absent is MAX, as in the file.
 use mathlib.Core.Bool.{Bool, true, false, cond, _&&_}
 use mathlib.Core.Option.{Option, none, some}
-use mathlib.Core.List.{List, [], _∷_}
+use mathlib.Core.List.{List}
 use Prim.Native.Nat.{ℕ}
 use lib.Dec.{ltb, leb}
 use lib.ListN.{length}
@@ -15,11 +15,10 @@ use Rattle.rows.specs.declared.TextPart.{TextPart}
 use Rattle.rows.specs.declared.OptionalPart.{OptionalPart}
 use Rattle.rows.specs.declared.LineRow.{LineRow as LineStruct}
 use Rattle.raw.specs.declared.SourceLocation.{SourceLocation}
-use Rattle.tables.specs.Table.{Left, insertOf, capacityOf}
+use Rattle.tables.specs.Table.{insertOf, capacityOf}
 use Rattle.tables.specs.Ranges.{rangeRow, getOf, putOf}
 use Rattle.tables.specs.Strings.{insertTextOf, textCapacityOf}
 use Rattle.tables.specs.declared.Row.{Row}
-use Rattle.tables.specs.declared.Inserted.{Inserted}
 use Rattle.tables.specs.declared.ranges.Found.{Found}
 use Rattle.tables.specs.declared.ranges.Found.the-variants.{Absent, At}
 use Rattle.steps.specs.declared.State.{State}
@@ -28,6 +27,7 @@ use Rattle.steps.specs.declared.LastAddr.the-variants.{Unset, Set}
 
 -- ── The state and the lent tables ──────────────────────────────────────────────────────────────────────────────────────
 
+-- the lent tables of document 01's "Forms that Rattle cannot carry": the string section, the index of its texts, and the four tables of the Rust's `SymCacheConverter`
 pub record Memory : Type 0 where
   pub text : List ℕ
   pub strings : List ℕ
@@ -36,7 +36,7 @@ pub record Memory : Type 0 where
   pub calls : List ℕ
   pub ranges : List ℕ
 
--- the counts and the last end, by value, and the lent tables
+-- with the counts and the last end, by value
 pub record Words : Type 0 where
   pub st : State
   pub mm : Memory
@@ -44,7 +44,7 @@ pub record Words : Type 0 where
 abbrev pub words : State → List ℕ → List ℕ → List ℕ → List ℕ → List ℕ → List ℕ → Words
 words s x i f g c r = record { st = s; mm = record { text = x; strings = i; files = f; functions = g; calls = c; ranges = r } }
 
--- "one of its counts above the table's capacity" (19); "a table would need more rows or bytes after this call than its capacity" (17)
+-- no count is above its table's capacity: "one of its counts above the table's capacity" (19); "a table would need more rows or bytes after this call than its capacity" (17)
 unfoldable pub fits? : Words → Bool
 fits? w =
     leb (w .st .«string_bytes») (textCapacityOf (length (w .mm .text)))
@@ -74,16 +74,17 @@ with-last s a = record { «string_bytes» = s .«string_bytes»; strings = s .st
 
 -- ── The steps ──────────────────────────────────────────────────────────────────────────────────────────────────────────
 
+-- what a step answers, and what it leaves
 abbrev pub gave : {A : Type 0} → A → Words → A × Words
 gave a s = (a, s)
 
--- a text into the string table: its offset
+-- `string_table.insert`: a text, and its offset
 unfoldable pub store : Text → Words → ℕ × Words
 store t s =
     let r = insertTextOf (s .mm .text) (s .mm .strings) (s .st .«string_bytes») (s .st .strings) t in
     gave (r .got .offset) (words (with-strings (s .st) (r .got .bytes) (r .got .count)) (r .text) (r .strings) (s .mm .files) (s .mm .functions) (s .mm .calls) (s .mm .ranges))
 
--- a function into its index set: name, no compilation directory, entry, language
+-- `functions.insert_full`: name, no compilation directory (as in the Rust, u32::MAX), entry, language
 abbrev pub functionRow : ℕ → ℕ → ℕ → Row
 functionRow name entry lang = record { a = name; b = MAX; c = entry; d = lang; e = 0; f = 0 }
 
@@ -92,7 +93,7 @@ add-function name entry lang s =
     let r = insertOf 6 (s .mm .functions) (s .st .functions) (functionRow name entry lang) in
     gave (r .got .index) (words (with-functions (s .st) (r .got .count)) (s .mm .text) (s .mm .strings) (s .mm .files) (r .table) (s .mm .calls) (s .mm .ranges))
 
--- a file into its index set, in the order of the file row
+-- `files.insert_full`: "in struct order, not the order of the writer's literal"
 abbrev pub fileRow : Six ℕ → Row
 fileRow x = record { a = x .comp-dir; b = x .directory; c = x .name; d = x .srcsrv-name; e = x .srcsrv-dir; f = x .revision }
 
@@ -101,7 +102,7 @@ add-file-row row s =
     let r = insertOf 6 (s .mm .files) (s .st .files) row in
     gave (r .got .index) (words (with-files (s .st) (r .got .count)) (s .mm .text) (s .mm .strings) (r .table) (s .mm .functions) (s .mm .calls) (s .mm .ranges))
 
--- a call location into its index set
+-- `call_locations.insert_full`
 abbrev pub locationRow : SourceLocation → Row
 locationRow l = record { a = l .«file_idx»; b = l .line; c = l .«function_idx»; d = l .«inlined_into_idx»; e = 0; f = 0 }
 
@@ -110,7 +111,7 @@ add-call l s =
     let r = insertOf 6 (s .mm .calls) (s .st .«call_locations») (locationRow l) in
     gave (r .got .index) (words (with-calls (s .st) (r .got .count)) (s .mm .text) (s .mm .strings) (s .mm .files) (s .mm .functions) (r .table) (s .mm .ranges))
 
--- the ranges
+-- `ranges.insert`, `ranges.get`
 unfoldable pub put-range : ℕ → SourceLocation → Words → Words
 put-range k l s =
     let r = putOf (s .mm .ranges) (s .st .ranges) (rangeRow k l) in
@@ -137,11 +138,11 @@ store-six x s =
 abbrev pub location : ℕ → ℕ → ℕ → ℕ → SourceLocation
 location file line function into = record { «file_idx» = file; line = line; «function_idx» = function; «inlined_into_idx» = into }
 
--- the same as the words of a file row
+-- the same, with the offsets as the words of a file row
 abbrev pub store-row : Six Text → Words → Row × Words
 store-row x s = let t = store-six x s in gave (fileRow (t .0)) (t .1)
 
--- a line's texts, its file and its location; line numbers are cut to 32 bits
+-- a line's texts, its file and its location; "Function end is cut to 32 bits. Line numbers too"
 unfoldable pub locate-six : Six Text → ℕ → ℕ → ℕ → Words → SourceLocation × Words
 locate-six x number function into s =
     let t = store-six x s in
@@ -169,7 +170,12 @@ sixOf t dir l = record {
 unfoldable pub begin-named : Text → ℕ → ℕ → Words → ℕ × Words
 begin-named name entry lang s = let t = store name s in add-function (t .0) entry lang (t .1)
 
--- vacant, or the empty mapping
+-- what a start holds: nothing
+abbrev pub vacant : Found → Bool
+vacant Absent = true
+vacant (At l) = false
+
+-- nothing, or the empty mapping
 abbrev pub free : Found → Bool
 free Absent = true
 free (At l) = isNoSourceLocation l
@@ -189,6 +195,9 @@ abbrev pub cleared-of : LastAddr → ℕ → LastAddr
 cleared-of Unset y = Unset
 cleared-of (Set a) y = cond (ltb y a) (Set a) Unset
 
+-- ── The machine ────────────────────────────────────────────────────────────────────────────────────────────────────────
+
+-- a line's location has a file; a function with no line, and a symbol, have none, and line 0
 module _ (X : Setup) where
   abbrev pub over-words : Machine FunctionRow LineRow SymbolRow ℕ ℕ SourceLocation ℕ Words
   over-words = record {

@@ -1,0 +1,5 @@
+pub mod Laws
+pub mod Ranges
+pub mod Loops
+pub mod Lengths
+pub mod RowTexts

@@ -1,0 +1,50 @@
+-- `begin_function` meets its contract: `begin-law`.
+use mathlib.Core.Bool.{cond}
+use Rattle.names.specs.Names.{undecorated}
+use Rattle.steps.specs.Words.{words, gave}
+use Rattle.steps.proofs.Laws.{begin-law}
+use borrow.Author.Needs.{needs}
+use Rattle.steps.proofs.begin_function.Statement.{statement}
+use Rattle.steps.proofs.begin_function.Tie as tie
+
+shown-name-requires : tie.Need-shown-name-requires
+shown-name-requires c κs = search needs
+
+insert-string-requires : tie.Need-insert-string-requires
+insert-string-requires c κs = search needs
+
+insert-function-requires : tie.Need-insert-function-requires
+insert-function-requires c κs = search needs
+
+same-length : tie.Need-same-length
+same-length c = search needs
+
+same-length-2 : tie.Need-same-length-2
+same-length-2 c = search needs
+
+same-length-3 : tie.Need-same-length-3
+same-length-3 c = search needs
+
+returns : tie.Need-returns
+returns c =
+    let a = c .before .before .before .before .before .before .before .before .before .before .before .before .before .before .before .before .args in
+    let t = c .before .before .before .before .before .before .before .before .insert-string in
+    let r = c .before .before .insert-function in
+    λ f m n.
+    begin-law (cond (a .undecorate) (undecorated (a .name .now)) (a .name .now)) (a .entry-pc) (a .lang)
+    (words (a .state) (a .string-bytes .now) (a .strings .now) f (a .functions .now) m n)
+    {a = t .result .index} {t = words (t .result .state) (t .last .1 .0) (t .last .1 .1 .0) f (a .functions .now) m n}
+    {r = gave (r .result .index) (words (r .result .state) (t .last .1 .0) (t .last .1 .1 .0) f (r .last .1 .0) m n)}
+    (c .before .before .before .before .before .before .before .before .before .before .before .shown-name .ensures) (t .ensures f (a .functions .now) m n) (r .ensures (t .last .1 .0) (t .last .1 .1 .0) f m n)
+
+pub begin-function-spec : {M : Type 1} → statement M
+begin-function-spec =
+    tie.close
+    (tie.spec
+    shown-name-requires
+    insert-string-requires
+    insert-function-requires
+    same-length
+    same-length-2
+    same-length-3
+    returns)

@@ -1,0 +1,31 @@
+-- `insert_optional` meets its contract: the part is the one it has, or the empty one.
+use mathlib.Core.Path.{ap}
+use Rattle.rows.specs.Columns.{textOf}
+use Rattle.rows.specs.declared.TextPart.{TextPart}
+use Rattle.steps.specs.Words.{words}
+use Rattle.steps.proofs.Laws.{store-same}
+use borrow.Author.Needs.{needs}
+use Rattle.steps.proofs.insert_optional.Statement.{statement}
+use Rattle.steps.proofs.insert_optional.Tie as tie
+
+or-empty-requires : tie.Need-or-empty-requires
+or-empty-requires c κs = search needs
+
+insert-part-requires : tie.Need-insert-part-requires
+insert-part-requires c κs = search needs
+
+same-length : tie.Need-same-length
+same-length c = search needs
+
+same-length-2 : tie.Need-same-length-2
+same-length-2 c = search needs
+
+returns : tie.Need-returns
+returns c =
+    let a = c .before .before .before .before .before .before .before .before .before .before .before .args in
+    λ f g m n.
+    store-same (words (a .state) (a .string-bytes .now) (a .strings .now) f g m n) (c .before .before .before .before .insert-part .ensures f g m n) (ap (λ (p : TextPart). textOf (a .text .now) p) (c .before .before .before .before .before .or-empty .ensures))
+
+pub insert-optional-spec : {M : Type 1} → statement M
+insert-optional-spec =
+    tie.close (tie.spec or-empty-requires insert-part-requires same-length same-length-2 returns)

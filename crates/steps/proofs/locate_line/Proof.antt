@@ -1,0 +1,48 @@
+-- `locate_line` meets its contract: `locate-law`.
+use Rattle.steps.specs.Words.{words, sixOf}
+use Rattle.steps.proofs.Laws.{locate-law}
+use borrow.Author.Needs.{needs}
+use Rattle.steps.proofs.locate_line.Statement.{statement}
+use Rattle.steps.proofs.locate_line.Tie as tie
+
+insert-texts-requires : tie.Need-insert-texts-requires
+insert-texts-requires c κs = search needs
+
+insert-file-requires : tie.Need-insert-file-requires
+insert-file-requires c κs = search needs
+
+cast-t21 : tie.Need-cast-t21
+cast-t21 c = search needs
+
+same-length : tie.Need-same-length
+same-length c = search needs
+
+same-length-2 : tie.Need-same-length-2
+same-length-2 c = search needs
+
+same-length-3 : tie.Need-same-length-3
+same-length-3 c = search needs
+
+returns : tie.Need-returns
+returns c =
+    let a = c .before .before .before .before .before .before .before .before .before .before .before .before .before .before .before .before .before .args in
+    let t = c .before .before .before .before .before .before .before .before .before .before .insert-texts in
+    let r = c .before .before .before .before .insert-file in
+    λ g m n.
+    locate-law (sixOf (a .text .now) (a .comp-dir) (a .line)) (a .line .number) (a .function-idx) (a .inlined-into-idx)
+    (words (a .state) (a .string-bytes .now) (a .strings .now) (a .files .now) g m n)
+    {row = t .result .row} {t = words (t .result .state) (t .last .1 .0) (t .last .1 .1 .0) (a .files .now) g m n}
+    {i = r .result .index} {u = words (r .result .state) (t .last .1 .0) (t .last .1 .1 .0) (r .last .1 .0) g m n}
+    (t .ensures (a .files .now) g m n) (r .ensures (t .last .1 .0) (t .last .1 .1 .0) g m n)
+
+pub locate-line-spec : {M : Type 1} → statement M
+locate-line-spec =
+    tie.close
+    (tie.spec
+    insert-texts-requires
+    insert-file-requires
+    cast-t21
+    same-length
+    same-length-2
+    same-length-3
+    returns)
