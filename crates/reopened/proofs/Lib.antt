@@ -1,1 +1,5 @@
+pub mod WordRows
+pub mod Interned
 pub mod Encoding
+pub mod StepLaws
+pub mod OverWords
