@@ -3,3 +3,4 @@ pub mod Interned
 pub mod Encoding
 pub mod StepLaws
 pub mod OverWords
+pub mod OneCall
