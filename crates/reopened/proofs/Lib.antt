@@ -4,3 +4,4 @@ pub mod Encoding
 pub mod StepLaws
 pub mod OverWords
 pub mod OneCall
+pub mod EveryList
