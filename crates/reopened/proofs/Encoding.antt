@@ -1,23 +1,22 @@
 -- WHAT IT MEANS THAT WORDS HOLD PLAIN TABLES, where n are the lengths of the lent tables: the string section and its index hold the texts; files, functions, call locations and ranges are
 -- the rows of words of the plain rows, in the same order; every reference lies within its table. Words that hold tables have room, and the tables fit.
 use mathlib.Core.Path.{_≡_, refl, sym, ap, _∙_, subst}
-use mathlib.Core.Bool.{Bool, true, false, not, _&&_}
-use mathlib.Core.Option.{Option, none, some}
-use mathlib.Core.Logic.{_⊎_, inl, inr, ⊎-elim}
-use mathlib.Core.List.{List, [], _∷_, map}
-use Prim.Native.Nat.{ℕ, suc, _≤_, _<_}
+use mathlib.Core.Bool.{Bool, true, false, not}
+use mathlib.Core.Option.{Option}
+use mathlib.Core.Logic.{_⊎_, inl, inr}
+use mathlib.Core.List.{List, map}
+use Prim.Native.Nat.{ℕ, _≤_, _<_}
 use native.Mathlib.Omega.{arith}
 use lib.Dec.{leb}
-use lib.ListN.{length, replicate, length-replicate}
+use lib.ListN.{length}
 use borrow.Author.Tests.{leb-true, le-leb}
-use Rattle.model.specs.Basics.{Entry, intern}
+use Rattle.model.specs.Basics.{Entry}
 use Rattle.model.specs.Rows.{Text, FunctionRow, SymbolRow}
-use Rattle.model.specs.Converter.{File, Function, Location, nowhere, at, Tables, nothing, put-range}
+use Rattle.model.specs.Converter.{File, Function, Location, Tables}
 use Rattle.model.specs.Counts.{Capacities, Lent, text-bytes}
-use Rattle.model.specs.Counts.{fits? as plain-fits?}
 use Rattle.model.specs.Words.{index-word, text-word}
-use Rattle.model.proofs.Intern.{At, Grows, intern-new}
-use Rattle.model.proofs.Chains.{false-true, both-true, both-of, Larger}
+use Rattle.model.proofs.Intern.{At, Grows}
+use Rattle.model.proofs.Chains.{false-true, both-true, both-of}
 use Rattle.model.proofs.Always.{Within, InTables}
 use Rattle.model.proofs.FileRows.{FileIn}
 use Rattle.model.proofs.Grown.{Fits, needs, room}
@@ -31,12 +30,9 @@ use Rattle.tables.specs.PlainTexts.{Texts}
 use Rattle.tables.proofs.Room.{cap-most, text-room}
 use Rattle.tables.proofs.Sets as sets
 use Rattle.tables.proofs.TextTables as text-tables
-use Rattle.steps.specs.Words.{Words, Memory, fits?, last-of}
-use Rattle.steps.specs.declared.State.{State}
-use Rattle.steps.specs.declared.LastAddr.{LastAddr}
-use Rattle.steps.specs.declared.LastAddr.the-variants.{Unset, Set}
+use Rattle.steps.specs.Words.{Words, fits?, last-of}
 use Rattle.steps.proofs.Lengths.{Lens, lens}
-use Rattle.reopened.proofs.WordRows.{file-row, function-row, call-row, range-row, source, grows-length, within-later, in-later, file-in-later, text-word-later, file-row-later, function-row-later, Few}
+use Rattle.reopened.proofs.WordRows.{file-row, function-row, call-row, range-row, source, grows-length, within-later, text-word-later, Few}
 use Rattle.reopened.proofs.Interned.{holds-count, bytes-same}
 
 -- ── The capacities of lent tables ──

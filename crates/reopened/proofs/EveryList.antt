@@ -2,32 +2,32 @@
 -- the memory is zero and every call is 19. Of each call: its number, by the plain converter alone (17 exactly where the plain tables after it would not fit), and that a refusal other than 17
 -- changes nothing.
 use mathlib.Core.Path.{_≡_, refl, sym, ap, _∙_, subst}
-use mathlib.Core.Bool.{Bool, true, false, cond, _&&_}
-use mathlib.Core.Option.{Option, none, some}
+use mathlib.Core.Bool.{Bool, true, false, cond}
+use mathlib.Core.Option.{none, some}
 use mathlib.Core.Logic.{_⊎_, inl, inr, _≢_, ⊎-elim}
 use mathlib.Core.List.{List, [], _∷_, _++_, map}
-use Prim.Native.Nat.{ℕ, _≤_}
+use Prim.Native.Nat.{ℕ}
 use native.Mathlib.Omega.{arith}
 use lib.Dec.{eqb}
-use lib.ListN.{length, getD}
+use lib.ListN.{length}
 use borrow.Author.Tests.{eqb-true, eqb-false, eq-eqb, ne-eqb}
 use Rattle.text.specs.Utf8.{utf8}
 use Rattle.model.specs.Basics.{_∈_, here, there}
-use Rattle.model.specs.Rows.{MAX, Text, Given, tree-rows, symbol-row}
+use Rattle.model.specs.Rows.{Text, Given, symbol-row}
 use Rattle.model.specs.Machine.{convertM, startM, convert-symbolM, convert-opM, runM}
-use Rattle.model.specs.Converter.{Setup, Tables, input, deep, op, plain, converted}
+use Rattle.model.specs.Converter.{Setup, Tables, input, deep, op, converted}
 use Rattle.model.specs.Counts.{fits? as plain-fits?}
-use Rattle.model.proofs.Chains.{false-true, both-true, both-of}
+use Rattle.model.proofs.Chains.{both-true, both-of}
 use Rattle.model.proofs.Spans.{∈-elim, ∈-append}
 use Rattle.model.proofs.Compact.{GivenFits, SymbolFits}
 use Rattle.model.proofs.Grown.{room}
-use Rattle.rows.specs.Columns.{Columns, treeRows, textOf, optionalOf, rootRow, laterRows}
+use Rattle.rows.specs.Columns.{Columns, treeRows, textOf, rootRow, laterRows}
 use Rattle.rows.specs.Refusals.{refusalOf, shaped?, texts?, ends?, room?, inside?, optional?, readable?}
 use Rattle.rows.specs.declared.OptionalPart.{OptionalPart}
 use Rattle.rows.proofs.Accepted.{Accepted, accepted, given-fits}
-use Rattle.steps.specs.Words.{Memory, Words, fits?, over-words}
+use Rattle.steps.specs.Words.{Memory, Words, over-words}
 use Rattle.steps.specs.declared.Converter.{Converter}
-use Rattle.steps.proofs.Lengths.{Lens, lens}
+use Rattle.steps.proofs.Lengths.{Lens}
 use Rattle.reopened.specs.Calls.{Called, called, zeros, unused, with-state, setup, words-of, usable?, finished, beginOf, rows-converted, treeOf, symbolRow, symbolOf}
 use Rattle.reopened.specs.Lists.{Call, tree, symbol, write, Standing, givenTree, after, next, run, begun, due, Typed}
 use Rattle.reopened.proofs.Encoding.{capacities, Enc, has-room, enc-room, enc-fits}

@@ -1,27 +1,25 @@
 -- ONE ACCEPTED CALL, over words and plain: from words that hold tables, the words after a tree or a symbol hold the plain tables after it if these fit, and are full exactly if they don't;
 -- the lent lengths stay. The terms are those that the contracts cite. And a beginning's zeroed tables hold nothing, whatever their lengths.
-use mathlib.Core.Path.{_≡_, refl, sym, ap, _∙_, subst}
+use mathlib.Core.Path.{_≡_, refl, sym, ap, _∙_}
 use mathlib.Core.Bool.{Bool, true, false, not}
-use mathlib.Core.Option.{none}
-use mathlib.Core.Logic.{inl, inr, ⊎-elim}
+use mathlib.Core.Logic.{inr, ⊎-elim}
 use mathlib.Core.List.{List, [], _∷_, _++_, map}
 use Prim.Native.Nat.{ℕ}
 use lib.ListN.{length, replicate, length-replicate}
-use Rattle.model.specs.Rows.{FunctionRow, LineRow, SymbolRow, Given, tree-rows, symbol-row}
-use Rattle.model.specs.Machine.{Machine, convertM, startM, convert-symbolM, convert-opM, runM}
+use Rattle.model.specs.Rows.{FunctionRow, SymbolRow, Given, tree-rows, symbol-row}
+use Rattle.model.specs.Machine.{convertM, startM, convert-symbolM, convert-opM, runM}
 use Rattle.model.specs.Converter.{Setup, Tables, nothing, input, deep, op, plain, converted}
 use Rattle.model.specs.Counts.{fits? as plain-fits?}
 use Rattle.model.proofs.Chains.{false-true}
 use Rattle.model.proofs.Grown.{room}
 use Rattle.model.proofs.Encoded.{AllowedGiven, encoded-call}
-use Rattle.raw.specs.declared.SourceLocation.{SourceLocation}
 use Rattle.tables.proofs.Sets as sets
 use Rattle.tables.proofs.TextTables as text-tables
 use Rattle.steps.specs.Words.{Memory, Words, fits?, over-words}
 use Rattle.steps.proofs.Lengths.{Lens, lens, lens-kept}
 use Rattle.steps.proofs.Loops.{op-keeps}
-use Rattle.reopened.specs.Calls.{unused, zeroed}
-use Rattle.reopened.proofs.Encoding.{capacities, Enc, encoding, any, has-room, enc-room, enc-fits, full}
+use Rattle.reopened.specs.Calls.{unused}
+use Rattle.reopened.proofs.Encoding.{capacities, Enc, encoding, any, has-room, enc-room, enc-fits}
 use Rattle.reopened.proofs.OverWords.{words-encode}
 
 -- ── What a call leaves ──

@@ -3,35 +3,33 @@
 use mathlib.Core.Path.{_≡_, refl, sym, ap, _∙_, subst}
 use mathlib.Core.Bool.{Bool, true, false, cond, _&&_}
 use mathlib.Core.Option.{Option, none, some}
-use mathlib.Core.Logic.{_⊎_, inl, inr, ⊎-elim}
 use mathlib.Core.List.{List, [], _∷_}
-use Prim.Native.Nat.{ℕ, zero, suc, _≤_, _<_}
+use Prim.Native.Nat.{ℕ, suc, _<_}
 use native.Mathlib.Omega.{arith}
 use lib.Dec.{ltb, eqb}
 use lib.ListN.{length}
 use borrow.Author.Tests.{ne-eqb}
 use Rattle.model.specs.Basics.{Entry, intern}
-use Rattle.model.specs.Rows.{MAX, cut32, Text, LineRow, FunctionRow, SymbolRow}
-use Rattle.model.specs.Converter.{Setup, Six, Function, Location, nowhere, at, Tables, is-nowhere, file-eq, function-eq, location-eq, store, store-six, function-name, symbol-name, line-texts, entry-of, range-at, put-at, begin-row, locate-line, begin-symbol, locate-symbol, enter-call, later, cleared}
-use Rattle.model.specs.Words.{index-word, text-word}
-use Rattle.model.proofs.Intern.{At, Grows, intern-at, intern-grows, at-length}
-use Rattle.model.proofs.Chains.{file-eq-ok, function-eq-ok, location-eq-ok, store-grows, six-store-grows, Larger}
+use Rattle.model.specs.Rows.{MAX, LineRow, FunctionRow, SymbolRow}
+use Rattle.model.specs.Converter.{Setup, File, Function, Location, nowhere, at, Tables, is-nowhere, file-eq, function-eq, location-eq, store, store-six, function-name, symbol-name, line-texts, entry-of, range-at, begin-row, locate-line, begin-symbol, locate-symbol, enter-call, later, cleared}
+use Rattle.model.specs.Words.{index-word}
+use Rattle.model.proofs.Intern.{At, Grows, intern-grows}
+use Rattle.model.proofs.Chains.{file-eq-ok, function-eq-ok, location-eq-ok}
 use Rattle.model.proofs.Always.{Within, InTables}
-use Rattle.model.proofs.FileRows.{FileIn}
 use Rattle.model.proofs.Grown.{Grown}
 use Rattle.model.proofs.Couple.{Alike, vacant, held}
-use Rattle.model.proofs.Encoded.{Holds, Goes, goes-then, Encodes, ending}
-use Rattle.raw.specs.Rows.{max32, noSourceLocation, isNoSourceLocation}
+use Rattle.model.proofs.Encoded.{Holds, Goes, goes-then, Encodes}
+use Rattle.raw.specs.Rows.{max32, isNoSourceLocation}
 use Rattle.raw.specs.declared.SourceLocation.{SourceLocation}
-use Rattle.steps.specs.Words.{Words, add-file-row, add-call, fileRow, locate-six, begin-named, get-range, last-of, later-of, cleared-of, over-words}
-use Rattle.steps.specs.Words.{store as word-store, store-six as word-store-six, add-function as word-add-function, put-range as word-put-range}
+use Rattle.steps.specs.Words.{Words, add-call, fileRow, locate-six, begin-named, get-range, last-of, later-of, cleared-of, over-words}
+use Rattle.steps.specs.Words.{store as word-store, store-six as word-store-six, add-function as word-add-function}
 use Rattle.steps.specs.declared.LastAddr.{LastAddr}
 use Rattle.steps.specs.declared.LastAddr.the-variants.{Unset, Set}
-use Rattle.steps.proofs.Lengths.{Lens, lens}
-use Rattle.reopened.proofs.WordRows.{file-row, source, grows-length, within-later, in-later, Few}
+use Rattle.steps.proofs.Lengths.{Lens}
+use Rattle.reopened.proofs.WordRows.{source, grows-length, within-later, in-later, Few}
 use Rattle.reopened.proofs.Interned.{intern-below, shown, got}
-use Rattle.reopened.proofs.Encoding.{capacities, full, Enc, TextIs, text-is-later, encoding, any, few, Went, went}
-use Rattle.reopened.proofs.StepLaws.{with-texts, with-files, with-functions, store-full, store-went, file-full, file-went, file-larger, function-full, function-went, call-full, call-went, range-full, range-went, last-full, last-went, answer, six-full, six-goes}
+use Rattle.reopened.proofs.Encoding.{capacities, full, Enc, TextIs, text-is-later, encoding, any, few, went}
+use Rattle.reopened.proofs.StepLaws.{with-texts, with-files, with-functions, store-full, store-went, file-full, file-went, function-full, function-went, call-full, call-went, range-full, range-went, last-full, last-went, answer, six-full, six-goes}
 
 -- ── What is read ──
 
@@ -104,7 +102,7 @@ module _ (n : Lens) (X : Setup) where
 
   -- ── A line's texts, its file and its location ──
 
-  files-grown : (s : Tables) (fs : List _) → Grows (s .files) fs → Grown s (with-files s fs)
+  files-grown : (s : Tables) (fs : List File) → Grows (s .files) fs → Grown s (with-files s fs)
   files-grown s fs g = record { texts = omega arith; bytes = omega arith; files = grows-length (s .files) fs g; functions = omega arith; calls = omega arith; ranges = omega arith }
 
   locate-goes : (q : FunctionRow) (r r′ : ℕ) (l : LineRow) (c : Option ℕ) (c′ : ℕ) (s : Tables) (w : Words) → HoldsIn s w → (r < length (s .functions)) × (r′ ≡ r) → Within c (length (s .calls)) × (c′ ≡ index-word c)

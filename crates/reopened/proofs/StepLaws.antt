@@ -1,25 +1,24 @@
 -- EACH STEP OF THE CONVERTER OVER WORDS GOES AS THE PLAIN ONE: a text, a file, a function, a call location, a range, the last end. From words that hold tables it comes to words that hold
 -- the plain tables after the step; or to words with no room, and the plain tables don't fit. Words without room stay so.
-use mathlib.Core.Path.{_≡_, refl, sym, ap, _∙_, subst}
+use mathlib.Core.Path.{_≡_, refl, sym, ap, subst}
 use mathlib.Core.Bool.{Bool, true, false, cond}
-use mathlib.Core.Option.{Option, none, some}
+use mathlib.Core.Option.{Option}
 use mathlib.Core.Logic.{_⊎_, inl, inr, ⊎-elim}
 use mathlib.Core.List.{List, [], _∷_, map}
-use Prim.Native.Nat.{ℕ, zero, suc, _≤_, _<_}
+use Prim.Native.Nat.{ℕ, zero, suc, _<_}
 use native.Mathlib.Omega.{arith}
 use lib.Dec.{eqb}
 use lib.ListN.{length}
 use Rattle.model.specs.Basics.{Entry, intern}
-use Rattle.model.specs.Rows.{MAX, Text}
+use Rattle.model.specs.Rows.{Text}
 use Rattle.model.specs.Converter.{Six, File, Function, Location, Tables, file-eq, function-eq, location-eq, store, store-six, put-range, put-at}
-use Rattle.model.specs.Counts.{text-bytes}
 use Rattle.model.specs.Words.{text-word}
-use Rattle.model.proofs.Intern.{At, Grows, intern-at, intern-grows, intern-new, at-length}
-use Rattle.model.proofs.Chains.{file-eq-ok, function-eq-ok, location-eq-ok, store-grows, six-store-grows, Larger}
+use Rattle.model.proofs.Intern.{At, Grows, intern-grows, intern-new}
+use Rattle.model.proofs.Chains.{file-eq-ok, function-eq-ok, location-eq-ok, store-grows, Larger}
 use Rattle.model.proofs.Always.{Within, InTables}
 use Rattle.model.proofs.Compact.{file-whole, function-whole, location-whole}
 use Rattle.model.proofs.FileRows.{FileIn}
-use Rattle.model.proofs.Grown.{Grown, Fits}
+use Rattle.model.proofs.Grown.{Grown}
 use Rattle.model.proofs.Keeps.{Any, put-larger, ending-larger}
 use Rattle.model.proofs.Encoded.{Goes, goes-then, ending}
 use Rattle.raw.specs.declared.SourceLocation.{SourceLocation}
@@ -33,8 +32,8 @@ use Rattle.steps.specs.Words.{Words, fits?, add-file-row, add-call, fileRow, fu
 use Rattle.steps.specs.Words.{store as word-store, store-six as word-store-six, add-function as word-add-function, put-range as word-put-range}
 use Rattle.steps.proofs.Lengths.{Lens, lens, insert-long, put-long, text-long, text-long-index, store-lens, add-function-lens, add-file-row-lens, add-call-lens, put-range-lens}
 use Rattle.reopened.proofs.WordRows.{file-row, function-row, call-row, range-row, source, call-row-is, range-row-is, grows-length, grows-bytes, within-later, in-later, file-in-later, file-row-later, function-row-later, file-row-one, function-row-one, call-row-one, row-path}
-use Rattle.reopened.proofs.Interned.{Added, added, set-back, placed, put-back, TextsOver, stored, stored-within, texts-back}
-use Rattle.reopened.proofs.Encoding.{capacities, Room, full, stays-full, Inside, Enc, TextIs, text-is-later, encoding, few, Went, went}
+use Rattle.reopened.proofs.Interned.{Added, added, set-back, placed, put-back, stored, stored-within, texts-back}
+use Rattle.reopened.proofs.Encoding.{capacities, full, stays-full, Inside, Enc, TextIs, text-is-later, encoding, few, Went, went}
 
 map-same : {A B : Type 0} (f g : A → B) (xs : List A) → ((i : ℕ) (x : A) → At xs i x → f x ≡ g x) → map f xs ≡ map g xs
 map-same f g [] h = refl

@@ -1,6 +1,6 @@
 -- THE ROWS OF THE PLAIN TABLES AS ROWS OF WORDS, and that nothing is lost: rows whose references lie within small tables have equal words only where they are equal.
 -- Texts have different offsets, and all of these are below MAX, so MAX can stand for an absent reference; a location somewhere has a function below MAX.
-use mathlib.Core.Path.{_≡_, refl, sym, ap, _∙_}
+use mathlib.Core.Path.{_≡_, refl, ap}
 use mathlib.Core.Option.{Option, none, some}
 use mathlib.Core.Logic.{_⊎_, inl, inr}
 use mathlib.Core.List.{List, [], _∷_}
@@ -9,11 +9,11 @@ use native.Mathlib.Omega.{arith}
 use lib.ListN.{length}
 use Rattle.model.specs.Basics.{Entry}
 use Rattle.model.specs.Rows.{MAX, Text}
-use Rattle.model.specs.Converter.{Six, File, Function, Location, nowhere, at, Tables}
+use Rattle.model.specs.Converter.{File, Function, Location, nowhere, at, Tables}
 use Rattle.model.specs.Counts.{text-size, text-bytes, text-offset}
 use Rattle.model.specs.Words.{index-word, text-word, file-words, function-words, location-words}
 use Rattle.model.proofs.Maps.{lt-or-ge}
-use Rattle.model.proofs.Intern.{At, Grows}
+use Rattle.model.proofs.Intern.{Grows}
 use Rattle.model.proofs.Chains.{six-path, Larger}
 use Rattle.model.proofs.Always.{Within, InTables}
 use Rattle.model.proofs.FileRows.{FileIn, offset-within}

@@ -1,21 +1,19 @@
 -- The public calls of the converter, for every input: document 01 "Converter" and "Who causes which number". A tree, a symbol and a beginning; each gives its number, the record, and every lent
 -- slice as it leaves it.
-use mathlib.Core.Bool.{Bool, true, false, cond, not, _&&_}
-use mathlib.Core.Option.{Option, none, some}
-use mathlib.Core.List.{List, [], _∷_, map}
+use mathlib.Core.Bool.{Bool, true, false, cond, _&&_}
+use mathlib.Core.List.{List, [], map}
 use Prim.Native.Nat.{ℕ}
-use lib.Dec.{eqb, ltb}
+use lib.Dec.{eqb}
 use lib.ListN.{length, replicate}
-use Rattle.model.specs.Rows.{Text, SymbolRow}
+use Rattle.model.specs.Rows.{SymbolRow}
 use Rattle.model.specs.Machine.{convertM, startM, convert-symbolM}
 use Rattle.model.specs.Converter.{Setup, input, deep}
-use Rattle.rows.specs.Columns.{Columns, treeRows, textOf, optionalOf}
+use Rattle.rows.specs.Columns.{Columns, treeRows, optionalOf}
 use Rattle.rows.specs.Refusals.{refusalOf, optional?}
 use Rattle.rows.specs.declared.OptionalPart.{OptionalPart}
 use Rattle.steps.specs.Words.{Memory, Words, fits?, over-words}
 use Rattle.steps.specs.declared.State.{State}
-use Rattle.steps.specs.declared.LastAddr.{LastAddr}
-use Rattle.steps.specs.declared.LastAddr.the-variants.{Unset, Set}
+use Rattle.steps.specs.declared.LastAddr.the-variants.{Unset}
 use Rattle.steps.specs.declared.Converter.{Converter}
 
 -- ── What a call leaves ─────────────────────────────────────────────────────────────────────────────────────────────────
