@@ -1,0 +1,2 @@
+pub mod RowsOfWords
+pub mod FileRead
