@@ -3,27 +3,27 @@
 use Prim.Native.Nat.{ℕ, zero, suc, _+_, _*_, _≤_, _<_}
 use mathlib.Core.Path.{_≡_, refl, sym, ap, _∙_}
 use mathlib.Core.Bool.{true}
-use mathlib.Core.Option.{Option, none, some}
-use mathlib.Core.List.{List, [], _∷_, _++_, append-assoc}
+use mathlib.Core.Option.{none, some}
+use mathlib.Core.List.{List, [], _++_, append-assoc}
 use native.Mathlib.Omega.{arith}
 use lib.ListN.{length, getD, take, drop, length-append, length-replicate, length-drop}
 use lib.Seq.{take-at, drop-at, drop-drop, take-append-le, drop-append-le}
 use borrow.Author.Tests.{lt-ltb, le-ltb}
-use Rattle.raw.specs.Bytes.{words, Words, Stands, tableBytes}
+use Rattle.raw.specs.Bytes.{words, Stands, tableBytes}
 use Rattle.raw.specs.Rows.{versionInfoBytes, versionInfoAt, headerBytes, headerAt, HeaderFits, rangeAt}
 use Rattle.raw.specs.declared.Header.{Header}
 use Rattle.raw.proofs.Bytes.{length-words, stands-left, stands-right, stands-between, word-back}
 use Rattle.raw.proofs.Rows.{length-version-info, length-header, version-info-back, header-back}
 use Rattle.symcache.specs.declared.SymCache.{SymCache}
-use Rattle.symcache.specs.Answers.{Answer, gives, refuseIf}
+use Rattle.symcache.specs.Answers.{gives, refuseIf}
 use Rattle.symcache.specs.Reader.{aligned, layoutOf, tested, parsed, opened, startAt, ascendingFrom, ascending, Within}
 use Rattle.symcache.specs.Lookup.{locationIn, functionIn, fileIn}
 use Rattle.symcache.specs.Strings.{sectionOf}
 use Rattle.symcache.proofs.ReaderLaws.{then-tables, opened-accepted}
 use Rattle.model.proofs.FileRows.{ascending-next}
 use Rattle.model.proofs.Sections.{Sections, function-read}
-use Rattle.reads.specs.Bytes.{version-info, header-of, padding, file-bytes, Rows, Readable}
-use Rattle.reads.proofs.RowsOfWords.{RowAt, table-size, row-there, file-of, function-of, location-of, file-row, function-row, location-row}
+use Rattle.reads.specs.Bytes.{version-info, header-of, padding, file-bytes, Readable}
+use Rattle.reads.proofs.RowsOfWords.{table-size, row-there, file-of, function-of, location-of, file-row, function-row, location-row}
 
 -- ── Multiples of 8 ──
 

@@ -1,11 +1,11 @@
 -- Rows of words in a list of bytes: each stands where its index says, and its words are read back.
 use Prim.Native.Nat.{ℕ, zero, suc, _+_, _*_, _<_}
-use mathlib.Core.Path.{_≡_, refl, sym, _∙_}
-use mathlib.Core.List.{List, [], _∷_, _++_}
+use mathlib.Core.Path.{_≡_, refl, sym, ap, _∙_}
+use mathlib.Core.List.{List, [], _∷_, _++_, map, append-assoc}
 use native.Mathlib.Nat.{add-zero, mul-zero, mul-suc}
 use native.Mathlib.Omega.{arith}
 use lib.ListN.{length, getD, length-append}
-use Rattle.raw.specs.Bytes.{words, Words, Stands, tableBytes}
+use Rattle.raw.specs.Bytes.{le, words, Words, Stands, tableBytes}
 use Rattle.raw.specs.Rows.{fileAt, functionAt, locationAt}
 use Rattle.raw.specs.declared.File.{File}
 use Rattle.raw.specs.declared.Function.{Function}
@@ -39,6 +39,31 @@ module _ (n b : ℕ) (wide : 4 * n ≡ b) where
   row-there (r ∷ rs) d s at (suc i) m w h e g =
       let e′ : m ≡ at + b + b * i = e ∙ rw (mul-suc b i) (omega arith) in
       row-there rs d s (at + b) i m (w .1) (omega arith) e′ (stands-right (words r) (tableBytes words rs) s at (at + b) (rw (row-size r (w .0 .0))) g)
+
+-- ── Tables of other rows are such tables ──
+
+module _ {A B : Type 0} where
+  pub table-map : (bytes : B → List ℕ) (f : A → B) (xs : List A) → tableBytes bytes (map f xs) ≡ tableBytes (λ (x : A). bytes (f x)) xs
+  unfolding tableBytes
+  table-map bytes f [] = refl
+  table-map bytes f (x ∷ xs) = ap (λ (l : List ℕ). bytes (f x) ++ l) (table-map bytes f xs)
+
+module _ {A : Type 0} where
+  pub table-append : (bytes : A → List ℕ) (xs ys : List A) → tableBytes bytes (xs ++ ys) ≡ tableBytes bytes xs ++ tableBytes bytes ys
+  unfolding tableBytes
+  table-append bytes [] ys = refl
+  table-append bytes (x ∷ xs) ys = ap (λ (l : List ℕ). bytes x ++ l) (table-append bytes xs ys) ∙ sym (append-assoc (bytes x) (tableBytes bytes xs) (tableBytes bytes ys))
+
+  pub table-same : (f g : A → List ℕ) → ((x : A) → f x ≡ g x) → (xs : List A) → tableBytes f xs ≡ tableBytes g xs
+  unfolding tableBytes
+  table-same f g e [] = refl
+  table-same f g e (x ∷ xs) = rw (e x, table-same f g e xs)
+
+  -- a table of one word a row
+  pub table-words : (f : A → ℕ) (xs : List A) → tableBytes (λ (x : A). words (f x ∷ [])) xs ≡ words (map f xs)
+  unfolding tableBytes words
+  table-words f [] = refl
+  table-words f (x ∷ xs) = append-assoc (le 4 (f x)) [] (tableBytes (λ (y : A). words (f y ∷ [])) xs) ∙ ap (λ (l : List ℕ). le 4 (f x) ++ l) (table-words f xs)
 
 -- ── Words as rows ──
 

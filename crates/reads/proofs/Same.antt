@@ -1,14 +1,18 @@
 -- WHAT IS FOUND IS ONE: a file, a stand-in and an address leave no choice of what is shown.
-use Prim.Native.Nat.{ℕ}
+use Prim.Native.Nat.{ℕ, zero, suc, _≤_}
 use mathlib.Core.Path.{_≡_, refl, sym, ap, _∙_, subst}
 use mathlib.Core.Option.{none, some}
-use mathlib.Core.List.{List, [], _∷_, map}
+use mathlib.Core.List.{List, _∷_, map}
 use native.Mathlib.Omega.{arith}
+use lib.ListN.{length}
+use Rattle.symcache.specs.declared.SymCache.{SymCache}
 use Rattle.symcache.specs.declared.lookup.SourceLocations.{SourceLocations}
 use Rattle.symcache.specs.declared.lookup.Frame.{Frame}
 use Rattle.symcache.specs.Answers.{gives, Framed}
-use Rattle.symcache.specs.Lookup.{lookedUp, stepped}
+use Rattle.symcache.specs.Reader.{parsed}
+use Rattle.symcache.specs.Lookup.{stepIn, framesIn}
 use Rattle.reads.specs.Shown.{Shown, shown, Walked, ends, goes, Found}
+use Rattle.reads.proofs.Walks.{step-is}
 
 pub walked-same : {s : List ℕ} {k : SourceLocations} {fs gs : List Frame} → Walked s k fs → Walked s k gs → fs ≡ gs
 walked-same (ends e) (ends g) = refl
@@ -23,3 +27,14 @@ pub found-same : {s d : List ℕ} {x : ℕ} {vs us : List Shown} → Found s d x
 found-same {s = s} {d = d} f g =
     let e : f .cursor ≡ g .cursor = let p = f .looked in let q = g .looked in cc in
     sym (f .shows) ∙ (ap (map (shown s d)) (walked-same (f .walked) (subst (λ (c : SourceLocations). Walked s c (g .frames)) (sym e) (g .walked))) ∙ g .shows)
+
+-- however many frames are asked for, from their count on, they are the reader's `framesIn`
+pub walked-frames : (s : List ℕ) (c : SymCache) → parsed s ≡ gives c → {k : SourceLocations} {fs : List Frame} → Walked s k fs → (n : ℕ) → length fs ≤ n → framesIn s c n k ≡ fs
+unfolding framesIn
+walked-frames s c is (ends e) zero h = refl
+walked-frames s c is {k = k} (ends e) (suc n) h = let t = step-is s c is k in let g : stepIn s c k ≡ none = cc in rw (g, framesIn)
+walked-frames s c is (goes e w) zero h = absurd (omega arith)
+walked-frames s c is {k = k} (goes {n = m} {f = f} e w) (suc n) h =
+    let t = step-is s c is k in
+    let g : stepIn s c k ≡ some (record { frame = f; next = m }) = cc in
+    rw (g, framesIn) (ap (λ (l : List Frame). f ∷ l) (walked-frames s c is w n (omega arith)))

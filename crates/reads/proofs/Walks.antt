@@ -1,5 +1,5 @@
 -- THE WALK: `next` from the cursor that `lookup` gives finds, frame by frame, what a reader of the words finds, and then the end. For EVERY file's words and EVERY address.
-use Prim.Native.Nat.{ℕ, zero, suc, _+_, _*_, _-_, _≤_, _<_}
+use Prim.Native.Nat.{ℕ, zero, suc, _+_, _-_, _≤_, _<_}
 use mathlib.Core.Path.{_≡_, refl, sym, ap, _∙_, subst}
 use mathlib.Core.Bool.{Bool, true, false, cond, _&&_, _||_}
 use mathlib.Core.Logic.{_⊎_, inl, inr, ⊎-elim}
@@ -12,7 +12,7 @@ use lib.ListN.{length, getD, getElem?, List·getD-eq-default}
 use borrow.Author.Tests.{lt-ltb, le-leb, lt-leb, ltb-true, ltb-false, leb-true, leb-false, eq-eqb, ne-eqb, eqb-true, eqb-false}
 use Rattle.raw.specs.declared.SourceLocation.{SourceLocation}
 use Rattle.raw.specs.Rows.{max32, isNoSourceLocation}
-use Rattle.text.specs.Texts.{read-text}
+use Rattle.text.specs.Texts.{read-text, bytes-of, text-part}
 use Rattle.text.specs.declared.strings.Text as text-type
 use Rattle.text.specs.declared.strings.Text.the-variants as text
 use Rattle.text.proofs.Leb128Laws.{decoded-past}
@@ -20,15 +20,13 @@ use Rattle.text.proofs.TextLaws.{absent-prefix, text-within}
 use Rattle.symcache.specs.declared.SymCache.{SymCache}
 use Rattle.symcache.specs.declared.lookup.SourceLocations.{SourceLocations}
 use Rattle.symcache.specs.declared.lookup.Frame.{Frame}
-use Rattle.symcache.specs.declared.lookup.FrameFile.{FrameFile}
-use Rattle.symcache.specs.Answers.{Answer, gives, andThen, Framed}
-use Rattle.symcache.specs.Reader.{layoutOf, parsed, opened, startAt}
-use Rattle.symcache.specs.Lookup.{foundAt, locationIn, functionIn, fileIn, walkFrom, walkAt, lookedUp, met, entryOf, languageOf, fileOf, frameIn, ended, framed, stepIn, stepped}
-use Rattle.symcache.specs.Strings.{sectionOf, placed, gotString, orElse, textOr, nameIn, nameOf}
+use Rattle.symcache.specs.Answers.{gives, andThen}
+use Rattle.symcache.specs.Reader.{layoutOf, parsed, opened}
+use Rattle.symcache.specs.Lookup.{foundAt, locationIn, functionIn, fileIn, walkFrom, walkAt, lookedUp, met, entryOf, languageOf, fileOf, frameIn, ended, stepIn, stepped}
+use Rattle.symcache.specs.Strings.{placed, gotString, orElse, stringOf, textOr, nameIn, nameOf}
 use Rattle.symcache.proofs.SearchLaws.{found-far, find-greatest, find-none}
 use Rattle.symcache.proofs.LookupLaws.{then-gives, walk-nowhere, walk-empty, walk-begins}
-use Rattle.model.specs.Rows.{MAX, Text}
-use Rattle.model.specs.Converter.{Six}
+use Rattle.model.specs.Rows.{MAX}
 use Rattle.model.specs.Written.{met?}
 use Rattle.model.proofs.Maps.{lt-or-ge}
 use Rattle.model.proofs.Chains.{six-path}
@@ -37,7 +35,7 @@ use Rattle.model.proofs.FileRows.{Ascending, text-at, outside}
 use Rattle.model.proofs.Sections.{Sections, word, shown-file, file-read, function-read, frame-read, follow-words, empty-row, from-words, count-words, lookup-words}
 use Rattle.reads.specs.Bytes.{header-of, file-bytes, Readable}
 use Rattle.reads.specs.Shown.{part-of, text-shown, file-shown, Shown, shown, name-or, with-stand-in, Walked, ends, goes, Found}
-use Rattle.reads.proofs.RowsOfWords.{file-of, function-of, location-of}
+use Rattle.reads.proofs.RowsOfWords.{location-of}
 use Rattle.reads.proofs.FileRead.{parsed-file, start-there, opened-file, location-there, function-there, function-outside, file-there, file-outside, section-there, part-there}
 use Rattle.reads.proofs.Once.{Once, Below, not-met, few}
 
@@ -137,7 +135,7 @@ module _ (s : List ℕ) (c : SymCache) where
   -- ── `next` ──
 
   module _ (is : parsed s ≡ gives c) where
-    step-is : (k : SourceLocations) → stepped s k ≡ gives (stepIn s c k)
+    pub step-is : (k : SourceLocations) → stepped s k ≡ gives (stepIn s c k)
     unfolding stepped
     step-is k = sym (then-gives (parsed s) c (λ (d : SymCache). gives (stepIn s d k)) (gives (stepIn s c k)) is refl)
 
@@ -236,6 +234,15 @@ module _ (id : List ℕ) (a : ℕ) (z : Sections) (ok : Readable id a z) (rest d
       go : (t : text-type.Text) → read-text (z .strings) w ≡ t → part-of F (gives (placed (c .strings) t)) ≡ file-rows.shown (z .strings) t
       go text.Absent e = refl
       go (text.At start len) e = ap some (part-there id a z ok rest start len (text-within (z .strings) w start len e))
+
+  -- `get_string`: the same, and nothing where it is absent
+  pub bytes-is : (w : ℕ) → stringOf F w ≡ name-or [] (text-at (z .strings) w)
+  unfolding stringOf andThen orElse text-part bytes-of
+  bytes-is w = rw (is, andThen, section-there id a z ok rest) (go (read-text (z .strings) w))
+    where
+      go : (t : text-type.Text) → bytes-of (z .strings) t ≡ name-or [] (file-rows.shown (z .strings) t)
+      go text.Absent = refl
+      go (text.At start len) = refl
 
   absent-at : text-at (z .strings) MAX ≡ none
   absent-at = ap (λ (t : text-type.Text). file-rows.shown (z .strings) t) (sym (absent-prefix (z .strings) MAX (decoded-past (z .strings) MAX few-bytes)))

@@ -1,29 +1,32 @@
 -- EVERY WRITTEN FILE, EVERY ADDRESS: what the reader shows is what the plain tables say. So demand 3 holds of the bytes.
-use Prim.Native.Nat.{ℕ, zero, suc, _+_, _^_, _≤_, _<_}
+use Prim.Native.Nat.{ℕ, suc, _^_, _≤_, _<_}
 use mathlib.Core.Path.{_≡_, refl, sym, ap, _∙_, subst}
 use mathlib.Core.Bool.{true}
-use mathlib.Core.Logic.{_≢_}
 use mathlib.Core.List.{List, [], _∷_, _++_, map, reverse}
 use native.Mathlib.Omega.{arith}
 use lib.ListN.{length, length-map}
 use Rattle.raw.specs.Bytes.{Words}
-use Rattle.model.specs.Basics.{_∈_, Entry, items, depths, upto}
-use Rattle.model.specs.Rows.{MAX, FunctionRow, Given, tree-rows}
+use Rattle.model.specs.Basics.{_∈_, Entry, Covers, items, depths, upto}
+use Rattle.model.specs.Rows.{MAX, LineRow, FunctionRow, Given, tree-rows}
 use Rattle.model.specs.Converter.{Setup, Location, nowhere, at, Tables, converted}
 use Rattle.model.specs.Frames as plain
 use Rattle.model.specs.Frames.{frames-at}
 use Rattle.model.specs.Counts.{Capacities, Lent, fits?}
-use Rattle.model.specs.Premises.{WellNested, AllSeparate, nested-at}
+use Rattle.model.specs.Premises.{reach, WellNested, AllSeparate, nested-at}
 use Rattle.model.specs.Written.{written, locations}
 use Rattle.model.specs.Words.{file-words, function-words, location-words}
 use Rattle.model.proofs.Intern.{At}
 use Rattle.model.proofs.Compact.{GivenFits}
-use Rattle.model.proofs.Demand.{demand}
+use Rattle.model.proofs.Demand.{demand-root}
+use Rattle.model.proofs.Always.{frames-short}
 use Rattle.model.proofs.FileRows as file-rows
 use Rattle.model.proofs.FileRows.{InFile, written-in-file, file-low, function-low, location-low, locations-count, starts-count, starts-ascend, section-length}
 use Rattle.model.proofs.Sections.{sections, lookup-words, words-looked-up}
-use Rattle.reads.specs.Bytes.{file-bytes, Rows, Readable}
-use Rattle.reads.specs.Shown.{Shown, with-stand-in, Found}
+use Rattle.symcache.specs.Answers.{gives}
+use Rattle.symcache.specs.Reader.{layoutOf, opened}
+use Rattle.reads.specs.Bytes.{header-of, file-bytes, Rows, Readable}
+use Rattle.reads.specs.Shown.{shown, with-stand-in, Found}
+use Rattle.reads.proofs.FileRead.{opened-file}
 use Rattle.reads.proofs.Walks.{found-words}
 
 -- ── The words of tables have a file ──
@@ -68,7 +71,7 @@ tables-shown id a s w size small rest d x = found-words id a (sections s) (secti
 
 -- EVERY LIST of accepted calls that 14 leaves and that fits the lent tables; a debug id of 32 bytes, any architecture
 module _ (X : Setup) (gs : List Given) (fitting : (g : Given) → g ∈ gs → GivenFits g) (K : Capacities) (lent : Lent K) (room : fits? K (converted X gs) ≡ true)
-  (id : List ℕ) (a : ℕ) (size : length id ≡ 32) (small : a < 2 ^ 32) (rest d : List ℕ) (x : ℕ) where
+    (id : List ℕ) (a : ℕ) (size : length id ≡ 32) (small : a < 2 ^ 32) (rest d : List ℕ) (x : ℕ) where
   -- its file's bytes, with anything after them
   abbrev pub file : List ℕ
   file = file-bytes id a (sections (written (converted X gs))) ++ rest
@@ -79,10 +82,22 @@ module _ (X : Setup) (gs : List Given) (fitting : (g : Given) → g ∈ gs → G
       subst (λ (v : List plain.Frame). Found file d x (map (with-stand-in d) v)) (words-looked-up X gs fitting K lent room x)
       (tables-shown id a (written (converted X gs)) (written-in-file X gs fitting K lent room) size small rest d x)
 
+  -- no call refuses it
+  pub file-opened : opened file ≡ gives (layoutOf (header-of id a (sections (written (converted X gs)))))
+  file-opened = opened-file id a _ (sections-readable id a (written (converted X gs)) (written-in-file X gs fitting K lent room) size small) rest
+
+  -- K7: with no row deeper than D, `next` gives at most D + 1 frames, whether or not the trees are well nested
+  pub file-short : (D : ℕ) → ((q : FunctionRow) (rs : List FunctionRow) → tree-rows q rs ∈ gs → (r : FunctionRow) → r ∈ rs → r .depth ≤ D) → length (file-shows .frames) ≤ suc D
+  file-short D shallow =
+      let f = file-shows in
+      let e : length (f .frames) ≡ length (frames-at (converted X gs) x) = sym (length-map (f .frames) (shown file d)) ∙ (ap length (f .shows) ∙ length-map (frames-at (converted X gs) x) (with-stand-in d)) in
+      rw e (frames-short X gs D shallow x)
+
   -- DEMAND 3 ON THE BYTES: where trees are well nested and calls are separate, an address covered by a line of an accepted tree's root shows exactly one frame for each row of that tree
   -- with a line covering it, the deepest first, and then the end
   pub file-demand : ((g : Given) → g ∈ gs → WellNested g) → AllSeparate gs → (q : FunctionRow) (rs : List FunctionRow) → tree-rows q rs ∈ gs
-      → let found = nested-at X x (q ∷ rs) in found ≢ [] → Found file d x (map (with-stand-in d) (reverse (items found))) × (depths found ≡ upto 0 (length found))
-  file-demand well separate q rs i h =
-      let e = demand X gs well separate q rs i x h in
+      → (n : LineRow) → n ∈ q .lines → Covers (reach n) x
+      → let found = nested-at X x (q ∷ rs) in Found file d x (map (with-stand-in d) (reverse (items found))) × (depths found ≡ upto 0 (length found))
+  file-demand well separate q rs i n j h =
+      let e = demand-root X gs well separate q rs i x n j h in
       (subst (λ (v : List plain.Frame). Found file d x (map (with-stand-in d) v)) (e .0) file-shows, e .1)
