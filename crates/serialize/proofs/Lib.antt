@@ -5,3 +5,4 @@ pub mod Sorted
 pub mod Whole
 pub mod Answers
 pub mod Read
+pub mod Worked

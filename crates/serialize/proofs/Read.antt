@@ -1,8 +1,8 @@
 -- What the rows of a written file read as, each at its place: the rows of the tables, wherever the file's sections stand.
 use Prim.Native.Nat.{ℕ, _+_, _*_, _<_, _^_}
 use mathlib.Core.Bool.{Bool, true, false, cond}
-use mathlib.Core.Path.{_≡_, refl, ap, sym, _∙_}
-use mathlib.Core.List.{List, [], _∷_}
+use mathlib.Core.Path.{_≡_, refl, _∙_}
+use mathlib.Core.List.{List}
 use native.Mathlib.Nat.{zero-add}
 use native.Mathlib.Omega.{arith}
 use lib.Dec.{ltb}
@@ -10,7 +10,6 @@ use lib.ListN.{length, getD}
 use Rattle.model.specs.Basics.{Span}
 use Rattle.raw.specs.Bytes.{Words, Stands, tableBytes}
 use Rattle.raw.specs.Rows.{versionInfoAt, headerAt, HeaderFits, fileAt, functionAt, locationWords, locationAt, rangeAt, noSourceLocation}
-use Rattle.raw.specs.declared.SourceLocation.{SourceLocation}
 use Rattle.raw.proofs.Bytes.{row-stands}
 use Rattle.raw.proofs.Rows.{version-info-back, header-back, file-back, function-back, location-back, range-back}
 use Rattle.tables.specs.Table.{rowAt}
