@@ -6,3 +6,4 @@ pub mod OverWords
 pub mod OneCall
 pub mod EveryList
 pub mod WrittenFile
+pub mod Claim

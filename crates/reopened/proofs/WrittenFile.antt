@@ -40,14 +40,16 @@ use Rattle.steps.specs.declared.LastAddr.{LastAddr}
 use Rattle.steps.specs.declared.LastAddr.the-variants.{Unset, Set}
 use Rattle.steps.specs.declared.Converter.{Converter}
 use Rattle.steps.proofs.Lengths.{Lens}
-use Rattle.serialize.specs.Sections.{file-row, function-row, call-row, entries, if-vacant, vacant-end, sentinel, in-order, entry-location, location-row, start-row, padding}
+use Rattle.serialize.specs.Sections.{file-row, function-row, call-row, entries, if-vacant, vacant-end, in-order, entry-location, location-row, start-row, padding}
 use Rattle.serialize.specs.File.{ranges-of, version-info, header-of, written-file, wrote, serializeOf}
 use Rattle.serialize.proofs.Rows.{table-append}
+use Rattle.reads.specs.Bytes.{file-bytes}
+use Rattle.reads.specs.Bytes as reads
 use Rattle.reopened.specs.Calls.{words-of}
 use Rattle.reopened.proofs.WordRows.{range-row, source, range-row-location}
 use Rattle.reopened.proofs.WordRows as rows
 use Rattle.reopened.proofs.Interned.{shown, got, holds-count}
-use Rattle.reopened.proofs.Encoding.{Enc, has-room, enc-room, count-bytes, count-files, count-functions, count-calls, count-ranges}
+use Rattle.reopened.proofs.Encoding.{Enc, has-room, enc-room, count-bytes, count-files, count-functions, count-calls}
 
 -- ── Tables of rows ──
 
@@ -206,28 +208,9 @@ module _ (t : List ℕ) (n : ℕ) (rs : List (Entry Location)) (h : Holds 1 t n 
 
 -- ── The file ──
 
--- the header that tells of the sections, and the bytes of the file with these
-abbrev pub plain-header : List ℕ → ℕ → Sections → Header
-plain-header id a z = record {
-  «debug_id» = id;
-  arch = a;
-  «num_files» = length (z .files);
-  «num_functions» = length (z .functions);
-  «num_source_locations» = length (z .locations);
-  «num_ranges» = length (z .starts);
-  «string_bytes» = length (z .strings);
-  «variable_header» = 0;
-  reserved = replicate 14 0;
-}
-
-abbrev pub plain-file : List ℕ → ℕ → Sections → List ℕ
-plain-file id a z =
-    versionInfoBytes version-info
-    ++ (headerBytes (plain-header id a z)
-    ++ (tableBytes words (z .files)
-    ++ (tableBytes words (z .functions)
-    ++ (tableBytes words (z .locations)
-    ++ (words (z .starts) ++ (padding (length (z .starts) * 4) ++ z .strings))))))
+pad-is : (k : ℕ) → padding k ≡ reads.padding k
+unfolding padding reads.padding
+pad-is k = refl
 
 whole : (v h h′ f f′ g g′ k l kl b b′ p p′ x x′ : List ℕ) → h ≡ h′ → f ≡ f′ → g ≡ g′ → k ++ l ≡ kl → b ≡ b′ → p ≡ p′ → x ≡ x′
     → v ++ (h ++ (f ++ (g ++ (k ++ (l ++ (b ++ (p ++ x))))))) ≡ v ++ (h′ ++ (f′ ++ (g′ ++ (kl ++ (b′ ++ (p′ ++ x′))))))
@@ -288,7 +271,7 @@ module _ (n : Lens) (s : Tables) (c : Converter) (m : Memory) (h : Enc n s (word
         let f : length (by-start (s .ranges)) ≡ length (s .ranges) = by-start-length (s .ranges) unique in
         omega (arith, ranges-count, count-calls n s (words-of c m) h)
 
-    pub header-is : header-of c (length (ranges-of c m)) ≡ plain-header (c .«debug_id») (c .arch) z
+    pub header-is : header-of c (length (ranges-of c m)) ≡ reads.header-of (c .«debug_id») (c .arch) z
     header-is =
         header-path (c .«debug_id») (c .arch) _ _ _ _ _ _ _ _ _ _
         (sym (length-map (s .files) (file-words (s .texts)) ∙ count-files n s (words-of c m) h))
@@ -304,8 +287,8 @@ module _ (n : Lens) (s : Tables) (c : Converter) (m : Memory) (h : Enc n s (word
         ∙ sym (table-append (λ (l : Location). words (location-words l)) (s .calls) vs)
         ∙ sym (table-of words location-words (s .calls ++ vs))
 
-    pub file-written : written-file c m ≡ plain-file (c .«debug_id») (c .arch) z
-    unfolding written-file
+    pub file-written : written-file c m ≡ file-bytes (c .«debug_id») (c .arch) z
+    unfolding written-file file-bytes
     file-written =
         whole (versionInfoBytes version-info) _ _ _ _ _ _ (tableBytes call-row (rowsOf (m .calls) (c .state .«call_locations»))) (tableBytes (location-row (m .ranges) (c .state .ranges)) (ranges-of c m)) _ _ _ _ _ _ _
         (ap headerBytes header-is)
@@ -313,16 +296,16 @@ module _ (n : Lens) (s : Tables) (c : Converter) (m : Memory) (h : Enc n s (word
         functions-written
         all-locations
         starts-written
-        (ap (λ (k : ℕ). padding (k * 4)) starts-count)
+        (ap (λ (k : ℕ). padding (k * 4)) starts-count ∙ pad-is (length (z .starts) * 4))
         strings-written
 
 -- WHAT IS WRITTEN, after every list: the file of the plain tables
-pub written-is : (X : Setup) (gs : List Given) (n : Lens) (c : Converter) (m : Memory) → Enc n (converted X gs) (words-of c m) → written-file c m ≡ plain-file (c .«debug_id») (c .arch) (sections (written (converted X gs)))
+pub written-is : (X : Setup) (gs : List Given) (n : Lens) (c : Converter) (m : Memory) → Enc n (converted X gs) (words-of c m) → written-file c m ≡ file-bytes (c .«debug_id») (c .arch) (sections (written (converted X gs)))
 written-is X gs n c m h = file-written n (converted X gs) c m h (starts-unique X gs) (last-end-starts X gs)
 
 -- and what writing answers: 0, the length, and the plain file before the rest of the output; or 18 where the output is shorter
 pub write-answers : (X : Setup) (gs : List Given) (n : Lens) (c : Converter) (m : Memory) → c .«open» ≡ true → Enc n (converted X gs) (words-of c m) → (out : List ℕ)
-    → let f = plain-file (c .«debug_id») (c .arch) (sections (written (converted X gs))) in
+    → let f = file-bytes (c .«debug_id») (c .arch) (sections (written (converted X gs))) in
     serializeOf c m out ≡ cond (leb (length f) (length out)) (wrote 0 (length f) (f ++ drop (length f) out)) (wrote 18 0 out)
 unfolding serializeOf
 write-answers X gs n c m o h out =

@@ -247,8 +247,11 @@ usable-has n c e =
 pub usable-within : (n : ℕ) (c : SymCache) → Within n c → usable n c ≡ true
 unfolding usable
 usable-within n c w =
-    rw (le-leb (c .«num_ranges») (c .«num_source_locations») (w .fewer), le-leb (c .ranges + 4 * c .«num_ranges») n (w .ranges),
-    le-leb (c .«source_locations» + 16 * c .«num_source_locations») n (w .locations))
+    rw (
+      le-leb (c .«num_ranges») (c .«num_source_locations») (w .fewer),
+      le-leb (c .ranges + 4 * c .«num_ranges») n (w .ranges),
+      le-leb (c .«source_locations» + 16 * c .«num_source_locations») n (w .locations),
+    )
 
 -- what is found is a location of the table
 module _ (s : List ℕ) (c : SymCache) (a : ℕ) where

@@ -26,8 +26,10 @@ module _ (s : List ℕ) (c : SymCache) where
   pub steps-end : (k : SourceLocations) → c .«num_source_locations» ≤ k .steps → stepIn s c k ≡ none
   unfolding stepIn ended
   steps-end k h =
-      rw (le-leb (c .«num_source_locations») (k .steps) h,
-      ends-there (eqb (k .current) max32) (leb (c .«num_source_locations») (k .current)) (met s c (k .current) (k .first) (k .steps)))
+      rw (
+        le-leb (c .«num_source_locations») (k .steps) h,
+        ends-there (eqb (k .current) max32) (leb (c .«num_source_locations») (k .current)) (met s c (k .current) (k .first) (k .steps)),
+      )
 
   -- each step is counted
   pub step-counts : (k : SourceLocations) (t : Framed) → stepIn s c k ≡ some t → t .next .steps ≡ k .steps + 1

@@ -6,12 +6,12 @@ ghost use lib.ListN.{length};
 ghost use Rattle.symcache.specs.Answers.{gives, lookupAnswer, stepAnswer, fileAnswer, functionAnswer, functionsAnswer, filesAnswer};
 ghost use Rattle.symcache.specs.Reader.{startAt, Within};
 ghost use Rattle.symcache.specs.Lookup.{searchIn, usable, foundAt, locationIn, functionIn, fileIn, walkFrom, walkAt, lookedUp, met, entryOf, languageOf, fileOf, frameIn, ended, stepIn, stepped, gotFile, gotFunction, nextFunction, functionsNext, nextFile, filesNext};
-use raw::File;
-use raw::Function;
-use raw::SourceLocation;
 use super::ErrorKind;
 use super::Parsed;
 use super::SymCache;
+use raw::File;
+use raw::Function;
+use raw::SourceLocation;
 
 // A walk from a source location to the one into which it was inlined, and so on: where it began, where it is, and how many steps it made.
 pub struct SourceLocations {
@@ -67,7 +67,11 @@ pub struct Functions {
 }
 
 pub enum FunctionStep {
-    Function { index: u32, function: Function, next: Functions },
+    Function {
+        index: u32,
+        function: Function,
+        next: Functions,
+    },
     End,
     Refused(ErrorKind),
 }
@@ -121,7 +125,11 @@ fn is_usable(len: usize, c: SymCache) -> bool
         return false;
     }
     if lies_in(len, c.ranges, 4 * (c.num_ranges as usize)) {
-        return lies_in(len, c.source_locations, 16 * (c.num_source_locations as usize));
+        return lies_in(
+            len,
+            c.source_locations,
+            16 * (c.num_source_locations as usize),
+        );
     }
     false
 }

@@ -30,7 +30,7 @@ range-start-requires-2 : tie.Need-range-start-requires-2 Inv-loop μ-loop
 range-start-requires-2 c κs = omega arith
 
 returns-2 : tie.Need-returns-2 Inv-loop μ-loop
-returns-2 c = 
+returns-2 c =
     let a = c .before .before .before .before .before .before .before .args in
     let l = c .before .before .before .loop in
     sym (ascending-stops (startAt (a .s .now) (a .ranges)) (l .last) (l .i) (a .n) (omega arith) (rw (c .before .range-start2 .ensures) at (c .if2 .taken))) ∙ l .inv .2
@@ -42,13 +42,13 @@ loop-less : tie.Need-loop-less Inv-loop μ-loop
 loop-less c = omega arith
 
 loop-again : tie.Need-loop-again Inv-loop μ-loop
-loop-again c = 
+loop-again c =
     let a = c .before .before .before .before .before .before .before .args in
     let l = c .before .before .before .loop in
     (omega arith, omega arith, rw (c .before .range-start2 .ensures) (ascending-more (startAt (a .s .now) (a .ranges)) (l .last) (l .i) (a .n) (omega arith) (rw (c .before .range-start2 .ensures) at (c .if2 .left))) ∙ l .inv .2)
 
 returns-3 : tie.Need-returns-3 Inv-loop μ-loop
-returns-3 c = 
+returns-3 c =
     let a = c .before .before .before .before .before .args in
     let l = c .before .loop in
     ascending-ends (startAt (a .s .now) (a .ranges)) (l .last) (l .i) (a .n) (omega arith) ∙ l .inv .2

@@ -60,9 +60,10 @@ align-to-8-requires-5 : tie.Need-align-to-8-requires-5
 align-to-8-requires-5 c κs = search needs
 
 returns : tie.Need-returns
-returns c = 
-    (layout-made (c .before .before .before .before .before .before .before .before .before .args .h) _ _ _ _ _ (c .before .before .before .before .before .before .before .before .align-to-8 .ensures .0) (c .before .before .before .before .before .before .align-to-82 .ensures .0) (c .before .before .before .before .align-to-83 .ensures .0) (c .before .before .align-to-84 .ensures .0) (c .align-to-85 .ensures .0),
-    record { files = omega arith; functions = omega arith; locations = omega arith; ranges = omega arith; strings = omega arith })
+returns c = (
+  layout-made (c .before .before .before .before .before .before .before .before .before .args .h) _ _ _ _ _ (c .before .before .before .before .before .before .before .before .align-to-8 .ensures .0) (c .before .before .before .before .before .before .align-to-82 .ensures .0) (c .before .before .before .before .align-to-83 .ensures .0) (c .before .before .align-to-84 .ensures .0) (c .align-to-85 .ensures .0),
+  record { files = omega arith; functions = omega arith; locations = omega arith; ranges = omega arith; strings = omega arith },
+)
 
 pub layout-spec : {M : Type 1} → statement M
 layout-spec =

@@ -22,7 +22,7 @@ frame-file-requires c κs = search needs
 
 -- src/lookup.rt:245:1
 returns : tie.Need-returns
-returns c = 
+returns c =
     let a = c .before .before .before .before .args in
     frame-made (a .s .now) (a .c) (a .i) (c .before .before .location-in .result) _ _ _ (c .before .before .location-in .ensures) (c .before .function-or-missing .ensures .0) (c .before .function-or-missing .ensures .1) (c .frame-file .ensures)
 

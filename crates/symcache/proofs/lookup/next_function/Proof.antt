@@ -44,7 +44,7 @@ add-t10 c = omega arith
 
 -- src/lookup.rt:363:13
 returns : tie.Need-returns Inv-loop μ-loop
-returns c = 
+returns c =
     let a = c .before .before .before .before .before .before .before .before .args in
     let i = c .before .before .before .before .before .before .loop .i in
     let e = c .before .before .function-at .ensures in
@@ -60,7 +60,7 @@ loop-less c = omega arith
 
 -- src/lookup.rt:360:5
 loop-again : tie.Need-loop-again Inv-loop μ-loop
-loop-again c = 
+loop-again c =
     let a = c .before .before .before .before .before .before .before .before .args in
     function-passed (a .s .now) (a .c) (c .before .before .before .before .before .before .loop .i) (a .c .«num_functions») (c .before .before .before .before .if1 .taken) (rw (c .before .before .function-at .ensures) at (c .if2 .left)) ∙ c .before .before .before .before .before .before .loop .inv
 

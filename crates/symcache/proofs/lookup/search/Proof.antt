@@ -40,7 +40,7 @@ loop-less c = omega arith
 
 -- src/lookup.rt:95:5
 loop-again : tie.Need-loop-again Inv-loop μ-loop
-loop-again c = 
+loop-again c =
     let a = c .before .before .before .before .before .args in
     let l = c .before .before .before .loop in
     let f = startAt (a .s .now) (a .ranges) in
@@ -51,7 +51,7 @@ loop-again c =
 
 -- src/lookup.rt:89:1
 returns : tie.Need-returns Inv-loop μ-loop
-returns c = 
+returns c =
     let a = c .before .before .before .args in
     let l = c .before .loop in
     (sym (search-done (startAt (a .s .now) (a .ranges)) (a .addr) (l .size) (l .base) (l .size) (omega arith)) ∙ l .inv .2, omega arith)

@@ -23,7 +23,7 @@ enum-known-parsed c = search needs
 
 -- src/lookup.rt:306:33
 step-in-requires : tie.Need-step-in-requires
-step-in-requires c κs = let w = parsed-within (c .before .before .before .before .before .args .s .now) (c .before .parsed .given .0 .0) (sym (c .before .before .before .parse .ensures) ∙ ap parseAnswer (c .before .parsed .given .1)) .1  in w
+step-in-requires c κs = let w = parsed-within (c .before .before .before .before .before .args .s .now) (c .before .parsed .given .0 .0) (sym (c .before .before .before .parse .ensures) ∙ ap parseAnswer (c .before .parsed .given .1)) .1 in w
 
 -- src/lookup.rt:307:29
 enum-known-parsed-2 : tie.Need-enum-known-parsed-2
