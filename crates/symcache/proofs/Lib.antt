@@ -4,3 +4,4 @@ pub mod SearchLaws
 pub mod LookupLaws
 pub mod WalkLaws
 pub mod StringLaws
+pub mod Worked
