@@ -6,3 +6,5 @@ pub mod Walks
 -- There is one answer; every written file has it
 pub mod Same
 pub mod Written
+-- Computed
+pub mod Worked
