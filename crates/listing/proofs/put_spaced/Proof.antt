@@ -1,0 +1,35 @@
+use Prim.Native.Nat.{ℕ, _+_}
+use mathlib.Core.Path.{_≡_, _∙_}
+use mathlib.Core.List.{List}
+use native.Mathlib.Numerals.{add-one}
+use native.Mathlib.Omega.{arith}
+use lib.ListN.{set, length-set}
+use lib.Seq.{sets}
+use borrow.Author.Needs.{needs}
+use Rattle.listing.specs.Printed.{hexField, spaced}
+use Rattle.listing.proofs.put_spaced.Statement.{statement}
+use Rattle.listing.proofs.put_spaced.Tie as tie
+
+spaced-law : (s : List ℕ) (at v : ℕ) {s′ : List ℕ} → s′ ≡ sets (set s at 32) (at + 1) (hexField 8 v) → s′ ≡ sets s at (spaced v)
+unfolding spaced
+spaced-law s at v e = rw (add-one at) at e
+
+slice-write-out : tie.Need-slice-write-out
+slice-write-out c = search needs
+
+add-put-hex : tie.Need-add-put-hex
+add-put-hex c = search needs
+
+put-hex-requires : tie.Need-put-hex-requires
+put-hex-requires c κs = simp length-set (omega arith)
+
+same-length : tie.Need-same-length
+same-length c = c .before .before .put-hex .kept .0 ∙ simp length-set
+
+returns : tie.Need-returns
+returns c =
+    let a = c .before .before .before .before .before .args in
+    spaced-law (a .out .now) (a .at) (a .value) (c .before .before .put-hex .ensures)
+
+pub put-spaced-spec : {M : Type 1} → statement M
+put-spaced-spec = tie.close (tie.spec slice-write-out add-put-hex put-hex-requires same-length returns)
