@@ -1,14 +1,14 @@
 -- WHAT 13 TO 16 LEAVE: rows that are refused with no number are a tree's rows, as the model's theorems want them.
 use mathlib.Core.Path.{_≡_, refl, sym, ap, _∙_, subst}
 use mathlib.Core.Bool.{Bool, true, false, cond, _&&_}
-use mathlib.Core.Option.{Option, none, some}
+use mathlib.Core.Option.{none, some}
 use mathlib.Core.List.{List, [], _∷_, _++_}
 use Prim.Native.Nat.{ℕ, zero, suc, _+_, _-_, _*_, _/_, _%_, _≤_, _<_, _^_}
 use native.Mathlib.Omega.{arith}
 use native.Mathlib.Nat.{add-suc, suc-add, add-zero, zero-add}
 use lib.ListN.{length, getD}
 use lib.Dec.{ltb, leb, eqb}
-use borrow.Author.Tests.{ltb-true, leb-true, eqb-true, lt-ltb, le-ltb}
+use borrow.Author.Tests.{ltb-true, leb-true, eqb-true}
 use Rattle.text.specs.Utf8.{utf8}
 use Rattle.model.specs.Basics.{_∈_, here, there}
 use Rattle.model.specs.Rows.{MAX, Text, LineRow, FunctionRow, tree-rows}
@@ -20,7 +20,7 @@ use Rattle.rows.specs.declared.TextPart.{TextPart}
 use Rattle.rows.specs.declared.OptionalPart.{OptionalPart}
 use Rattle.rows.specs.declared.FunctionRow.{FunctionRow as FunctionStruct}
 use Rattle.rows.specs.declared.LineRow.{LineRow as LineStruct}
-use Rattle.rows.specs.Columns.{Columns, functionRows, lineRows, functionWords, functionRow, functionStruct, lineStruct, textOf, optionalOf, lineAt, linesFrom, functionAt, rowsFrom, treeRows, rootRow, laterRows}
+use Rattle.rows.specs.Columns.{Columns, functionRows, lineRows, functionStruct, lineStruct, textOf, optionalOf, lineAt, linesFrom, functionAt, rowsFrom, treeRows, rootRow, laterRows}
 use Rattle.rows.specs.Refusals.{each, total, lengths?, count?, depth?, firstLine, shaped?, inside?, readable?, optional?, functionTexts?, lineTexts?, texts?, end?, ends?, room?, refusalOf}
 use Rattle.rows.proofs.Laws.{each-at, function-in, optional-present}
 use Rattle.rows.proofs.RowLaws.{linesFrom-append}
@@ -184,7 +184,7 @@ pub record LineReadable (t : List ℕ) (l : LineStruct) : Type 0 where
   pub srcsrv-dir : l .«srcsrv_dir» .present ≡ true → Readable t (l .«srcsrv_dir» .part)
   pub revision : l .revision .present ≡ true → Readable t (l .revision .part)
 
-readable : (t : List ℕ) (p : TextPart) → readable? t p ≡ true → Readable t p
+pub readable : (t : List ℕ) (p : TextPart) → readable? t p ≡ true → Readable t p
 unfolding readable? inside?
 readable t p e = let (a, b) = both-true (inside? t p) (utf8 (textOf t p)) e in record { inside = leb-true _ _ a; right = b }
 

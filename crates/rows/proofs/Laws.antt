@@ -1,18 +1,16 @@
 -- What the definitions compute to under the tests that the code makes: a row by value, a part of the text, a line's addresses, a loop over rows.
-use Prim.Native.Nat.{ℕ, zero, suc, _+_, _-_, _*_, _/_, _%_, _≤_, _<_, min}
+use Prim.Native.Nat.{ℕ, zero, suc, _+_, _-_, _*_, _/_, _≤_, _<_, min}
 use mathlib.Core.Path.{_≡_, refl, sym, _∙_, ap}
 use mathlib.Core.Bool.{Bool, true, false, cond, _&&_, true≢false}
 use mathlib.Core.Logic.{⊎-elim}
-use mathlib.Core.List.{List, [], _∷_}
+use mathlib.Core.List.{List, []}
 use native.Mathlib.Omega.{arith}
 use native.Mathlib.Numerals.{add-one}
 use native.Mathlib.Nat.{eq-or-lt-of-le}
-use lib.ListN.{length, getD, take, drop}
-use lib.Dec.{ltb, leb, eqb}
+use lib.ListN.{length, take, drop}
 use borrow.Author.Tests.{lt-ltb, le-ltb, le-leb, lt-leb, eq-eqb, ne-eqb}
 use Rattle.model.specs.Rows.{MAX}
 use Rattle.model.proofs.Chains.{both-true}
-use Rattle.rows.specs.declared.Boundaries.{Boundaries}
 use Rattle.rows.specs.declared.FunctionRow.{FunctionRow}
 use Rattle.rows.specs.declared.OptionalPart.{OptionalPart}
 use Rattle.rows.specs.Columns.{Columns, functionRows, lineRows, functionStruct, lineStruct, functionWords, functionRow, lineWords, lineRow, boundariesOf, partOf}

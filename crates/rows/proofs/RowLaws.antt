@@ -6,7 +6,7 @@ use mathlib.Core.List.{List, [], _∷_, _++_}
 use Prim.Native.Nat.{ℕ, zero, suc, _+_, min}
 use native.Mathlib.Nat.{zero-add, add-zero, suc-add, add-suc}
 use lib.Dec.{eqb, ltb}
-use Rattle.model.specs.Rows.{MAX, cut32, LineRow, FunctionRow, boundaries, skipped, function-end}
+use Rattle.model.specs.Rows.{MAX, cut32, LineRow, boundaries, skipped, function-end}
 use Rattle.rows.specs.Columns.{Columns, functionStruct, lineStruct, boundariesOf, textOf, optionalOf, lineAt, linesFrom, functionAt, rowsFrom}
 
 module _ (k : Columns) (i j : ℕ) where

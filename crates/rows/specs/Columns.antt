@@ -1,6 +1,6 @@
 -- The columns that a tree call is given, after document 01's "Forms that Rattle cannot carry": "a tree arrives as function rows in preorder, each with depth
 -- and its count of line rows. First over plain number slices"; "Texts are parts of one lent text". What a row's words are, and which rows of the model they stand for.
-use mathlib.Core.Bool.{Bool, true, false, cond, not, _&&_}
+use mathlib.Core.Bool.{Bool, cond, not, _&&_}
 use mathlib.Core.Option.{Option, none, some}
 use mathlib.Core.List.{List, [], _∷_}
 use Prim.Native.Nat.{ℕ, zero, suc, _+_, _-_, _*_, _/_, min}

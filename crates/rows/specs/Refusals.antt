@@ -1,5 +1,5 @@
 -- The numbers 13 to 16: "one definition over the rows, callable by itself". "A number is given when its condition holds and no earlier one's does, and only then."
-use mathlib.Core.Bool.{Bool, true, false, cond, _&&_}
+use mathlib.Core.Bool.{Bool, true, cond, _&&_}
 use mathlib.Core.List.{List}
 use Prim.Native.Nat.{ℕ, zero, suc, _+_, _*_, _/_, _%_}
 use lib.ListN.{length}

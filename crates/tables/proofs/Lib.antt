@@ -4,6 +4,7 @@ pub mod Chain
 pub mod Items
 pub mod Rows
 pub mod Steps
+pub mod Undo
 pub mod Sets
 pub mod Maps
 pub mod Sections

@@ -61,11 +61,11 @@ same-one x q = rw (key-one x, key-one q) (go (eqb (x .a) (q .a)))
     go false = refl
 
 -- ---- words of any width
-sets-low : (vs t : List ℕ) (k j : ℕ) → j < k → getD (sets t k vs) j 0 ≡ getD t j 0
+pub sets-low : (vs t : List ℕ) (k j : ℕ) → j < k → getD (sets t k vs) j 0 ≡ getD t j 0
 sets-low [] t k j h = refl
 sets-low (v ∷ vs) t k j h = sets-low vs (set t k v) (suc k) j (omega arith) ∙ getD-set-other t k j v 0 (omega arith)
 
-sets-high : (vs t : List ℕ) (k j : ℕ) → k + length vs ≤ j → getD (sets t k vs) j 0 ≡ getD t j 0
+pub sets-high : (vs t : List ℕ) (k j : ℕ) → k + length vs ≤ j → getD (sets t k vs) j 0 ≡ getD t j 0
 sets-high [] t k j h = refl
 sets-high (v ∷ vs) t k j h = sets-high vs (set t k v) (suc k) j (omega arith) ∙ getD-set-other t k j v 0 (omega arith)
 
