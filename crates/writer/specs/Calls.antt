@@ -1,22 +1,20 @@
 -- The public calls of the converter, for every input: document 01 "Converter" and "Who causes which number". A tree, a symbol and a beginning; each gives its number, the record, and every lent
 -- slice as it leaves it.
-use mathlib.Core.Bool.{Bool, true, false, cond, not, _&&_}
+use mathlib.Core.Bool.{Bool, true, false, cond, _&&_}
 use mathlib.Core.Option.{Option, none, some}
-use mathlib.Core.List.{List, [], _∷_, map}
+use mathlib.Core.List.{List, [], map}
 use Prim.Native.Nat.{ℕ}
-use lib.Dec.{eqb, ltb}
+use lib.Dec.{eqb}
 use lib.ListN.{length, replicate}
-use Rattle.model.specs.Rows.{Text, FunctionRow, LineRow, SymbolRow}
-use Rattle.model.specs.Machine.{Machine, put-end, convertM, startM, convert-symbolM}
-use Rattle.raw.specs.declared.SourceLocation.{SourceLocation}
+use Rattle.model.specs.Rows.{MAX, Text, SymbolRow}
+use Rattle.model.specs.Machine.{convertM, startM, unless-held, put-end, convert-symbolM}
 use Rattle.model.specs.Converter.{Setup, input, deep}
-use Rattle.rows.specs.Columns.{Columns, treeRows, textOf, optionalOf}
+use Rattle.rows.specs.Columns.{Columns, treeRows, optionalOf}
 use Rattle.rows.specs.Refusals.{refusalOf, optional?}
 use Rattle.rows.specs.declared.OptionalPart.{OptionalPart}
-use Rattle.steps.specs.Words.{Memory, Words, fits?, over-words}
+use Rattle.steps.specs.Words.{Memory, Words, fits?, location, add-function, put-range, over-words}
 use Rattle.steps.specs.declared.State.{State}
-use Rattle.steps.specs.declared.LastAddr.{LastAddr}
-use Rattle.steps.specs.declared.LastAddr.the-variants.{Unset, Set}
+use Rattle.steps.specs.declared.LastAddr.the-variants.{Unset}
 use Rattle.steps.specs.declared.Converter.{Converter}
 
 -- ── What a call leaves ─────────────────────────────────────────────────────────────────────────────────────────────────
@@ -40,8 +38,8 @@ abbrev pub zeroed : Memory → Memory
 zeroed m = record { text = zeros (m .text); strings = zeros (m .strings); files = zeros (m .files); functions = zeros (m .functions); calls = zeros (m .calls); ranges = zeros (m .ranges) }
 
 -- nothing in use
-abbrev pub empty : State
-empty = record { «string_bytes» = 0; strings = 0; files = 0; functions = 0; «call_locations» = 0; ranges = 0; «last_addr» = Unset }
+abbrev pub unused : State
+unused = record { «string_bytes» = 0; strings = 0; files = 0; functions = 0; «call_locations» = 0; ranges = 0; «last_addr» = Unset }
 
 abbrev pub with-state : Converter → Bool → State → Converter
 with-state c o s = record {
@@ -49,7 +47,7 @@ with-state c o s = record {
   arch = c .arch;
   «undecorate_functions» = c .«undecorate_functions»;
   «undecorate_symbols» = c .«undecorate_symbols»;
-  open = o;
+  «open» = o;
   state = s;
 }
 
@@ -61,26 +59,19 @@ words-of c m = record { st = c .state; mm = m }
 
 -- 19: "converter closed, or one of its counts above the table's capacity"
 unfoldable pub usable? : Converter → Memory → Bool
-usable? c m = c .open && fits? (words-of c m)
+usable? c m = c .«open» && fits? (words-of c m)
 
 -- "17 fills all tables and scratch with zeros and closes the converter until begun anew"; else the call is accepted, and "Scratch is zero after every accepted tree"
 unfoldable pub finished : Converter → List ℕ → Words → Called
 finished c s w =
-    cond (fits? w) (called 0 (with-state c true (w .st)) (w .mm) (zeros s)) (called 17 (with-state c false empty) (zeroed (w .mm)) (zeros s))
+    cond (fits? w) (called 0 (with-state c true (w .st)) (w .mm) (zeros s)) (called 17 (with-state c false unused) (zeroed (w .mm)) (zeros s))
 
 -- ── Beginning ──────────────────────────────────────────────────────────────────────────────────────────────────────────
 
 -- "Beginning takes the debug id, the arch number and the two switches, and zeroes the lent tables"
-pub record Begun : Type 0 where
-  pub converter : Converter
-  pub memory : Memory
-
-abbrev pub begun : Converter → Memory → Begun
-begun c m = record { converter = c; memory = m }
-
-unfoldable pub beginOf : List ℕ → ℕ → Bool → Bool → Memory → Begun
+unfoldable pub beginOf : List ℕ → ℕ → Bool → Bool → Memory → Converter × Memory
 beginOf id arch f s m =
-    begun (record { «debug_id» = id; arch = arch; «undecorate_functions» = f; «undecorate_symbols» = s; open = true; state = empty }) (zeroed m)
+    (record { «debug_id» = id; arch = arch; «undecorate_functions» = f; «undecorate_symbols» = s; «open» = true; state = unused }, zeroed m)
 
 -- ── A tree ─────────────────────────────────────────────────────────────────────────────────────────────────────────────
 
@@ -101,14 +92,25 @@ treeOf c m s k =
 abbrev pub symbolRow : List ℕ → ℕ → ℕ → OptionalPart → SymbolRow
 symbolRow t address size name = record { address = address; size = size; name = optionalOf t name }
 
--- the empty mapping at an end, if there is one
-unfoldable pub end-put : Machine FunctionRow LineRow SymbolRow ℕ ℕ SourceLocation ℕ Words → Option ℕ → Words → Words
-end-put M none w = w
-end-put M (some e) w = put-end input M e w
-
 -- "Symbols: 19, 14, 17"; "a symbol call lends no scratch"
 unfoldable pub symbolOf : Converter → Memory → List ℕ → ℕ → ℕ → OptionalPart → Called
 symbolOf c m t address size name =
     cond (usable? c m)
     (cond (optional? t name) (finished c [] (convert-symbolM input (over-words (setup c)) (symbolRow t address size name) (words-of c m))) (called 14 c m []))
     (called 19 c m [])
+
+-- its two steps on the ranges (private contracts cite them): the function and the location at its start, where that is vacant or holds the empty mapping
+abbrev pub symbol-put : Setup → ℕ → ℕ → Words → Words
+symbol-put X name address s =
+    let f = add-function name address MAX s in
+    unless-held input (over-words X) address (put-range address (location MAX 0 (f .0) MAX) (f .1)) s
+
+-- and the empty mapping at its end, if it has one
+abbrev pub end-put : Setup → Option ℕ → Words → Words
+end-put X end s = elim end [ none ↦ s | some e ↦ put-end input (over-words X) e s ]
+
+abbrev pub switches : Bool → Bool → Setup
+switches f s = record { functions-on = f; symbols-on = s }
+
+abbrev pub namedRow : ℕ → ℕ → Text → SymbolRow
+namedRow address size name = record { address = address; size = size; name = some name }
