@@ -3,7 +3,7 @@ use mathlib.Core.Path.{_≡_, sym, _∙_, ap}
 use mathlib.Core.Bool.{Bool, true, false}
 use mathlib.Core.List.{List, []}
 use Prim.Native.Nat.{ℕ}
-use lib.ListN.{length}
+use lib.ListN.{length, replicate}
 use borrow.Author.Tests.{eq-eqb, ne-eqb}
 use Rattle.model.specs.Machine.{convert-symbolM}
 use Rattle.model.specs.Converter.{input}
@@ -53,9 +53,13 @@ module _ (c : Converter) (m : Memory) (t : List ℕ) (address size : ℕ) (o : O
 -- ── A tree ─────────────────────────────────────────────────────────────────────────────────────────────────────────────
 
 module _ (c : Converter) (m : Memory) (s : List ℕ) (k : Columns) {b : Bool} (e : b ≡ usable? c m) where
-  pub tree-taken : b ≡ true → {r : ℕ} → r ≡ refusalOf k (length s) → r ≡ 0 → {w : Words} {l : Called} → w ≡ rows-converted c m k → l ≡ finished c s w → l ≡ treeOf c m s k
+  -- scratch, whatever the rows left in it, is zeroed
+  pub tree-taken : b ≡ true → {r : ℕ} → r ≡ refusalOf k (length s) → r ≡ 0 → {w : Words} → w ≡ rows-converted c m k → (s₁ : List ℕ) → length s₁ ≡ length s → {s₂ : List ℕ} → s₂ ≡ zeros s₁
+      → {n : ℕ} {c₂ : Converter} {m₂ : Memory} → called n c₂ m₂ (zeros s) ≡ finished c s w → called n c₂ m₂ s₂ ≡ treeOf c m s k
   unfolding treeOf
-  tree-taken h f g d j = rw (← e, h, eq-eqb (refusalOf k (length s)) 0 (sym f ∙ g)) (j ∙ ap (λ (v : Words). finished c s v) d)
+  tree-taken h f g d s₁ l z {n} {c₂} {m₂} j =
+      rw (← e, h, eq-eqb (refusalOf k (length s)) 0 (sym f ∙ g))
+      (ap (λ (x : List ℕ). called n c₂ m₂ x) (z ∙ ap (λ (i : ℕ). replicate i 0) l) ∙ j ∙ ap (λ (v : Words). finished c s v) d)
 
   pub tree-refused : b ≡ true → {r : ℕ} → r ≡ refusalOf k (length s) → (r ≡ 0 → ⊥) → called r c m s ≡ treeOf c m s k
   unfolding treeOf
