@@ -206,7 +206,7 @@ chain-within s off = tt
 chain-within s (top {i = i} h) = (at-length (s .functions) i (h .row) (h .stands), file-within s (h .file-is), tt)
 chain-within s (deeper {i = i} {j = j} {l = k} h a c) = (at-length (s .functions) i (h .row) (h .stands), file-within s (h .file-is), at-length (s .calls) j k a)
 
-reads-within : (ts : List Text) {r : Option ℕ} {v : Option Text} → Reads ts r v → Within r (length ts)
+pub reads-within : (ts : List Text) {r : Option ℕ} {v : Option Text} → Reads ts r v → Within r (length ts)
 reads-within ts absent = tt
 reads-within ts (present {i = i} {t = t} h) = at-length ts i t h
 

@@ -63,19 +63,19 @@ opt-whole : (o : Option ℕ) → opt-eq o o ≡ true
 opt-whole none = refl
 opt-whole (some i) = eqb-whole i
 
-text-whole : (t : Text) → text-eq t t ≡ true
+pub text-whole : (t : Text) → text-eq t t ≡ true
 text-whole [] = refl
 text-whole (a ∷ t) = both-of (eqb a a) (text-eq t t) (eqb-whole a) (text-whole t)
 
-file-whole : (x : File) → file-eq x x ≡ true
+pub file-whole : (x : File) → file-eq x x ≡ true
 file-whole x =
     both-of _ _ (both-of _ _ (both-of _ _ (both-of _ _ (both-of _ _ (opt-whole (x .name)) (opt-whole (x .directory))) (opt-whole (x .comp-dir))) (opt-whole (x .srcsrv-name))) (opt-whole (x .srcsrv-dir)))
     (opt-whole (x .revision))
 
-function-whole : (x : Function) → function-eq x x ≡ true
+pub function-whole : (x : Function) → function-eq x x ≡ true
 function-whole x = both-of _ _ (both-of _ _ (opt-whole (x .name)) (eqb-whole (x .entry))) (eqb-whole (x .language))
 
-location-whole : (l : Location) → location-eq l l ≡ true
+pub location-whole : (l : Location) → location-eq l l ≡ true
 location-whole nowhere = refl
 location-whole (at f n i c) = both-of _ _ (both-of _ _ (both-of _ _ (opt-whole f) (eqb-whole n)) (eqb-whole i)) (opt-whole c)
 

@@ -1,3 +1,4 @@
 pub mod Fill
 pub mod SymbolLaws
 pub mod CallLaws
+pub mod ScratchLaws

@@ -1,0 +1,7 @@
+pub mod Pairs
+pub mod Walks
+pub mod Lines
+pub mod Rows
+pub mod Tree
+pub mod Visits
+pub mod Gathered

@@ -1,0 +1,107 @@
+-- Scratch memory of a tree call, in words. The public contracts say only that it is zero at the end; the functions in between go by these.
+use mathlib.Core.Path.{_≡_}
+use mathlib.Core.Bool.{Bool, true, false, cond}
+use mathlib.Core.Logic.{_⊎_}
+use mathlib.Core.List.{List, [], _∷_, map}
+use Prim.Native.Nat.{ℕ, zero, suc, _+_, _*_, _-_, _/_, _%_, _≤_, _<_}
+use lib.Dec.{ltb, leb, eqb}
+use lib.ListN.{length, getD, set, take}
+use lib.Seq.{sets}
+use Rattle.model.specs.Basics.{Span}
+use Rattle.model.specs.Rows.{MAX, boundaries}
+use Rattle.model.specs.Machine.{Machine, Ref, LoopedM, kid-spansM}
+use Rattle.model.specs.Converter.{input, deep}
+use Rattle.rows.specs.Columns.{Columns, functionRows, functionRow, linesFrom, rowsFrom}
+use Rattle.rows.specs.Refusals.{total}
+
+-- ── Pairs ──────────────────────────────────────────────────────────────────────────────────────────────────────────────
+
+-- n pairs of words, from word `at` on: spans, or call locations
+unfoldable pub pairsAt : List ℕ → ℕ → ℕ → List Span
+pairsAt s at zero = []
+pairsAt s at (suc n) = record { from = getD s at 0; to = getD s (at + 1) 0 } ∷ pairsAt s (at + 2) n
+
+abbrev pub ref-of : Span → Ref ℕ
+ref-of p = record { addr = p .from; ref = p .to }
+
+abbrev pub refsAt : List ℕ → ℕ → ℕ → List (Ref ℕ)
+refsAt s at n = map ref-of (pairsAt s at n)
+
+-- ── The call locations of each depth ───────────────────────────────────────────────────────────────────────────────────
+
+abbrev pub two32 : ℕ
+two32 = 4294967296
+
+-- those of depth d + 1: the pair at which they begin, and how many there are
+abbrev pub startAt : List ℕ → ℕ → ℕ
+startAt s d = getD s (d * 4) 0 + getD s (d * 4 + 1) 0 * two32
+
+abbrev pub lenAt : List ℕ → ℕ → ℕ
+lenAt s d = getD s (d * 4 + 2) 0 + getD s (d * 4 + 3) 0 * two32
+
+unfoldable pub setCalls : List ℕ → ℕ → ℕ → ℕ → List ℕ
+setCalls s d start len = sets s (d * 4) (start % two32 ∷ start / two32 ∷ len % two32 ∷ len / two32 ∷ [])
+
+-- the call locations for the rows at depth d, and the pair after the last of them; those of depth 0 are no pairs but a value
+unfoldable pub callsOf : List ℕ → ℕ → ℕ → List (Ref ℕ)
+callsOf s base zero = record { addr = 0; ref = MAX } ∷ []
+callsOf s base (suc d) = refsAt s (base + startAt s d * 2) (lenAt s d)
+
+unfoldable pub topOf : List ℕ → ℕ → ℕ
+topOf s zero = 0
+topOf s (suc d) = startAt s d + lenAt s d
+
+-- ── A turn of the walk over one line ───────────────────────────────────────────────────────────────────────────────────
+
+pub record Turned (S : Type 0) : Type 0 where
+  pub state : S
+  pub scratch : List ℕ
+  pub taken : ℕ
+  pub address : ℕ
+  pub done : Bool
+
+abbrev pub turned : {S : Type 0} → S → List ℕ → ℕ → ℕ → Bool → Turned S
+turned w s t a d = record { state = w; scratch = s; taken = t; address = a; done = d }
+
+module _ {Q N Y R P L S : Type 0} (M : Machine Q N Y R P L ℕ S) where
+  -- with the next inlinee range at hand, (from, to), and the state after the line's own range: past the line, or one more call location in the range's place
+  unfoldable pub taking : L → ℕ → ℕ → ℕ → ℕ → ℕ → List ℕ → S → Turned S
+  taking l e at t from to s w =
+      cond (leb e from) (turned w s t e true)
+      (turned (M .enter l w .1) (set s (at + t * 2 + 1) (M .enter l w .0)) (t + 1) to false)
+
+  -- the walk stands at `a` in a line that ends at `e`, whose location is l; `t` of the n inlinee ranges from word `at` on are taken
+  unfoldable pub turn : L → ℕ → ℕ → ℕ → ℕ → ℕ → List ℕ → S → Turned S
+  turn l e at n t a s w =
+      cond (leb e a) (turned w s t a true)
+      (cond (leb n t) (turned (M .put a l w) s t e true)
+      (taking l e at t (getD s (at + t * 2) 0) (getD s (at + t * 2 + 1) 0) s (cond (ltb a (getD s (at + t * 2) 0)) (M .put a l w) w)))
+
+-- what the loop over the lines of a row leaves: the state, the call locations in place of the inlinee ranges taken, and nothing changed below them
+pub record Lined {S : Type 0} (at n : ℕ) (o : LoopedM ℕ S) (s s′ : List ℕ) (w : S) (m : ℕ) : Type 0 where
+  pub state : w ≡ o .state
+  pub calls : refsAt s′ at m ≡ o .calls
+  pub few : m ≤ n
+  pub kept : take at s′ ≡ take at s
+
+-- ── A row ──────────────────────────────────────────────────────────────────────────────────────────────────────────────
+
+-- the boundaries of n line rows, from row j on
+abbrev pub line-spans : Columns → ℕ → ℕ → List Span
+line-spans k j n = map boundaries (linesFrom k j n)
+
+-- the inlinee ranges of a function at depth d: those of the rows from i on, whose line rows begin at j
+abbrev pub kid-spans : Columns → ℕ → ℕ → ℕ → List Span
+kid-spans k d i j = kid-spansM input d (map deep (rowsFrom k i (functionRows k - i) j))
+
+-- the line rows of each function row lie within the line rows (13 leaves no other rows)
+abbrev pub LinesWithin : List ℕ → List ℕ → List ℕ → Type 0
+LinesWithin f64 f32 l64 = (r : ℕ) → r < length f64 / 2 → total (λ (i : ℕ). functionRow f64 f32 i .lines) r + functionRow f64 f32 r .lines ≤ length l64 / 3
+
+-- what a row at depth d leaves, where the call locations up to its own depth end at pair `top`: the state, the call locations of the next depth from there on, and no other word changed below
+pub record RowDone {S : Type 0} (base d top n : ℕ) (o : LoopedM ℕ S) (s s′ : List ℕ) (w : S) : Type 0 where
+  pub state : w ≡ o .state
+  pub calls : callsOf s′ base (suc d) ≡ o .calls
+  pub start : startAt s′ d ≡ top
+  pub few : lenAt s′ d ≤ n
+  pub kept : (j : ℕ) → j < base + top * 2 → (j < d * 4) ⊎ (d * 4 + 4 ≤ j) → getD s′ j 0 ≡ getD s j 0

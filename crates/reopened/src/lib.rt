@@ -1,0 +1,1 @@
+// No functions: demand 3 over words and bytes.

@@ -1,0 +1,104 @@
+-- What `serialize` answers: 19, 18, or the file.
+use Prim.Native.Nat.{ℕ, _+_, _<_, _≤_}
+use mathlib.Core.Bool.{Bool, true, false, cond, not, _&&_}
+use mathlib.Core.Path.{_≡_, refl, ap, sym, _∙_}
+use mathlib.Core.List.{List, _++_}
+use native.Mathlib.Nat.{zero-add, le-trans}
+use native.Mathlib.Omega.{arith}
+use lib.Dec.{leb}
+use lib.ListN.{length, drop}
+use lib.Seq.{sets, sets-eq}
+use borrow.Author.Tests.{not-true, not-false, leb-true, le-leb, lt-leb}
+use Rattle.model.proofs.Chains.{both-true}
+use Rattle.tables.specs.Table.{capacityOf}
+use Rattle.tables.specs.Strings.{textCapacityOf}
+use Rattle.tables.proofs.Room.{cap-most, text-room}
+use Rattle.steps.specs.Words.{Memory, fits?}
+use Rattle.steps.specs.declared.LastAddr.{LastAddr}
+use Rattle.steps.specs.declared.LastAddr.the-variants.{Unset, Set}
+use Rattle.steps.specs.declared.Converter.{Converter}
+use Rattle.serialize.specs.Sections.{vacant-end, sentinel}
+use Rattle.serialize.specs.File.{written-file, layout-of, Ready, Wrote, wrote, serializeOf}
+use Rattle.serialize.specs.declared.Layout.{Layout}
+use Rattle.serialize.proofs.Whole.{length-ranges, laid, written-length}
+
+-- what 19's condition leaves
+pub record Counts (c : Converter) (m : Memory) : Type 0 where
+  pub texts : c .state .«string_bytes» ≤ length (m .text)
+  pub calls : c .state .«call_locations» ≤ 16777216
+  pub ranges : c .state .ranges ≤ 16777216
+
+pub counts : (c : Converter) (m : Memory) (b : Bool) → b ≡ fits? (record { st = c .state; mm = m }) → not b ≡ false → Counts c m
+unfolding fits?
+counts c m b e h =
+    let st = c .state in
+    let x = leb (st .«string_bytes») (textCapacityOf (length (m .text))) in
+    let i = leb (st .strings) (capacityOf (length (m .strings))) in
+    let f = leb (st .files) (capacityOf (length (m .files))) in
+    let g = leb (st .functions) (capacityOf (length (m .functions))) in
+    let k = leb (st .«call_locations») (capacityOf (length (m .calls))) in
+    let r = leb (st .ranges) (capacityOf (length (m .ranges))) in
+    let p₁ : (x ≡ true) × ((i && (f && (g && (k && r)))) ≡ true) = both-true x (i && (f && (g && (k && r)))) (sym e ∙ not-false b h) in
+    let p₂ : (i ≡ true) × ((f && (g && (k && r))) ≡ true) = both-true i (f && (g && (k && r))) (p₁ .1) in
+    let p₃ : (f ≡ true) × ((g && (k && r)) ≡ true) = both-true f (g && (k && r)) (p₂ .1) in
+    let p₄ : (g ≡ true) × ((k && r) ≡ true) = both-true g (k && r) (p₃ .1) in
+    let p₅ : (k ≡ true) × (r ≡ true) = both-true k r (p₄ .1) in
+    record {
+      texts = le-trans (leb-true (st .«string_bytes») (textCapacityOf (length (m .text))) (p₁ .0)) (text-room (length (m .text)) .fits);
+      calls = le-trans (leb-true (st .«call_locations») (capacityOf (length (m .calls))) (p₅ .0)) (cap-most (length (m .calls)));
+      ranges = le-trans (leb-true (st .ranges) (capacityOf (length (m .ranges))) (p₅ .1)) (cap-most (length (m .ranges)));
+    }
+
+sentinel-few : (end : LastAddr) (n : ℕ) → length (sentinel end n) ≤ 1
+sentinel-few Unset n = omega arith
+sentinel-few (Set a) n = omega arith
+
+-- the definition, over the tests and the file
+abbrev answer : Bool → Bool → List ℕ → List ℕ → Wrote
+answer opened fits file s =
+    cond (opened && fits) (cond (leb (length file) (length s)) (wrote 0 (length file) (file ++ drop (length file) s)) (wrote 18 0 s)) (wrote 19 0 s)
+
+module _ (o b : Bool) (file s : List ℕ) where
+  closed-answer : o ≡ false → wrote 19 0 s ≡ answer o b file s
+  closed-answer h = rw h
+
+  over-answer : o ≡ true → b ≡ false → wrote 19 0 s ≡ answer o b file s
+  over-answer h f = rw (h, f)
+
+  short-answer : o ≡ true → b ≡ true → length s < length file → wrote 18 0 s ≡ answer o b file s
+  short-answer h f k = rw (h, f, lt-leb (length file) (length s) k)
+
+  done-answer : o ≡ true → b ≡ true → length file ≤ length s → (r : List ℕ) → r ≡ sets s 0 file → wrote 0 (length file) r ≡ answer o b file s
+  done-answer h f k r e = rw (h, f, le-leb (length file) (length s) k, e, sets-eq file s 0 (omega arith), zero-add)
+
+module _ (c : Converter) (m : Memory) (s : List ℕ) where
+  is-answer : serializeOf c m s ≡ answer (c .open) (fits? (record { st = c .state; mm = m })) (written-file c m) s
+  unfolding serializeOf
+  is-answer = refl
+
+  pub closed : not (c .open) ≡ true → wrote 19 0 s ≡ serializeOf c m s
+  closed h = closed-answer (c .open) (fits? (record { st = c .state; mm = m })) (written-file c m) s (not-true (c .open) h) ∙ sym is-answer
+
+  pub over : not (c .open) ≡ false → (b : Bool) → b ≡ fits? (record { st = c .state; mm = m }) → not b ≡ true → wrote 19 0 s ≡ serializeOf c m s
+  over h b e f = over-answer (c .open) (fits? (record { st = c .state; mm = m })) (written-file c m) s (not-false (c .open) h) (sym e ∙ not-true b f) ∙ sym is-answer
+
+module _ (c : Converter) (m : Memory) (s : List ℕ) (id : length (c .«debug_id») ≡ 32) (opened : not (c .open) ≡ false) (b : Bool) (e-fits : b ≡ fits? (record { st = c .state; mm = m })) (fits : not b ≡ false)
+    (end : LastAddr) (e-end : end ≡ vacant-end (c .state .«last_addr») (m .ranges) (c .state .ranges)) (n : ℕ) (e-n : n ≡ c .state .ranges + length (sentinel end (c .state .ranges)))
+    (at : Layout) (e-at : at ≡ layout-of (c .state) n) where
+  len : length (written-file c m) ≡ at .len
+  len = written-length c m id n (length-ranges c m ∙ sym (rw e-end at e-n)) at (laid (c .state) n at e-at) (counts c m b e-fits fits .texts)
+
+  pub short : length s < at .len → wrote 18 0 s ≡ serializeOf c m s
+  short h = short-answer (c .open) (fits? (record { st = c .state; mm = m })) (written-file c m) s (not-false (c .open) opened) (sym e-fits ∙ not-false b fits) (rw len h) ∙ sym (is-answer c m s)
+
+  pub ready : at .len ≤ length s → Ready c (m .ranges) end n (length (m .text)) (length s)
+  ready h =
+      let k = counts c m b e-fits fits in
+      let few : length (sentinel end (c .state .ranges)) ≤ 1 = sentinel-few end (c .state .ranges) in
+      record { last = e-end; size = e-n; calls = omega arith; texts-there = k .texts; room = rw e-at at h }
+
+  pub done : at .len ≤ length s → (r : List ℕ) → r ≡ sets s 0 (written-file c m) → wrote 0 (at .len) r ≡ serializeOf c m s
+  done h r e =
+      ap (λ (l : ℕ). wrote 0 l r) (sym len)
+      ∙ done-answer (c .open) (fits? (record { st = c .state; mm = m })) (written-file c m) s (not-false (c .open) opened) (sym e-fits ∙ not-false b fits) (rw len h) r e
+      ∙ sym (is-answer c m s)

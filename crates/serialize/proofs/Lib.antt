@@ -1,0 +1,6 @@
+pub mod Runs
+pub mod Rows
+pub mod Ranges
+pub mod Sorted
+pub mod Whole
+pub mod Answers

@@ -1,0 +1,22 @@
+-- `entry_location` meets its contract.
+use mathlib.Core.Path.{_∙_, ap, sym}
+use borrow.Author.Needs.{needs}
+use borrow.Author.Tests.{lt-ltb, le-ltb}
+use Rattle.tables.specs.Ranges.{locationOf}
+use Rattle.serialize.specs.Sections.{entry-location}
+use Rattle.serialize.proofs.entry_location.Statement.{statement}
+use Rattle.serialize.proofs.entry_location.Tie as tie
+
+row-at-requires : tie.Need-row-at-requires
+row-at-requires c κs = search needs
+
+returns : tie.Need-returns
+unfolding entry-location
+returns c = let a = c .before .before .before .args in rw (lt-ltb (a .row) (a .count) (c .before .if1 .taken)) (ap locationOf (c .row-at .ensures))
+
+returns-2 : tie.Need-returns-2
+unfolding entry-location
+returns-2 c = let a = c .before .before .args in rw (le-ltb (a .row) (a .count) (c .if1 .left))
+
+pub entry-location-spec : {M : Type 1} → statement M
+entry-location-spec = tie.close (tie.spec row-at-requires returns returns-2)

@@ -1,0 +1,29 @@
+-- `write_entry` meets its contract: two numbers, one behind the other.
+use Prim.Native.Nat.{_+_}
+use mathlib.Core.Path.{refl}
+use borrow.Author.Needs.{needs}
+use Rattle.serialize.proofs.Rows.{entry-stored}
+use Rattle.serialize.proofs.write_entry.Statement.{statement}
+use Rattle.serialize.proofs.write_entry.Tie as tie
+
+write-range-requires : tie.Need-write-range-requires
+write-range-requires c κs = search needs
+
+add-write-range : tie.Need-add-write-range
+add-write-range c = search needs
+
+write-range-requires-2 : tie.Need-write-range-requires-2
+write-range-requires-2 c κs = search needs
+
+same-length : tie.Need-same-length
+same-length c = search needs
+
+returns : tie.Need-returns
+returns c =
+    let a = c .before .before .before .before .before .before .before .before .before .args in
+    entry-stored (a .out .now) _ _ (a .at) (a .start) (a .row) (c .before .before .before .before .before .before .write-range .ensures) (c .before .before .write-range2 .ensures)
+
+pub write-entry-spec : {M : Type 1} → statement M
+write-entry-spec =
+    tie.close
+    (tie.spec write-range-requires add-write-range write-range-requires-2 same-length returns)

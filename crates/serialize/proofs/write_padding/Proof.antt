@@ -1,0 +1,25 @@
+-- `write_padding` meets its contract: behind an odd number of starts four zeros, else none.
+use mathlib.Core.Path.{_≡_, _∙_}
+use Prim.Native.Nat.{_%_}
+use native.Mathlib.Omega.{arith}
+use borrow.Author.Needs.{needs}
+use Rattle.serialize.proofs.Rows.{padding-odd, padding-even}
+use Rattle.serialize.proofs.write_padding.Statement.{statement}
+use Rattle.serialize.proofs.write_padding.Tie as tie
+
+write-range-requires : tie.Need-write-range-requires
+write-range-requires c κs = search needs
+
+same-length : tie.Need-same-length
+same-length c = search needs
+
+returns : tie.Need-returns
+returns c =
+    let a = c .before .before .before .before .before .before .args in
+    c .before .before .write-range .ensures ∙ rw (padding-odd (a .all) (c .before .before .before .before .if1 .taken))
+
+returns-2 : tie.Need-returns-2
+returns-2 c = let a = c .before .before .args in rw (padding-even (a .all) (omega arith))
+
+pub write-padding-spec : {M : Type 1} → statement M
+write-padding-spec = tie.close (tie.spec write-range-requires same-length returns returns-2)

@@ -1,0 +1,95 @@
+-- The written file, and what writing answers: document 01 "Writer" and "Who causes which number"; writer.rs, `serialize`. For any record and any content of the tables.
+use Prim.Native.Nat.{ℕ, _+_, _*_, _%_, _<_, _≤_}
+use mathlib.Core.Bool.{cond, _&&_}
+use mathlib.Core.Path.{_≡_}
+use mathlib.Core.List.{List, _++_}
+use lib.Dec.{leb}
+use lib.ListN.{length, take, drop, replicate}
+use Rattle.model.specs.Basics.{Span}
+use Rattle.raw.specs.Bytes.{tableBytes}
+use Rattle.raw.specs.Rows.{versionInfoBytes, headerBytes}
+use Rattle.raw.specs.declared.VersionInfo.{VersionInfo}
+use Rattle.raw.specs.declared.Header.{Header}
+use Rattle.tables.specs.Plain.{rowsOf}
+use Rattle.steps.specs.Words.{Memory, fits?}
+use Rattle.steps.specs.declared.LastAddr.{LastAddr}
+use Rattle.steps.specs.declared.State.{State}
+use Rattle.steps.specs.declared.Converter.{Converter}
+use Rattle.serialize.specs.Sections.{file-row, function-row, call-row, vacant-end, sentinel, in-order, location-row, start-row, padding}
+use Rattle.serialize.specs.declared.Layout.{Layout}
+
+-- the six lent tables
+abbrev pub memory : List ℕ → List ℕ → List ℕ → List ℕ → List ℕ → List ℕ → Memory
+memory x i f g c r = record { text = x; strings = i; files = f; functions = g; calls = c; ranges = r }
+
+-- the ranges of the file, ascending, the sentinel with them
+abbrev pub ranges-of : Converter → Memory → List Span
+ranges-of c m = in-order (c .state .«last_addr») (m .ranges) (c .state .ranges)
+
+-- magic and version; the header of a file with n ranges
+abbrev pub version-info : VersionInfo
+version-info = record { magic = 0x434d_5953; version = 9 }
+
+abbrev pub header-of : Converter → ℕ → Header
+header-of c n = record {
+  «debug_id» = c .«debug_id»;
+  arch = c .arch;
+  «num_files» = c .state .files;
+  «num_functions» = c .state .functions;
+  «num_source_locations» = c .state .«call_locations» + n;
+  «num_ranges» = n;
+  «string_bytes» = c .state .«string_bytes»;
+  «variable_header» = 0;
+  reserved = replicate 14 0;
+}
+
+-- "bytes 53 59 4D 43, version 9, header, then files, functions, call locations followed by range locations, range starts, texts, each on a multiple of 8.
+-- Nothing follows the texts." Only the range starts can end off a multiple of 8
+unfoldable pub written-file : Converter → Memory → List ℕ
+written-file c m =
+    let ps = ranges-of c m in
+    versionInfoBytes version-info
+    ++ (headerBytes (header-of c (length ps))
+    ++ (tableBytes file-row (rowsOf (m .files) (c .state .files))
+    ++ (tableBytes function-row (rowsOf (m .functions) (c .state .functions))
+    ++ (tableBytes call-row (rowsOf (m .calls) (c .state .«call_locations»))
+    ++ (tableBytes (location-row (m .ranges) (c .state .ranges)) ps
+    ++ (tableBytes start-row ps ++ (padding (length ps * 4) ++ take (c .state .«string_bytes») (m .text))))))))
+
+-- where the sections begin in a file with n ranges, and its length; the files begin at 80
+unfoldable pub layout-of : State → ℕ → Layout
+layout-of st n =
+    let functions = 80 + st .files * 24 in
+    let calls = functions + st .functions * 16 in
+    let locations = calls + st .«call_locations» * 16 in
+    let starts = locations + n * 16 in
+    let texts = starts + n * 4 + n % 2 * 4 in
+    record { functions = functions; «call_locations» = calls; locations = locations; padding = starts + n * 4; texts = texts; len = texts + st .«string_bytes» }
+
+-- ── The call ───────────────────────────────────────────────────────────────────────────────────────────────────────────
+
+-- the number, the file's length and the output
+pub record Wrote : Type 0 where
+  pub code : ℕ
+  pub len : ℕ
+  pub output : List ℕ
+
+abbrev pub wrote : ℕ → ℕ → List ℕ → Wrote
+wrote n l o = record { code = n; len = l; output = o }
+
+-- "Writing: 19, 18"; "Output beyond the written file keeps its content". A refusal answers length 0
+unfoldable pub serializeOf : Converter → Memory → List ℕ → Wrote
+serializeOf c m out =
+    cond (c .open && fits? (record { st = c .state; mm = m }))
+    (cond (leb (length (written-file c m)) (length out)) (wrote 0 (length (written-file c m)) (written-file c m ++ drop (length (written-file c m)) out)) (wrote 18 0 out))
+    (wrote 19 0 out)
+
+-- ── What a private function's contract cites ───────────────────────────────────────────────────────────────────────────
+
+-- what is known before the sections are written: the sentinel, the number of ranges with it, and that texts and output are long enough
+pub record Ready (c : Converter) (ranges : List ℕ) (end : LastAddr) (n texts out : ℕ) : Type 0 where
+  pub last : end ≡ vacant-end (c .state .«last_addr») ranges (c .state .ranges)
+  pub size : n ≡ c .state .ranges + length (sentinel end (c .state .ranges))
+  pub calls : c .state .«call_locations» + n < 4294967296
+  pub texts-there : c .state .«string_bytes» ≤ texts
+  pub room : layout-of (c .state) n .len ≤ out

@@ -1,0 +1,94 @@
+-- The sections of the written file: rows of the lent tables as rows of the file. Document 01 "Rows" and "Writer"; writer.rs, `serialize`. For any content of the tables.
+use Prim.Native.Nat.{ℕ, zero, suc, _+_, _*_, _-_, _%_}
+use mathlib.Core.Bool.{cond}
+use mathlib.Core.List.{List, [], _∷_, _++_}
+use lib.Dec.{ltb}
+use lib.ListN.{replicate}
+use Rattle.model.specs.Basics.{Span, sort}
+use Rattle.raw.specs.Bytes.{leAt, words, tableBytes}
+use Rattle.raw.specs.Rows.{fileBytes, functionBytes, locationBytes, rangeBytes, noSourceLocation}
+use Rattle.raw.specs.declared.File.{File}
+use Rattle.raw.specs.declared.Function.{Function}
+use Rattle.raw.specs.declared.SourceLocation.{SourceLocation}
+use Rattle.tables.specs.Table.{rowAt}
+use Rattle.tables.specs.Ranges.{getOf, locationOf}
+use Rattle.tables.specs.Plain.{rowsOf}
+use Rattle.tables.specs.declared.Row.{Row}
+use Rattle.tables.specs.declared.ranges.Found.{Found}
+use Rattle.tables.specs.declared.ranges.Found.the-variants.{Absent, At}
+use Rattle.steps.specs.declared.LastAddr.{LastAddr}
+use Rattle.steps.specs.declared.LastAddr.the-variants.{Unset, Set}
+
+-- ── Files, functions, call locations ───────────────────────────────────────────────────────────────────────────────────
+
+-- the words of a table's row are the fields of the file's row, in struct order
+abbrev pub file-of : Row → File
+file-of r = record { «comp_dir_offset» = r .a; «directory_offset» = r .b; «name_offset» = r .c; «srcsrv_name_offset» = r .d; «srcsrv_dir_offset» = r .e; «srcsrv_revision_offset» = r .f }
+
+abbrev pub function-of : Row → Function
+function-of r = record { «name_offset» = r .a; «comp_dir_offset» = r .b; «entry_pc» = r .c; lang = r .d }
+
+abbrev pub call-of : Row → SourceLocation
+call-of r = record { «file_idx» = r .a; line = r .b; «function_idx» = r .c; «inlined_into_idx» = r .d }
+
+unfoldable pub file-row : Row → List ℕ
+file-row r = fileBytes (file-of r)
+
+unfoldable pub function-row : Row → List ℕ
+function-row r = functionBytes (function-of r)
+
+unfoldable pub call-row : Row → List ℕ
+call-row r = locationBytes (call-of r)
+
+-- ── The ranges, ascending ──────────────────────────────────────────────────────────────────────────────────────────────
+
+-- an entry is a range's start and its row number: those of the rows, the first of which has the number k
+unfoldable pub entries : ℕ → List Row → List Span
+entries k [] = []
+entries k (r ∷ rs) = record { from = r .a; to = k } ∷ entries (suc k) rs
+
+-- "Insert a trailing sentinel source location in case we have a definite end addr": where the last end is vacant among the ranges
+abbrev pub if-vacant : Found → ℕ → LastAddr
+if-vacant Absent a = Set a
+if-vacant (At l) a = Unset
+
+abbrev pub vacant-end : LastAddr → List ℕ → ℕ → LastAddr
+vacant-end Unset t n = Unset
+vacant-end (Set a) t n = if-vacant (getOf t n a) a
+
+-- one entry more, with the count as its number
+abbrev pub sentinel : LastAddr → ℕ → List Span
+sentinel Unset n = []
+sentinel (Set a) n = record { from = a; to = n } ∷ []
+
+-- the ranges' entries by start, then by row number
+unfoldable pub in-order : LastAddr → List ℕ → ℕ → List Span
+in-order last t n = sort (entries 0 (rowsOf t n) ++ sentinel (vacant-end last t n) n)
+
+-- an entry's location, which is the empty mapping for the sentinel, and its start
+unfoldable pub entry-location : List ℕ → ℕ → Span → SourceLocation
+entry-location t n p = cond (ltb (p .to) n) (locationOf (rowAt t (p .to))) noSourceLocation
+
+unfoldable pub location-row : List ℕ → ℕ → Span → List ℕ
+location-row t n p = locationBytes (entry-location t n p)
+
+unfoldable pub start-row : Span → List ℕ
+start-row p = rangeBytes (record { 0 = p .from })
+
+-- the locations, then the starts
+unfoldable pub range-sections : List ℕ → ℕ → List Span → List ℕ
+range-sections t n ps = tableBytes (location-row t n) ps ++ tableBytes start-row ps
+
+-- zeros from n bytes up to a multiple of 8
+unfoldable pub padding : ℕ → List ℕ
+padding n = replicate ((8 - n % 8) % 8) 0
+
+-- ── What private functions' contracts cite ─────────────────────────────────────────────────────────────────────────────
+
+-- an entry as eight bytes, while the entries are sorted; and n entries read from `at` on
+unfoldable pub entry-row : Span → List ℕ
+entry-row p = words (p .from ∷ p .to ∷ [])
+
+unfoldable pub entries-at : ℕ → List ℕ → ℕ → List Span
+entries-at zero s at = []
+entries-at (suc n) s at = record { from = leAt 4 s at; to = leAt 4 s (at + 4) } ∷ entries-at n s (at + 8)

@@ -1,0 +1,7 @@
+pub mod Answers
+pub mod ReaderLaws
+pub mod SearchLaws
+pub mod LookupLaws
+pub mod WalkLaws
+pub mod StringLaws
+pub mod Worked

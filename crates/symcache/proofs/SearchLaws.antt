@@ -1,0 +1,295 @@
+-- The binary search: it does not depend on its bound, and on ascending starts it ends at the greatest start at most the address.
+use Prim.Native.Nat.{ℕ, zero, suc, _+_, _*_, _/_, _-_, _≤_, _<_}
+use mathlib.Core.Path.{_≡_, refl, ap, sym, _∙_}
+use mathlib.Core.List.{List}
+use mathlib.Core.Bool.{Bool, true, false, cond, _&&_}
+use mathlib.Core.Logic.{_⊎_, inl, inr, ⊎-elim}
+use native.Mathlib.Omega.{arith}
+use lib.Dec.{ltb, leb, eqb}
+use lib.ListN.{length}
+use borrow.Author.Tests.{lt-ltb, le-ltb, le-leb, lt-leb, ltb-true, ltb-false, leb-true, leb-false, eq-eqb, ne-eqb, eqb-false}
+use Rattle.raw.specs.Rows.{max32}
+use Rattle.symcache.specs.declared.SymCache.{SymCache}
+use Rattle.symcache.specs.Answers.{gives}
+use Rattle.symcache.specs.Reader.{startAt, ascendingFrom, ascending, opened, Within}
+use Rattle.symcache.proofs.ReaderLaws.{opened-has}
+use Rattle.symcache.specs.Lookup.{searchIn, foundAmong, usable, foundAt}
+
+-- cases
+meets : (i j : ℕ) → i ≤ j → (i ≡ j) ⊎ (i < j)
+meets i j h = go (ltb i j) refl
+  where
+    go : (t : Bool) → ltb i j ≡ t → (i ≡ j) ⊎ (i < j)
+    go true e = inr (ltb-true i j e)
+    go false e = let l = ltb-false i j e in inl (omega arith)
+
+more : (n : ℕ) → (n ≡ 0 → ⊥) → 0 < n
+more zero h = absurd (h refl)
+more (suc n) h = omega arith
+
+zero-or-more : (n : ℕ) → (n ≡ 0) ⊎ (0 < n)
+zero-or-more zero = inl refl
+zero-or-more (suc n) = inr (omega arith)
+
+three : (r i : ℕ) → (r < i → r ≡ i) → (i < r → r ≡ i) → r ≡ i
+three r i x y = go (ltb r i) (ltb i r) refl refl
+  where
+    go : (t u : Bool) → ltb r i ≡ t → ltb i r ≡ u → r ≡ i
+    go true u e g = x (ltb-true r i e)
+    go false true e g = y (ltb-true i r g)
+    go false false e g = let v = ltb-false r i e in let w = ltb-false i r g in omega arith
+
+both : (a b : Bool) → (a && b) ≡ true → (a ≡ true) × (b ≡ true)
+both true b e = (refl, e)
+both false b e = let z : _≡_ {A = ℕ} 0 1 = cc in absurd (omega arith)
+
+-- ── The halvings ──
+
+module _ (f : ℕ → ℕ) (a : ℕ) where
+  -- nothing is left to halve
+  pub search-done : (k b n : ℕ) → n ≤ 1 → searchIn f a k b n ≡ b
+  unfolding searchIn
+  search-done zero b n h = refl
+  search-done (suc k) b n h = rw (le-leb n 1 h)
+
+  search-stops : (b n : ℕ) → searchIn f a zero b n ≡ b
+  unfolding searchIn
+  search-stops b n = refl
+
+  -- one halving
+  pub search-half : (k b n : ℕ) → 1 < n → searchIn f a (suc k) b n ≡ searchIn f a k (cond (leb (f (b + n / 2)) a) (b + n / 2) b) (n - n / 2)
+  unfolding searchIn
+  search-half k b n h = rw (lt-leb n 1 h)
+
+  one-or-more : (n : ℕ) → (n ≤ 1) ⊎ (1 < n)
+  one-or-more n = go (leb n 1) refl
+    where
+      go : (t : Bool) → leb n 1 ≡ t → (n ≤ 1) ⊎ (1 < n)
+      go true e = inl (leb-true n 1 e)
+      go false e = inr (leb-false n 1 e)
+
+  -- as many halvings as there are starts are enough
+  pub search-enough : (k m b n : ℕ) → n ≤ k → n ≤ m → searchIn f a k b n ≡ searchIn f a m b n
+  search-enough zero m b n h g = search-done zero b n (omega arith) ∙ sym (search-done m b n (omega arith))
+  search-enough (suc k) zero b n h g = search-done (suc k) b n (omega arith) ∙ sym (search-done zero b n (omega arith))
+  search-enough (suc k) (suc m) b n h g =
+      ⊎-elim (λ l. search-done (suc k) b n l ∙ sym (search-done (suc m) b n l))
+      (λ l. search-half k b n l ∙ (search-enough k m (cond (leb (f (b + n / 2)) a) (b + n / 2) b) (n - n / 2) (omega arith) (omega arith) ∙ sym (search-half m b n l)))
+      (one-or-more n)
+
+  -- one turn of the loop
+  turn : (b n b′ : ℕ) → 1 < n → cond (leb (f (b + n / 2)) a) (b + n / 2) b ≡ b′ → searchIn f a (n - n / 2) b′ (n - n / 2) ≡ searchIn f a n b n
+  turn b zero b′ h e = absurd (omega arith)
+  turn b (suc n) b′ h e =
+      sym (search-half n b (suc n) h ∙ (rw e (search-enough n (suc n - suc n / 2) b′ (suc n - suc n / 2) (omega arith) (omega arith))))
+
+  pub turn-up : (b n : ℕ) → 1 < n → f (b + n / 2) ≤ a → searchIn f a (n - n / 2) (b + n / 2) (n - n / 2) ≡ searchIn f a n b n
+  turn-up b n h l = turn b n (b + n / 2) h (rw (le-leb (f (b + n / 2)) a l))
+
+  pub turn-down : (b n : ℕ) → 1 < n → a < f (b + n / 2) → searchIn f a (n - n / 2) b (n - n / 2) ≡ searchIn f a n b n
+  turn-down b n h l = turn b n b h (rw (lt-leb (f (b + n / 2)) a l))
+
+  -- ── Where it ends ──
+
+  at-most-or-above : (i : ℕ) → (f i ≤ a) ⊎ (a < f i)
+  at-most-or-above i = go (leb (f i) a) refl
+    where
+      go : (t : Bool) → leb (f i) a ≡ t → (f i ≤ a) ⊎ (a < f i)
+      go true e = inl (leb-true (f i) a e)
+      go false e = inr (leb-false (f i) a e)
+
+  -- the search ends among the starts, at one at most the address or at the first, and every start after it lies above the address
+  pub record Ended (m r : ℕ) : Type 0 where
+    pub inside : r < m
+    pub low : (f r ≤ a) ⊎ (r ≡ 0)
+    pub above : (j : ℕ) → r < j → j < m → a < f j
+
+  module _ (m : ℕ) (climbs : (i j : ℕ) → i < j → j < m → f i < f j) where
+    later : (b n j : ℕ) → a < f (b + n / 2) → b + (n - n / 2) ≤ j → j < m → a < f j
+    later b n j t x y = ⊎-elim (λ z. rw (← z) t) (λ z. let w = climbs (b + n / 2) j z y in omega arith) (meets (b + n / 2) j (omega arith))
+
+    ends : (k b n : ℕ) → n ≤ k → 0 < n → b + n ≤ m → (f b ≤ a) ⊎ (b ≡ 0) → ((j : ℕ) → b + n ≤ j → j < m → a < f j) → Ended m (searchIn f a k b n)
+    ends zero b n h p l low above = absurd (omega arith)
+    ends (suc k) b n h p l low above =
+        ⊎-elim (λ z. rw (search-done (suc k) b n z) (record { inside = omega arith; low = low; above = λ j x y. above j (omega arith) y }))
+        (λ z. rw (search-half k b n z)
+        (⊎-elim
+        (λ t. rw (le-leb (f (b + n / 2)) a t) (ends k (b + n / 2) (n - n / 2) (omega arith) (omega arith) (omega arith) (inl t) (λ j x y. above j (omega arith) y)))
+        (λ t. rw (lt-leb (f (b + n / 2)) a t) (ends k b (n - n / 2) (omega arith) (omega arith) (omega arith) low (λ j x y. later b n j t x y)))
+        (at-most-or-above (b + n / 2))))
+        (one-or-more n)
+
+    pub search-ends : 0 < m → Ended m (searchIn f a m 0 m)
+    search-ends p = ends m 0 m (omega arith) p (omega arith) (inr refl) (λ j x y. absurd (omega arith))
+
+    -- so it ends at the greatest start at most the address, where there is one
+    pub search-greatest : (i : ℕ) → i < m → f i ≤ a → ((j : ℕ) → i < j → j < m → a < f j) → searchIn f a m 0 m ≡ i
+    search-greatest i h l g = go (searchIn f a m 0 m) (search-ends (omega arith))
+      where
+        go : (r : ℕ) → Ended m r → r ≡ i
+        go r e = three r i (λ z. absurd (let w = e .above i z h in omega arith)) (λ z. absurd (⊎-elim (λ y. let w = g r z (e .inside) in omega arith) (λ y. omega arith) (e .low)))
+
+-- ── Starts that ascend ──
+
+above-last : (f : ℕ → ℕ) (n last i : ℕ) → ascendingFrom f last i n ≡ true → (j : ℕ) → i ≤ j → j < i + n → last < f j
+unfolding ascendingFrom
+above-last f zero last i e j x y = absurd (omega arith)
+above-last f (suc n) last i e j x y =
+    let (t, r) = both (ltb last (f i)) (ascendingFrom f (f i) (suc i) n) e in
+    let l : last < f i = ltb-true last (f i) t in
+    ⊎-elim (λ z. rw (← z) l) (λ z. let w = above-last f n (f i) (suc i) r j z (omega arith) in omega arith) (meets i j x)
+
+pairs : (f : ℕ → ℕ) (n last i : ℕ) → ascendingFrom f last i n ≡ true → (j k : ℕ) → i ≤ j → j < k → k < i + n → f j < f k
+unfolding ascendingFrom
+pairs f zero last i e j k x y z = absurd (omega arith)
+pairs f (suc n) last i e j k x y z =
+    let (t, r) = both (ltb last (f i)) (ascendingFrom f (f i) (suc i) n) e in
+    ⊎-elim (λ w. rw (← w) (above-last f n (f i) (suc i) r k (omega arith) (omega arith))) (λ w. pairs f n (f i) (suc i) r j k w y (omega arith)) (meets i j x)
+
+-- what the test of 12 shows
+pub ascending-climbs : (f : ℕ → ℕ) (n : ℕ) → ascending f n ≡ true → (i j : ℕ) → i < j → j < n → f i < f j
+unfolding ascending
+ascending-climbs f zero e i j x y = absurd (omega arith)
+ascending-climbs f (suc n) e zero j x y = above-last f n (f 0) 1 e j x (omega arith)
+ascending-climbs f (suc n) e (suc i) j x y = pairs f n (f 0) 1 e (suc i) j (omega arith) x (omega arith)
+
+-- ── What `find` gives ──
+
+-- the location of the greatest start at most the address
+pub found-greatest : (f : ℕ → ℕ) (m n a i : ℕ) → ascending f n ≡ true → i < n → f i ≤ a → ((j : ℕ) → i < j → j < n → a < f j) → foundAmong f m n a ≡ (m - n) + i
+unfolding foundAmong
+found-greatest f m n a i e h l g =
+    let r = search-greatest f a n (ascending-climbs f n e) i h l g in
+    rw (ne-eqb n 0 (λ z. omega arith), r, le-leb (f i) a l)
+
+-- MAX where every start lies above it
+pub found-none : (f : ℕ → ℕ) (m n a : ℕ) → ascending f n ≡ true → ((j : ℕ) → j < n → a < f j) → foundAmong f m n a ≡ max32
+unfolding foundAmong
+found-none f m n a e g = go (zero-or-more n)
+  where
+    go : (n ≡ 0) ⊎ (0 < n) → cond (eqb n 0) max32 (cond (leb (f (searchIn f a n 0 n)) a) ((m - n) + searchIn f a n 0 n) max32) ≡ max32
+    go (inl z) = rw (eq-eqb n 0 z)
+    go (inr z) =
+        let s = search-ends f a n (ascending-climbs f n e) z in
+        rw (ne-eqb n 0 (λ w. omega arith), lt-leb (f (searchIn f a n 0 n)) a (g (searchIn f a n 0 n) (s .inside)))
+
+-- ── Any content ──
+
+-- the search ends among the starts
+pub search-inside : (f : ℕ → ℕ) (a k b n : ℕ) → 0 < n → searchIn f a k b n < b + n
+search-inside f a zero b n p = rw (search-stops f a b n) (omega arith)
+search-inside f a (suc k) b n p =
+    ⊎-elim (λ z. rw (search-done f a (suc k) b n z) (omega arith))
+    (λ z. rw (search-half f a k b n z)
+    (⊎-elim
+    (λ t. rw (le-leb (f (b + n / 2)) a t) (omega (arith, search-inside f a k (b + n / 2) (n - n / 2) (omega arith))))
+    (λ t. rw (lt-leb (f (b + n / 2)) a t) (omega (arith, search-inside f a k b (n - n / 2) (omega arith))))
+    (at-most-or-above f a (b + n / 2))))
+    (one-or-more f a n)
+
+none-among : (f : ℕ → ℕ) (m n a : ℕ) → n ≡ 0 → foundAmong f m n a ≡ max32
+unfolding foundAmong
+none-among f m n a e = rw (eq-eqb n 0 e)
+
+module _ (s : List ℕ) (c : SymCache) (a : ℕ) where
+  abbrev starts : ℕ → ℕ
+  starts = startAt s (c .ranges)
+
+  -- an address above MAX
+  pub found-far : max32 < a → max32 ≡ foundAt s c a
+  unfolding foundAt
+  found-far h = rw (lt-leb a max32 h) (go (usable (length s) c))
+    where
+      go : (u : Bool) → max32 ≡ cond (u && false) (foundAmong starts (c .«num_source_locations») (c .«num_ranges») a) max32
+      go true = refl
+      go false = refl
+
+  -- no ranges
+  pub found-empty : c .«num_ranges» ≡ 0 → max32 ≡ foundAt s c a
+  unfolding foundAt
+  found-empty e = rw (none-among starts (c .«num_source_locations») (c .«num_ranges») a e) (go (usable (length s) c && leb a max32))
+    where
+      go : (u : Bool) → max32 ≡ cond u max32 max32
+      go true = refl
+      go false = refl
+
+  pub found-unusable : usable (length s) c ≡ false → max32 ≡ foundAt s c a
+  unfolding foundAt
+  found-unusable e = rw e
+
+  module _ (u : usable (length s) c ≡ true) (l : a ≤ max32) (more : c .«num_ranges» ≡ 0 → ⊥) (i : ℕ) (is : i ≡ searchIn starts a (c .«num_ranges») 0 (c .«num_ranges»)) where
+    pub found-here : starts i ≤ a → (c .«num_source_locations» - c .«num_ranges») + i ≡ foundAt s c a
+    unfolding foundAt foundAmong
+    found-here h = rw (u, le-leb a max32 l, ne-eqb (c .«num_ranges») 0 more, ← is, le-leb (starts i) a h)
+
+    pub found-above : a < starts i → max32 ≡ foundAt s c a
+    unfolding foundAt foundAmong
+    found-above h = rw (u, le-leb a max32 l, ne-eqb (c .«num_ranges») 0 more, ← is, lt-leb (starts i) a h)
+
+-- what `usable` tests
+pub record Usable (n : ℕ) (c : SymCache) : Type 0 where
+  pub fewer : c .«num_ranges» ≤ c .«num_source_locations»
+  pub ranges : c .ranges + 4 * c .«num_ranges» ≤ n
+  pub locations : c .«source_locations» + 16 * c .«num_source_locations» ≤ n
+
+pub usable-has : (n : ℕ) (c : SymCache) → usable n c ≡ true → Usable n c
+unfolding usable
+usable-has n c e =
+    let (x, y) = both (leb (c .«num_ranges») (c .«num_source_locations»)) (leb (c .ranges + 4 * c .«num_ranges») n && leb (c .«source_locations» + 16 * c .«num_source_locations») n) e in
+    let (z, w) = both (leb (c .ranges + 4 * c .«num_ranges») n) (leb (c .«source_locations» + 16 * c .«num_source_locations») n) y in
+    record {
+      fewer = leb-true (c .«num_ranges») (c .«num_source_locations») x;
+      ranges = leb-true (c .ranges + 4 * c .«num_ranges») n z;
+      locations = leb-true (c .«source_locations» + 16 * c .«num_source_locations») n w;
+    }
+
+-- so it is, for what the reader gave
+pub usable-within : (n : ℕ) (c : SymCache) → Within n c → usable n c ≡ true
+unfolding usable
+usable-within n c w =
+    rw (le-leb (c .«num_ranges») (c .«num_source_locations») (w .fewer), le-leb (c .ranges + 4 * c .«num_ranges») n (w .ranges),
+    le-leb (c .«source_locations» + 16 * c .«num_source_locations») n (w .locations))
+
+-- what is found is a location of the table
+module _ (s : List ℕ) (c : SymCache) (a : ℕ) where
+  abbrev ended : ℕ
+  ended = searchIn (startAt s (c .ranges)) a (c .«num_ranges») 0 (c .«num_ranges»)
+
+  abbrev InTable : ℕ → Type 0
+  InTable i = (i ≡ max32 → ⊥) → (i < c .«num_source_locations») × (c .«source_locations» + 16 * c .«num_source_locations» ≤ length s)
+
+  among : (v w : Bool) → Usable (length s) c → eqb (c .«num_ranges») 0 ≡ v
+      → InTable (cond v max32 (cond w ((c .«num_source_locations» - c .«num_ranges») + ended) max32))
+  among true w p e g = absurd (g refl)
+  among false true p e g =
+      let m : 0 < c .«num_ranges» = more (c .«num_ranges») (eqb-false (c .«num_ranges») 0 e) in
+      let r = search-inside (startAt s (c .ranges)) a (c .«num_ranges») 0 (c .«num_ranges») m in
+      (omega (arith, p .fewer), p .locations)
+  among false false p e g = absurd (g refl)
+
+  within-table : (t u : Bool) → usable (length s) c ≡ t → InTable (cond (t && u) (foundAmong (startAt s (c .ranges)) (c .«num_source_locations») (c .«num_ranges») a) max32)
+  unfolding foundAmong
+  within-table true true e = among (eqb (c .«num_ranges») 0) (leb (startAt s (c .ranges) ended) a) (usable-has (length s) c e) refl
+  within-table true false e = λ g. absurd (g refl)
+  within-table false u e = λ g. absurd (g refl)
+
+  pub found-inside : (foundAt s c a ≡ max32 → ⊥) → (foundAt s c a < c .«num_source_locations») × (c .«source_locations» + 16 * c .«num_source_locations» ≤ length s)
+  unfolding foundAt
+  found-inside = within-table (usable (length s) c) (leb a max32) refl
+
+-- ── What `find` gives on an opened file ──
+
+module _ (s : List ℕ) (c : SymCache) (accepted : opened s ≡ gives c) (a : ℕ) (short : a ≤ max32) where
+  -- THE LOCATION OF THE GREATEST START AT MOST THE ADDRESS
+  pub find-greatest : (i : ℕ) → i < c .«num_ranges» → startAt s (c .ranges) i ≤ a → ((j : ℕ) → i < j → j < c .«num_ranges» → a < startAt s (c .ranges) j)
+      → foundAt s c a ≡ (c .«num_source_locations» - c .«num_ranges») + i
+  unfolding foundAt
+  find-greatest i h l g =
+      let (w, e) = opened-has s c accepted in
+      rw (usable-within (length s) c w, le-leb a max32 short) (found-greatest (startAt s (c .ranges)) (c .«num_source_locations») (c .«num_ranges») a i e h l g)
+
+  pub find-none : ((j : ℕ) → j < c .«num_ranges» → a < startAt s (c .ranges) j) → foundAt s c a ≡ max32
+  unfolding foundAt
+  find-none g =
+      let (w, e) = opened-has s c accepted in
+      rw (usable-within (length s) c w, le-leb a max32 short) (found-none (startAt s (c .ranges)) (c .«num_source_locations») (c .«num_ranges») a e g)

@@ -1,0 +1,51 @@
+-- `SourceLocations/next` meets its contract: what `parse` refuses, and then the row.
+use native.Mathlib.Omega.{arith}
+use mathlib.Core.Path.{_≡_, refl, ap, sym, _∙_}
+use Rattle.symcache.specs.Answers.{parseAnswer}
+use Rattle.symcache.specs.Reader.{parsed}
+use Rattle.symcache.specs.Lookup.{stepped}
+use Rattle.symcache.proofs.ReaderLaws.{parsed-within}
+use Rattle.symcache.proofs.LookupLaws.{then-gives, then-refuses}
+use borrow.Author.Needs.{needs}
+use Rattle.symcache.proofs.lookup.SourceLocations.next.Statement.{statement}
+use Rattle.symcache.proofs.lookup.SourceLocations.next.Tie as tie
+use Rattle.symcache.proofs.lookup.SourceLocations.next.Reads as reads
+use Rattle.symcache.proofs.lookup.SourceLocations.next.Lts as lts
+use Rattle.symcache.proofs.lookup.step_in.Reads as step-in-reads
+use Rattle.symcache.proofs.parse.Reads as parse-reads
+
+parse-requires : tie.Need-parse-requires
+parse-requires c κs = search needs
+
+-- src/lookup.rt:306:27
+enum-known-parsed : tie.Need-enum-known-parsed
+enum-known-parsed c = search needs
+
+-- src/lookup.rt:306:33
+step-in-requires : tie.Need-step-in-requires
+step-in-requires c κs = let w = parsed-within (c .before .before .before .before .before .args .s .now) (c .before .parsed .given .0 .0) (sym (c .before .before .before .parse .ensures) ∙ ap parseAnswer (c .before .parsed .given .1)) .1  in w
+
+-- src/lookup.rt:307:29
+enum-known-parsed-2 : tie.Need-enum-known-parsed-2
+enum-known-parsed-2 c = search needs
+
+-- src/lookup.rt:301:5
+returns : tie.Need-returns
+unfolding stepped
+returns c = then-gives (parsed (c .before .before .before .before .before .before .args .s .now)) (c .before .before .parsed .given .0 .0) _ _ (sym (c .before .before .before .before .parse .ensures) ∙ ap parseAnswer (c .before .before .parsed .given .1)) (c .step-in .ensures)
+
+-- src/lookup.rt:301:5
+returns-2 : tie.Need-returns-2
+unfolding stepped
+returns-2 c = then-refuses (parsed (c .before .before .before .before .before .args .s .now)) _ _ (sym (c .before .before .before .parse .ensures) ∙ ap parseAnswer (c .before .parsed2 .given .1))
+
+pub next-spec : {M : Type 1} → statement M
+next-spec =
+    tie.close
+    (tie.spec
+    parse-requires
+    enum-known-parsed
+    step-in-requires
+    enum-known-parsed-2
+    returns
+    returns-2)

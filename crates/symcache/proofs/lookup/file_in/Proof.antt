@@ -1,0 +1,33 @@
+-- `file_in` meets its contract.
+use borrow.Author.Tests.{lt-ltb, le-ltb, eq-eqb, ne-eqb, le-leb, lt-leb}
+use Rattle.symcache.specs.Lookup.{fileIn}
+use borrow.Author.Needs.{needs}
+use Rattle.symcache.proofs.lookup.file_in.Statement.{statement}
+use Rattle.symcache.proofs.lookup.file_in.Tie as tie
+use Rattle.symcache.proofs.lookup.file_in.Reads as reads
+use Rattle.symcache.proofs.lookup.file_in.Lts as lts
+use Rattle.raw.proofs.file_at.Reads as file-at-reads
+
+mul-file-at : tie.Need-mul-file-at
+mul-file-at c = search needs
+
+-- src/lookup.rt:319:46
+add-file-at : tie.Need-add-file-at
+add-file-at c = search needs
+
+-- src/lookup.rt:319:30
+file-at-requires : tie.Need-file-at-requires
+file-at-requires c κs = search needs
+
+-- src/lookup.rt:319:9
+returns : tie.Need-returns
+unfolding fileIn
+returns c = rw (lt-ltb (c .before .before .before .before .before .args .i) (c .before .before .before .before .before .args .c .«num_files») (c .before .before .if1 .taken), c .file-at .ensures)
+
+-- src/lookup.rt:314:1
+returns-2 : tie.Need-returns-2
+unfolding fileIn
+returns-2 c = rw (le-ltb (c .before .before .before .args .i) (c .before .before .before .args .c .«num_files») (c .if1 .left))
+
+pub file-in-spec : {M : Type 1} → statement M
+file-in-spec = tie.close (tie.spec mul-file-at add-file-at file-at-requires returns returns-2)

@@ -1,0 +1,51 @@
+-- `get_file` meets its contract: what `parse` refuses, and then the row.
+use native.Mathlib.Omega.{arith}
+use mathlib.Core.Path.{_≡_, refl, ap, sym, _∙_}
+use Rattle.symcache.specs.Answers.{parseAnswer}
+use Rattle.symcache.specs.Reader.{parsed}
+use Rattle.symcache.specs.Lookup.{gotFile}
+use Rattle.symcache.proofs.ReaderLaws.{parsed-within}
+use Rattle.symcache.proofs.LookupLaws.{then-gives, then-refuses}
+use borrow.Author.Needs.{needs}
+use Rattle.symcache.proofs.lookup.get_file.Statement.{statement}
+use Rattle.symcache.proofs.lookup.get_file.Tie as tie
+use Rattle.symcache.proofs.lookup.get_file.Reads as reads
+use Rattle.symcache.proofs.lookup.get_file.Lts as lts
+use Rattle.symcache.proofs.lookup.file_in.Reads as file-in-reads
+use Rattle.symcache.proofs.parse.Reads as parse-reads
+
+parse-requires : tie.Need-parse-requires
+parse-requires c κs = search needs
+
+-- src/lookup.rt:329:23
+enum-known-parsed : tie.Need-enum-known-parsed
+enum-known-parsed c = search needs
+
+-- src/lookup.rt:329:29
+file-in-requires : tie.Need-file-in-requires
+file-in-requires c κs = let w = parsed-within (c .before .before .before .before .before .args .s .now) (c .before .parsed .given .0 .0) (sym (c .before .before .before .parse .ensures) ∙ ap parseAnswer (c .before .parsed .given .1)) .1 .files in omega arith
+
+-- src/lookup.rt:330:25
+enum-known-parsed-2 : tie.Need-enum-known-parsed-2
+enum-known-parsed-2 c = search needs
+
+-- src/lookup.rt:324:1
+returns : tie.Need-returns
+unfolding gotFile
+returns c = then-gives (parsed (c .before .before .before .before .before .before .args .s .now)) (c .before .before .parsed .given .0 .0) _ _ (sym (c .before .before .before .before .parse .ensures) ∙ ap parseAnswer (c .before .before .parsed .given .1)) (c .file-in .ensures)
+
+-- src/lookup.rt:324:1
+returns-2 : tie.Need-returns-2
+unfolding gotFile
+returns-2 c = then-refuses (parsed (c .before .before .before .before .before .args .s .now)) _ _ (sym (c .before .before .before .parse .ensures) ∙ ap parseAnswer (c .before .parsed2 .given .1))
+
+pub get-file-spec : {M : Type 1} → statement M
+get-file-spec =
+    tie.close
+    (tie.spec
+    parse-requires
+    enum-known-parsed
+    file-in-requires
+    enum-known-parsed-2
+    returns
+    returns-2)

@@ -1,0 +1,51 @@
+-- `get_function` meets its contract: what `parse` refuses, and then the row.
+use native.Mathlib.Omega.{arith}
+use mathlib.Core.Path.{_≡_, refl, ap, sym, _∙_}
+use Rattle.symcache.specs.Answers.{parseAnswer}
+use Rattle.symcache.specs.Reader.{parsed}
+use Rattle.symcache.specs.Lookup.{gotFunction}
+use Rattle.symcache.proofs.ReaderLaws.{parsed-within}
+use Rattle.symcache.proofs.LookupLaws.{then-gives, then-refuses}
+use borrow.Author.Needs.{needs}
+use Rattle.symcache.proofs.lookup.get_function.Statement.{statement}
+use Rattle.symcache.proofs.lookup.get_function.Tie as tie
+use Rattle.symcache.proofs.lookup.get_function.Reads as reads
+use Rattle.symcache.proofs.lookup.get_function.Lts as lts
+use Rattle.symcache.proofs.lookup.function_in.Reads as function-in-reads
+use Rattle.symcache.proofs.parse.Reads as parse-reads
+
+parse-requires : tie.Need-parse-requires
+parse-requires c κs = search needs
+
+-- src/lookup.rt:349:23
+enum-known-parsed : tie.Need-enum-known-parsed
+enum-known-parsed c = search needs
+
+-- src/lookup.rt:349:29
+function-in-requires : tie.Need-function-in-requires
+function-in-requires c κs = let w = parsed-within (c .before .before .before .before .before .args .s .now) (c .before .parsed .given .0 .0) (sym (c .before .before .before .parse .ensures) ∙ ap parseAnswer (c .before .parsed .given .1)) .1 .functions in omega arith
+
+-- src/lookup.rt:350:25
+enum-known-parsed-2 : tie.Need-enum-known-parsed-2
+enum-known-parsed-2 c = search needs
+
+-- src/lookup.rt:344:1
+returns : tie.Need-returns
+unfolding gotFunction
+returns c = then-gives (parsed (c .before .before .before .before .before .before .args .s .now)) (c .before .before .parsed .given .0 .0) _ _ (sym (c .before .before .before .before .parse .ensures) ∙ ap parseAnswer (c .before .before .parsed .given .1)) (c .function-in .ensures)
+
+-- src/lookup.rt:344:1
+returns-2 : tie.Need-returns-2
+unfolding gotFunction
+returns-2 c = then-refuses (parsed (c .before .before .before .before .before .args .s .now)) _ _ (sym (c .before .before .before .parse .ensures) ∙ ap parseAnswer (c .before .parsed2 .given .1))
+
+pub get-function-spec : {M : Type 1} → statement M
+get-function-spec =
+    tie.close
+    (tie.spec
+    parse-requires
+    enum-known-parsed
+    function-in-requires
+    enum-known-parsed-2
+    returns
+    returns-2)

@@ -1,0 +1,36 @@
+-- `is_ended` meets its contract: the four tests, in order.
+use borrow.Author.Tests.{lt-ltb, le-ltb, eq-eqb, ne-eqb, le-leb, lt-leb}
+use Rattle.raw.specs.Rows.{max32}
+use Rattle.symcache.specs.Lookup.{ended}
+use borrow.Author.Needs.{needs}
+use Rattle.symcache.proofs.lookup.is_ended.Statement.{statement}
+use Rattle.symcache.proofs.lookup.is_ended.Tie as tie
+use Rattle.symcache.proofs.lookup.is_ended.Reads as reads
+use Rattle.symcache.proofs.lookup.is_ended.Lts as lts
+use Rattle.symcache.proofs.lookup.is_met.Reads as is-met-reads
+
+returns : tie.Need-returns
+unfolding ended
+returns c = rw (eq-eqb (c .before .before .before .args .walk .current) max32 (c .if1 .taken))
+
+-- src/lookup.rt:272:9
+returns-2 : tie.Need-returns-2
+unfolding ended
+returns-2 c = rw (ne-eqb (c .before .before .before .before .before .before .args .walk .current) max32 (c .before .before .before .if1 .left), le-leb (c .before .before .before .before .before .before .args .c .«num_source_locations») (c .before .before .before .before .before .before .args .walk .current) (c .if2 .taken))
+
+-- src/lookup.rt:275:9
+returns-3 : tie.Need-returns-3
+unfolding ended
+returns-3 c = rw (ne-eqb (c .before .before .before .before .before .before .before .before .before .args .walk .current) max32 (c .before .before .before .before .before .before .if1 .left), lt-leb (c .before .before .before .before .before .before .before .before .before .args .c .«num_source_locations») (c .before .before .before .before .before .before .before .before .before .args .walk .current) (c .before .before .before .if2 .left), le-leb (c .before .before .before .before .before .before .before .before .before .args .c .«num_source_locations») (c .before .before .before .before .before .before .before .before .before .args .walk .steps) (c .if3 .taken))
+
+-- src/lookup.rt:277:5
+is-met-requires : tie.Need-is-met-requires
+is-met-requires c κs = search needs
+
+-- src/lookup.rt:264:1
+returns-4 : tie.Need-returns-4
+unfolding ended
+returns-4 c = rw (ne-eqb (c .before .before .before .before .before .before .before .before .before .before .args .walk .current) max32 (c .before .before .before .before .before .before .before .if1 .left), lt-leb (c .before .before .before .before .before .before .before .before .before .before .args .c .«num_source_locations») (c .before .before .before .before .before .before .before .before .before .before .args .walk .current) (c .before .before .before .before .if2 .left), lt-leb (c .before .before .before .before .before .before .before .before .before .before .args .c .«num_source_locations») (c .before .before .before .before .before .before .before .before .before .before .args .walk .steps) (c .before .if3 .left)) (c .is-met .ensures)
+
+pub is-ended-spec : {M : Type 1} → statement M
+is-ended-spec = tie.close (tie.spec returns returns-2 returns-3 is-met-requires returns-4)

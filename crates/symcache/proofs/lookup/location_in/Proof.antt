@@ -1,0 +1,28 @@
+-- `location_in` meets its contract.
+use Rattle.symcache.specs.Lookup.{locationIn}
+use borrow.Author.Needs.{needs}
+use Rattle.symcache.proofs.lookup.location_in.Statement.{statement}
+use Rattle.symcache.proofs.lookup.location_in.Tie as tie
+use Rattle.symcache.proofs.lookup.location_in.Reads as reads
+use Rattle.symcache.proofs.lookup.location_in.Lts as lts
+use Rattle.raw.proofs.location_at.Reads as location-at-reads
+
+mul-location-at : tie.Need-mul-location-at
+mul-location-at c = search needs
+
+-- src/lookup.rt:155:25
+add-location-at : tie.Need-add-location-at
+add-location-at c = search needs
+
+-- src/lookup.rt:155:5
+location-at-requires : tie.Need-location-at-requires
+location-at-requires c κs = search needs
+
+-- src/lookup.rt:151:1
+returns : tie.Need-returns
+unfolding locationIn
+returns c = c .location-at .ensures
+
+pub location-in-spec : {M : Type 1} → statement M
+location-in-spec =
+    tie.close (tie.spec mul-location-at add-location-at location-at-requires returns)

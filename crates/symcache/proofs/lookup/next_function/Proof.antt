@@ -1,0 +1,87 @@
+-- `next_function` meets its contract. The invariant: what is still to be read decides.
+use Rattle.symcache.specs.Answers.{gives}
+use mathlib.Core.Path.{ap, _≡_, refl, sym, _∙_}
+use native.Mathlib.Omega.{arith}
+use Prim.Native.Nat.{_-_}
+use borrow.Author.Needs.{needs}
+use Rattle.symcache.specs.Lookup.{nextFunction}
+use Rattle.symcache.proofs.LookupLaws.{function-passed, function-given, functions-end}
+use Rattle.symcache.proofs.lookup.next_function.Statement.{statement}
+use Rattle.symcache.proofs.lookup.next_function.Tie as tie
+use Rattle.symcache.proofs.lookup.next_function.Reads as reads
+use Rattle.symcache.proofs.lookup.next_function.Lts as lts
+use Rattle.raw.proofs.function_at.Reads as function-at-reads
+
+abbrev Inv-loop : tie.InvT-loop
+Inv-loop s c from i₀ i = nextFunction s c i (c .«num_functions» - i) ≡ nextFunction s c from (c .«num_functions» - from)
+
+abbrev μ-loop : tie.MeasureT-loop
+μ-loop s c from i₀ i = c .«num_functions» - i
+
+-- src/lookup.rt:360:5
+loop-holds : tie.Need-loop-holds Inv-loop μ-loop
+loop-holds c = refl
+
+-- src/lookup.rt:361:64
+cast-function-at : tie.Need-cast-function-at Inv-loop μ-loop
+cast-function-at c = search needs
+
+-- src/lookup.rt:361:58
+mul-function-at : tie.Need-mul-function-at Inv-loop μ-loop
+mul-function-at c = search needs
+
+-- src/lookup.rt:361:44
+add-function-at : tie.Need-add-function-at Inv-loop μ-loop
+add-function-at c = omega arith
+
+-- src/lookup.rt:361:13
+function-at-requires : tie.Need-function-at-requires Inv-loop μ-loop
+function-at-requires c κs = search needs
+
+-- src/lookup.rt:367:35
+add-t10 : tie.Need-add-t10 Inv-loop μ-loop
+add-t10 c = omega arith
+
+-- src/lookup.rt:363:13
+returns : tie.Need-returns Inv-loop μ-loop
+returns c = 
+    let a = c .before .before .before .before .before .before .before .before .args in
+    let i = c .before .before .before .before .before .before .loop .i in
+    let e = c .before .before .function-at .ensures in
+    ap gives (rw e (function-given (a .s .now) (a .c) i (a .c .«num_functions») (c .before .before .before .before .if1 .taken) (rw e at (c .if2 .taken))) ∙ c .before .before .before .before .before .before .loop .inv)
+
+-- src/lookup.rt:371:9
+add-i : tie.Need-add-i Inv-loop μ-loop
+add-i c = omega arith
+
+-- src/lookup.rt:360:5
+loop-less : tie.Need-loop-less Inv-loop μ-loop
+loop-less c = omega arith
+
+-- src/lookup.rt:360:5
+loop-again : tie.Need-loop-again Inv-loop μ-loop
+loop-again c = 
+    let a = c .before .before .before .before .before .before .before .before .args in
+    function-passed (a .s .now) (a .c) (c .before .before .before .before .before .before .loop .i) (a .c .«num_functions») (c .before .before .before .before .if1 .taken) (rw (c .before .before .function-at .ensures) at (c .if2 .left)) ∙ c .before .before .before .before .before .before .loop .inv
+
+-- src/lookup.rt:355:1
+returns-2 : tie.Need-returns-2 Inv-loop μ-loop
+returns-2 c = let a = c .before .before .before .before .args in ap gives (functions-end (a .s .now) (a .c) (c .before .before .loop .i) (a .c .«num_functions») (c .if1 .left) ∙ c .before .before .loop .inv)
+
+pub next-function-spec : {M : Type 1} → statement M
+next-function-spec =
+    tie.close
+    (tie.spec
+    Inv-loop
+    μ-loop
+    loop-holds
+    cast-function-at
+    mul-function-at
+    add-function-at
+    function-at-requires
+    add-t10
+    returns
+    add-i
+    loop-less
+    loop-again
+    returns-2)

@@ -1,0 +1,63 @@
+-- `walk` meets its contract: only the first location is tested for the empty mapping.
+use native.Mathlib.Omega.{arith}
+use mathlib.Core.Path.{_≡_, refl, ap, sym, _∙_}
+use Rattle.symcache.proofs.SearchLaws.{found-inside}
+use Rattle.symcache.proofs.LookupLaws.{walk-nowhere, walk-empty, walk-begins}
+use borrow.Author.Needs.{needs}
+use Rattle.symcache.proofs.lookup.walk.Statement.{statement}
+use Rattle.symcache.proofs.lookup.walk.Tie as tie
+use Rattle.symcache.proofs.lookup.walk.Reads as reads
+use Rattle.symcache.proofs.lookup.walk.Lts as lts
+use Rattle.raw.proofs.SourceLocation.is_no_source_location.Reads as is-no-source-location-reads
+use Rattle.symcache.proofs.lookup.find.Reads as find-reads
+use Rattle.symcache.proofs.lookup.location_in.Reads as location-in-reads
+use Rattle.symcache.proofs.lookup.walk_from.Reads as walk-from-reads
+
+find-requires : tie.Need-find-requires
+find-requires c κs = search needs
+
+-- src/lookup.rt:176:9
+walk-from-requires : tie.Need-walk-from-requires
+walk-from-requires c κs = search needs
+
+-- src/lookup.rt:176:9
+returns : tie.Need-returns
+returns c = c .walk-from .ensures ∙ walk-nowhere (c .before .before .before .before .args .s .now) (c .before .before .before .before .args .cache) (c .before .before .before .before .args .addr) (c .before .before .find .result) (c .before .before .find .ensures) (c .before .if1 .taken)
+
+-- src/lookup.rt:178:9
+location-in-requires : tie.Need-location-in-requires
+location-in-requires c κs = let f = found-inside (c .before .before .before .args .s .now) (c .before .before .before .args .cache) (c .before .before .before .args .addr) (rw (c .before .find .ensures) at (c .if1 .left)) in omega (arith, c .before .find .ensures)
+
+-- src/lookup.rt:179:8
+is-no-source-location-requires : tie.Need-is-no-source-location-requires
+is-no-source-location-requires c κs = search needs
+
+-- src/lookup.rt:180:9
+walk-from-requires-2 : tie.Need-walk-from-requires-2
+walk-from-requires-2 c κs = search needs
+
+-- src/lookup.rt:180:9
+returns-2 : tie.Need-returns-2
+returns-2 c = c .walk-from2 .ensures ∙ walk-empty (c .before .before .before .before .before .before .before .args .s .now) (c .before .before .before .before .before .before .before .args .cache) (c .before .before .before .before .before .before .before .args .addr) (c .before .before .before .before .before .find .result) (c .before .before .before .before .before .find .ensures) (c .before .before .before .before .if1 .left) (rw (c .before .before .before .location-in .ensures) at (sym (c .before .before .is-no-source-location .ensures) ∙ c .before .if2 .taken))
+
+-- src/lookup.rt:182:5
+walk-from-requires-3 : tie.Need-walk-from-requires-3
+walk-from-requires-3 c κs = search needs
+
+-- src/lookup.rt:171:1
+returns-3 : tie.Need-returns-3
+returns-3 c = c .walk-from3 .ensures ∙ walk-begins (c .before .before .before .before .before .before .before .args .s .now) (c .before .before .before .before .before .before .before .args .cache) (c .before .before .before .before .before .before .before .args .addr) (c .before .before .before .before .before .find .result) (c .before .before .before .before .before .find .ensures) (c .before .before .before .before .if1 .left) (rw (c .before .before .before .location-in .ensures) at (sym (c .before .before .is-no-source-location .ensures) ∙ c .before .if2 .left))
+
+pub walk-spec : {M : Type 1} → statement M
+walk-spec =
+    tie.close
+    (tie.spec
+    find-requires
+    walk-from-requires
+    returns
+    location-in-requires
+    is-no-source-location-requires
+    walk-from-requires-2
+    returns-2
+    walk-from-requires-3
+    returns-3)

@@ -1,0 +1,58 @@
+-- `parse` meets its contract: the tests of the first bytes, in order, and then those of the tables.
+use mathlib.Core.Path.{_≡_, refl, ap, sym, _∙_}
+use Rattle.raw.specs.Rows.{versionInfoAt}
+use Rattle.symcache.proofs.ReaderLaws.{too-short, wrong-endianness, wrong-format, wrong-version, invalid-header, then-tables}
+use borrow.Author.Needs.{needs}
+use Rattle.symcache.proofs.parse.Statement.{statement}
+use Rattle.symcache.proofs.parse.Tie as tie
+use Rattle.symcache.proofs.parse.Reads as reads
+use Rattle.symcache.proofs.parse.Lts as lts
+use Rattle.raw.proofs.header_at.Reads as header-at-reads
+use Rattle.raw.proofs.version_info_at.Reads as version-info-at-reads
+use Rattle.symcache.proofs.layout.Reads as layout-reads
+use Rattle.symcache.proofs.parse_tables.Reads as parse-tables-reads
+
+returns : tie.Need-returns
+returns c = too-short (c .before .before .args .s .now) (versionInfoAt (c .before .before .args .s .now) 0) refl (c .if1 .taken)
+
+version-info-at-requires : tie.Need-version-info-at-requires
+version-info-at-requires c κs = search needs
+
+returns-2 : tie.Need-returns-2
+returns-2 c = wrong-endianness (c .before .before .before .before .before .args .s .now) (c .before .before .version-info-at .result) (c .before .before .version-info-at .ensures) (c .before .before .before .if1 .left) (c .if2 .taken)
+
+returns-3 : tie.Need-returns-3
+returns-3 c = wrong-format (c .before .before .before .before .before .before .before .args .s .now) (c .before .before .before .before .version-info-at .result) (c .before .before .before .before .version-info-at .ensures) (c .before .before .before .before .before .if1 .left) (c .before .before .if2 .left) (c .if3 .taken)
+
+returns-4 : tie.Need-returns-4
+returns-4 c = wrong-version (c .before .before .before .before .before .before .before .before .before .args .s .now) (c .before .before .before .before .before .before .version-info-at .result) (c .before .before .before .before .before .before .version-info-at .ensures) (c .before .before .before .before .before .before .before .if1 .left) (c .before .before .before .before .if2 .left) (c .before .before .if3 .left) (c .if4 .taken)
+
+returns-5 : tie.Need-returns-5
+returns-5 c = invalid-header (c .before .before .before .before .before .before .before .before .before .before .args .s .now) (c .before .before .before .before .before .before .before .version-info-at .result) (c .before .before .before .before .before .before .before .version-info-at .ensures) (c .before .before .before .before .before .before .before .before .if1 .left) (c .before .before .before .before .before .if2 .left) (c .before .before .before .if3 .left) (c .before .if4 .left) (c .if5 .taken)
+
+header-at-requires : tie.Need-header-at-requires
+header-at-requires c κs = search needs
+
+layout-requires : tie.Need-layout-requires
+layout-requires c κs = search needs
+
+parse-tables-requires : tie.Need-parse-tables-requires
+parse-tables-requires c κs = search needs
+
+returns-6 : tie.Need-returns-6
+returns-6 c = c .parse-tables .ensures ∙ then-tables (c .before .before .before .before .before .before .before .before .before .before .before .before .before .args .s .now) (c .before .before .before .before .before .before .before .before .before .before .version-info-at .result) (c .before .before .before .before .before .before .before .before .before .before .version-info-at .ensures) (c .before .before .before .before .before .before .before .before .before .before .before .if1 .left) (c .before .before .before .before .before .before .before .before .if2 .left) (c .before .before .before .before .before .before .if3 .left) (c .before .before .before .before .if4 .left) (c .before .before .before .if5 .left) (c .before .before .header-at .result) (c .before .layout .result) (c .before .before .header-at .ensures) (c .before .layout .ensures .0)
+
+pub parse-spec : {M : Type 1} → statement M
+parse-spec =
+    tie.close
+    (tie.spec
+    returns
+    version-info-at-requires
+    returns-2
+    returns-3
+    returns-4
+    returns-5
+    header-at-requires
+    layout-requires
+    parse-tables-requires
+    returns-6)

@@ -1,0 +1,4 @@
+pub mod Answers
+pub mod Reader
+pub mod Lookup
+pub mod Strings

@@ -1,0 +1,152 @@
+-- The lookup: document 01 "Lookup"; v9/lookup.rs.
+use Prim.Native.Nat.{ℕ, zero, suc, _+_, _*_, _/_, _-_}
+use mathlib.Core.List.{List, [], _∷_}
+use mathlib.Core.Option.{Option, none, some}
+use mathlib.Core.Bool.{Bool, true, false, cond, not, _&&_, _||_}
+use lib.Dec.{eqb, ltb, leb}
+use lib.ListN.{length, take, drop}
+use Rattle.raw.specs.declared.File.{File}
+use Rattle.raw.specs.declared.Function.{Function}
+use Rattle.raw.specs.declared.SourceLocation.{SourceLocation}
+use Rattle.raw.specs.Rows.{max32, fileAt, functionAt, locationAt, isNoSourceLocation}
+use Rattle.symcache.specs.declared.SymCache.{SymCache}
+use Rattle.symcache.specs.declared.lookup.SourceLocations.{SourceLocations}
+use Rattle.symcache.specs.declared.lookup.Frame.{Frame}
+use Rattle.symcache.specs.declared.lookup.FrameFile.{FrameFile}
+use Rattle.symcache.specs.declared.lookup.FrameFile.the-variants as frame-file
+use Rattle.symcache.specs.declared.lookup.Functions.{Functions}
+use Rattle.symcache.specs.declared.lookup.Files.{Files}
+use Rattle.symcache.specs.Answers.{Answer, gives, andThen, Framed, NextFunction, NextFile}
+use Rattle.symcache.specs.Reader.{parsed, opened, startAt}
+
+-- ── The search ──
+
+-- the last halvings of a binary search for `a`: `n` starts from index `b` on are left; `k` bounds the number of halvings
+unfoldable pub searchIn : (ℕ → ℕ) → ℕ → ℕ → ℕ → ℕ → ℕ
+searchIn f a zero b n = b
+searchIn f a (suc k) b n =
+    cond (leb n 1) b (searchIn f a k (cond (leb (f (b + n / 2)) a) (b + n / 2) b) (n - n / 2))
+
+-- the location of the start that the search ends at, among `n` starts that belong to the last `n` of `m` locations; MAX where that start lies above the address
+unfoldable pub foundAmong : (ℕ → ℕ) → ℕ → ℕ → ℕ → ℕ
+foundAmong f m n a =
+    cond (eqb n 0) max32
+    (cond (leb (f (searchIn f a n 0 n)) a) ((m - n) + searchIn f a n 0 n) max32)
+
+-- whether the ranges and the locations that an opened file was said to have lie in `n` bytes
+unfoldable pub usable : ℕ → SymCache → Bool
+usable n c =
+    leb (c .«num_ranges») (c .«num_source_locations»)
+    && (leb (c .ranges + 4 * c .«num_ranges») n && leb (c .«source_locations» + 16 * c .«num_source_locations») n)
+
+-- the index of the location that an address belongs to, or MAX
+unfoldable pub foundAt : List ℕ → SymCache → ℕ → ℕ
+foundAt s c a =
+    cond (usable (length s) c && leb a max32)
+    (foundAmong (startAt s (c .ranges)) (c .«num_source_locations») (c .«num_ranges») a)
+    max32
+
+-- ── The rows of a file that was read ──
+
+unfoldable pub locationIn : List ℕ → SymCache → ℕ → SourceLocation
+locationIn s c i = locationAt s (c .«source_locations» + 16 * i)
+
+unfoldable pub functionIn : List ℕ → SymCache → ℕ → Option Function
+functionIn s c i = cond (ltb i (c .«num_functions»)) (some (functionAt s (c .functions + 16 * i))) none
+
+unfoldable pub fileIn : List ℕ → SymCache → ℕ → Option File
+fileIn s c i = cond (ltb i (c .«num_files»)) (some (fileAt s (c .files + 24 * i))) none
+
+-- ── The walk ──
+
+abbrev pub walkFrom : ℕ → SourceLocations
+walkFrom i = record { first = i; current = i; steps = 0 }
+
+-- where a lookup in an opened file begins: "Only the first location is tested for the empty mapping"
+unfoldable pub walkAt : List ℕ → SymCache → ℕ → SourceLocations
+walkAt s c a =
+    cond (eqb (foundAt s c a) max32) (walkFrom max32)
+    (cond (isNoSourceLocation (locationIn s c (foundAt s c a))) (walkFrom max32) (walkFrom (foundAt s c a)))
+
+unfoldable pub lookedUp : List ℕ → ℕ → Answer SourceLocations
+lookedUp s a = andThen (opened s) (λ c. gives (walkAt s c a))
+
+-- whether `i` is met among the first `n` indexes of the walk that begins at `j`
+unfoldable pub met : List ℕ → SymCache → ℕ → ℕ → ℕ → Bool
+met s c i j zero = false
+met s c i j (suc n) =
+    eqb j i || (ltb j (c .«num_source_locations») && met s c i (locationIn s c j .«inlined_into_idx») n)
+
+-- "A function outside the table has the stand-in, entry MAX and language MAX"
+abbrev pub entryOf : Option Function → ℕ
+entryOf none = max32
+entryOf (some f) = f .«entry_pc»
+
+abbrev pub languageOf : Option Function → ℕ
+languageOf none = max32
+languageOf (some f) = f .lang
+
+-- "A frame holds either a file or the mark that there is none"
+abbrev pub fileOf : Option File → FrameFile
+fileOf none = frame-file.None
+fileOf (some f) = frame-file.File f
+
+unfoldable pub frameIn : List ℕ → SymCache → ℕ → Frame
+frameIn s c i = record {
+  «location_idx» = i;
+  «function_idx» = locationIn s c i .«function_idx»;
+  line = locationIn s c i .line;
+  «file_idx» = locationIn s c i .«file_idx»;
+  «entry_pc» = entryOf (functionIn s c (locationIn s c i .«function_idx»));
+  language = languageOf (functionIn s c (locationIn s c i .«function_idx»));
+  file = fileOf (fileIn s c (locationIn s c i .«file_idx»));
+}
+
+-- "The walk ends at MAX, outside the table, or at an index already met"; a made-up cursor ends where its steps reach the count of locations
+unfoldable pub ended : List ℕ → SymCache → SourceLocations → Bool
+ended s c k =
+    eqb (k .current) max32
+    || (leb (c .«num_source_locations») (k .current)
+    || (leb (c .«num_source_locations») (k .steps) || met s c (k .current) (k .first) (k .steps)))
+
+abbrev pub framed : List ℕ → SymCache → SourceLocations → Framed
+framed s c k = record {
+  frame = frameIn s c (k .current);
+  next = record { first = k .first; current = locationIn s c (k .current) .«inlined_into_idx»; steps = k .steps + 1 };
+}
+
+unfoldable pub stepIn : List ℕ → SymCache → SourceLocations → Option Framed
+stepIn s c k = cond (ended s c k) none (some (framed s c k))
+
+unfoldable pub stepped : List ℕ → SourceLocations → Answer (Option Framed)
+stepped s k = andThen (parsed s) (λ c. gives (stepIn s c k))
+
+-- the frames of a walk, at most n of them
+unfoldable pub framesIn : List ℕ → SymCache → ℕ → SourceLocations → List Frame
+framesIn s c zero k = []
+framesIn s c (suc n) k = elim (stepIn s c k) [ none ↦ [] | some t ↦ t .frame ∷ framesIn s c n (t .next) ]
+
+-- ── Functions and files ──
+
+unfoldable pub gotFile : List ℕ → ℕ → Answer (Option File)
+gotFile s i = andThen (parsed s) (λ c. gives (fileIn s c i))
+
+unfoldable pub gotFunction : List ℕ → ℕ → Answer (Option Function)
+gotFunction s i = andThen (parsed s) (λ c. gives (functionIn s c i))
+
+-- `Functions` passes over entry MAX: the first of the n functions from index i on that has another
+unfoldable pub nextFunction : List ℕ → SymCache → ℕ → ℕ → Option NextFunction
+nextFunction s c i zero = none
+nextFunction s c i (suc n) =
+    cond (eqb (functionAt s (c .functions + 16 * i) .«entry_pc») max32) (nextFunction s c (suc i) n)
+    (some (record { index = i; function = functionAt s (c .functions + 16 * i); next = record { «function_idx» = i + 1 } }))
+
+unfoldable pub functionsNext : List ℕ → Functions → Answer (Option NextFunction)
+functionsNext s k = andThen (parsed s) (λ c. gives (nextFunction s c (k .«function_idx») (c .«num_functions» - k .«function_idx»)))
+
+unfoldable pub nextFile : List ℕ → SymCache → ℕ → Option NextFile
+nextFile s c i =
+    cond (ltb i (c .«num_files»)) (some (record { index = i; file = fileAt s (c .files + 24 * i); next = record { «file_idx» = i + 1 } })) none
+
+unfoldable pub filesNext : List ℕ → Files → Answer (Option NextFile)
+filesNext s k = andThen (parsed s) (λ c. gives (nextFile s c (k .«file_idx»)))
