@@ -1,2 +1,3 @@
 // The converter: writer.rs, `SymCacheConverter`, over lent tables. Its record goes in and comes back by value.
+mod lines;
 mod scratch;
