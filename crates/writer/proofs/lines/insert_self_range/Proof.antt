@@ -1,0 +1,34 @@
+use Rattle.steps.specs.Words.{words, put-range}
+use Rattle.writer.proofs.LineLaws.{self-range, no-self-range}
+use borrow.Author.Needs.{needs}
+use Rattle.writer.proofs.lines.insert_self_range.Statement.{statement}
+use Rattle.writer.proofs.lines.insert_self_range.Tie as tie
+use Rattle.writer.proofs.lines.insert_self_range.Reads as reads
+use Rattle.writer.proofs.lines.insert_self_range.Lts as lts
+use Rattle.steps.proofs.insert_range.Reads as insert-range-reads
+
+-- src/lines.rt:47:9
+insert-range-requires : tie.Need-insert-range-requires
+insert-range-requires c κs = search needs
+
+-- src/lines.rt:47:9
+same-length : tie.Need-same-length
+same-length c = search needs
+
+-- src/lines.rt:47:9
+returns : tie.Need-returns
+returns c =
+    let a = c .before .before .before .before .before .before .args in
+    let r = c .before .before .insert-range in
+    λ x i f g k.
+    let w = words (a .state) x i f g k (a .ranges .now) in
+    self-range (a .address) (a .next) (put-range (a .address) (a .location) w) w (words (r .result) x i f g k (r .last .1 .0)) (c .before .before .before .before .if1 .taken) (r .ensures x i f g k)
+
+-- src/lines.rt:43:1
+returns-2 : tie.Need-returns-2
+returns-2 c =
+    let a = c .before .before .args in
+    λ x i f g k. let w = words (a .state) x i f g k (a .ranges .now) in no-self-range (a .address) (a .next) (put-range (a .address) (a .location) w) w (c .if1 .left)
+
+pub insert-self-range-spec : {M : Type 1} → statement M
+insert-self-range-spec = tie.close (tie.spec insert-range-requires same-length returns returns-2)
