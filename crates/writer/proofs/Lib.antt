@@ -1,2 +1,3 @@
 pub mod ScratchLaws
 pub mod LineLaws
+pub mod TreeLaws
