@@ -1,3 +1,4 @@
 // The converter: writer.rs, `SymCacheConverter`, over lent tables. Its record goes in and comes back by value.
 mod lines;
 mod scratch;
+mod tree;
