@@ -1,8 +1,8 @@
 -- What the code of tree.rt does, step by step, as the definitions have it.
-use mathlib.Core.Path.{_≡_, refl, sym, ap, _∙_, subst}
+use mathlib.Core.Path.{_≡_, refl, sym, ap, _∙_}
 use mathlib.Core.Bool.{Bool, true, false, cond, true≢false, false≢true}
 use mathlib.Core.List.{List, [], _∷_, _++_, map}
-use Prim.Native.Nat.{ℕ, zero, suc, _+_, _*_, _-_, _/_, _%_, _≤_, _<_}
+use Prim.Native.Nat.{ℕ, suc, _+_, _*_, _-_, _/_, _%_, _≤_, _<_}
 use native.Mathlib.Omega.{arith}
 use lib.Dec.{eqb, ltb}
 use lib.ListN.{length, getD, take, drop}
@@ -11,14 +11,14 @@ use borrow.Author.Tests.{eq-eqb, ne-eqb}
 use Rattle.names.specs.Names.{undecorated}
 use Rattle.model.specs.Basics.{Span, sort}
 use Rattle.model.specs.Rows.{MAX, Text, LineRow, FunctionRow, SymbolRow, skipped, function-end}
-use Rattle.model.specs.Machine.{Machine, Ref, LoopedM, unless-held, put-end, loopM, entryM, closingM, rowM}
+use Rattle.model.specs.Machine.{Machine, LoopedM, unless-held, put-end, loopM, entryM, closingM, rowM}
 use Rattle.model.specs.Converter.{Setup, input}
 use Rattle.sorting.specs.Pairs.{pairWords, sortedOf}
 use Rattle.rows.specs.declared.FunctionRow.{FunctionRow as FunctionStruct}
 use Rattle.rows.specs.Columns.{Columns, columns, functionRows, lineRows, functionRow, functionStruct, functionAt, linesFrom, textOf}
-use Rattle.rows.specs.Refusals.{firstLine, refusalOf}
+use Rattle.rows.specs.Refusals.{firstLine}
 use Rattle.rows.proofs.RowLaws.{functionAt-lines, functionAt-skipped}
-use Rattle.rows.proofs.Accepted.{Accepted, accepted}
+use Rattle.rows.proofs.Accepted.{Accepted}
 use Rattle.steps.specs.Words.{Words, put-range, location, begin-named, over-words}
 use Rattle.steps.proofs.RowTexts.{begin-is}
 use Rattle.loops.specs.Scratch.{pairsAt, ref-of, refsAt, startAt, lenAt, setCalls, callsOf, topOf, kid-spans, LinesWithin, Lined, RowDone}
@@ -194,9 +194,6 @@ module _ (f64 f32 l64 l32 t : List ℕ) (base i first : ℕ) where
 
     module _ (top : ℕ) (some : Bool) (current calls count : ℕ) (own : OwnCalls s base (q .depth) top some current calls count)
         (flag : Bool) (f : flag ≡ cond some (cond (eqb (q .size) 0) true (ltb MAX (q .address))) true) where
-      d : ℕ
-      d = functionRow f64 f32 i .depth
-
       own′ : OwnCalls s base (functionRow f64 f32 i .depth) top some current calls count
       own′ = rw e at own
 

@@ -1,9 +1,17 @@
 // A tree call: `process_symbolic_functions`.
 use crate::lines::process_lines;
-use crate::scratch::{calls_at, gather, set_calls, word};
+use crate::scratch::calls_at;
+use crate::scratch::gather;
+use crate::scratch::set_calls;
+use crate::scratch::word;
 use raw::SourceLocation;
 use rows::FunctionRow;
-use steps::{begin_function, insert_end, insert_source_location, mark_end, Indexed, State};
+use steps::Indexed;
+use steps::State;
+use steps::begin_function;
+use steps::insert_end;
+use steps::insert_source_location;
+use steps::mark_end;
 ghost use mathlib.Core.Path.{_≡_};
 ghost use mathlib.Core.Bool.{Bool, true, false, cond};
 ghost use mathlib.Core.List.{List, [], _∷_, map};
@@ -49,13 +57,30 @@ fn entry_pc(q: FunctionRow) -> u32
 }
 
 // A function's name, and the function.
-fn begin_row(undecorate: bool, state: State, string_bytes: &mut [u8], strings: &mut [u32], functions: &mut [u32], text: &[u8], q: FunctionRow) -> Indexed
+fn begin_row(
+    undecorate: bool,
+    state: State,
+    string_bytes: &mut [u8],
+    strings: &mut [u32],
+    functions: &mut [u32],
+    text: &[u8],
+    q: FunctionRow,
+) -> Indexed
     ensures { λ r. ⌜ ((f c n : List ℕ) → gave (r .index) (words (r .state) (now («string_bytes» .exit)) (now (strings .exit)) f (now (functions .exit)) c n) ≡ begin-named (cond undecorate (undecorated (textOf (now (text .entry)) (q .name))) (textOf (now (text .entry)) (q .name))) (cond (q .inline) MAX (q .address % 4294967296)) (q .language) (words state (now («string_bytes» .entry)) (now (strings .entry)) f (now (functions .entry)) c n)) ⌝ }
 {
     let part = q.name;
     let name = rows::part(text, part);
     let entry = entry_pc(q);
-    begin_function(state, string_bytes, strings, functions, name, undecorate, entry, q.language)
+    begin_function(
+        state,
+        string_bytes,
+        strings,
+        functions,
+        name,
+        undecorate,
+        entry,
+        q.language,
+    )
 }
 
 // The bare minimum of information at a function's entry, if there isn't any.
@@ -135,11 +160,31 @@ fn own_calls(s: &[u32], base: usize, depth: u32) -> Own
 }
 
 // The inlinee ranges of a function at `depth`, sorted, as pairs from word `at` on; answers how many.
-fn sorted_ranges(s: &mut [u32], at: usize, functions64: &[u64], functions32: &[u32], lines64: &[u64], lines32: &[u32], i: usize, first: usize, depth: u32) -> usize
+fn sorted_ranges(
+    s: &mut [u32],
+    at: usize,
+    functions64: &[u64],
+    functions32: &[u32],
+    lines64: &[u64],
+    lines32: &[u32],
+    i: usize,
+    first: usize,
+    depth: u32,
+) -> usize
     requires { ⌜ (at + length (kid-spans (columns (now functions64) (now functions32) (now lines64) (now lines32) []) depth i first) * 2 ≤ length (now s)) × (i ≤ length (now functions64) / 2) × (depth < 65536) × (first ≡ firstLine (columns (now functions64) (now functions32) (now lines64) (now lines32) []) i) × LinesWithin (now functions64) (now functions32) (now lines64) ⌝ }
     ensures { λ r. ⌜ Sorted at (kid-spans (columns (now (functions64 .entry)) (now (functions32 .entry)) (now (lines64 .entry)) (now (lines32 .entry)) []) depth i first) r (now (s .entry)) (now (s .exit)) ⌝ }
 {
-    let spans = gather(s, at, functions64, functions32, lines64, lines32, i, first, depth);
+    let spans = gather(
+        s,
+        at,
+        functions64,
+        functions32,
+        lines64,
+        lines32,
+        i,
+        first,
+        depth,
+    );
     let end = at + spans * 2;
     sorting::sort_pairs(&mut s[at..end]);
     spans
@@ -174,10 +219,41 @@ fn visit_row(
 {
     let q = rows::function_row(functions64, functions32, i);
     let at = base + top * 2;
-    let spans = sorted_ranges(s, at, functions64, functions32, lines64, lines32, i + 1, first + q.lines as usize, q.depth);
+    let spans = sorted_ranges(
+        s,
+        at,
+        functions64,
+        functions32,
+        lines64,
+        lines32,
+        i + 1,
+        first + q.lines as usize,
+        q.depth,
+    );
     let function = begin_row(undecorate, state, string_bytes, strings, functions, text, q);
     let begun = function.state;
-    let lines = process_lines(begun, string_bytes, strings, files, call_locations, ranges, s, functions64, functions32, lines64, lines32, text, i, first, function.index, current, calls, count, at, spans);
+    let lines = process_lines(
+        begun,
+        string_bytes,
+        strings,
+        files,
+        call_locations,
+        ranges,
+        s,
+        functions64,
+        functions32,
+        lines64,
+        lines32,
+        text,
+        i,
+        first,
+        function.index,
+        current,
+        calls,
+        count,
+        at,
+        spans,
+    );
     let walked = lines.state;
     let closed = close_function(walked, ranges, q, function.index);
     set_calls(s, q.depth, top, lines.calls);
@@ -223,7 +299,29 @@ fn process_row(
         set_calls(s, q.depth, own.top, 0);
         return state;
     }
-    visit_row(undecorate, state, string_bytes, strings, files, functions, call_locations, ranges, s, functions64, functions32, lines64, lines32, text, base, i, first, own.current, own.calls, own.count, own.top)
+    visit_row(
+        undecorate,
+        state,
+        string_bytes,
+        strings,
+        files,
+        functions,
+        call_locations,
+        ranges,
+        s,
+        functions64,
+        functions32,
+        lines64,
+        lines32,
+        text,
+        base,
+        i,
+        first,
+        own.current,
+        own.calls,
+        own.count,
+        own.top,
+    )
 }
 
 // All function rows, in preorder.
@@ -252,7 +350,25 @@ pub(crate) fn process_rows(
     let mut first: usize = 0;
     let mut i: usize = 0;
     while i < rows {
-        now = process_row(undecorate, now, string_bytes, strings, files, functions, call_locations, ranges, s, functions64, functions32, lines64, lines32, text, base, i, first);
+        now = process_row(
+            undecorate,
+            now,
+            string_bytes,
+            strings,
+            files,
+            functions,
+            call_locations,
+            ranges,
+            s,
+            functions64,
+            functions32,
+            lines64,
+            lines32,
+            text,
+            base,
+            i,
+            first,
+        );
         let q = rows::function_row(functions64, functions32, i);
         first += q.lines as usize;
         i += 1;

@@ -1,3 +1,4 @@
+-- `close_function` meets its contract: entry, last end, end.
 use mathlib.Core.Path.{ap}
 use Rattle.steps.specs.declared.State.{State}
 use Rattle.steps.specs.Words.{words}
@@ -5,36 +6,24 @@ use Rattle.writer.proofs.TreeLaws.{closing, end-is}
 use borrow.Author.Needs.{needs}
 use Rattle.writer.proofs.tree.close_function.Statement.{statement}
 use Rattle.writer.proofs.tree.close_function.Tie as tie
-use Rattle.writer.proofs.tree.close_function.Reads as reads
-use Rattle.writer.proofs.tree.close_function.Lts as lts
-use Rattle.steps.proofs.insert_end.Reads as insert-end-reads
-use Rattle.steps.proofs.mark_end.Reads as mark-end-reads
-use Rattle.writer.proofs.tree.function_end.Reads as function-end-reads
-use Rattle.writer.proofs.tree.insert_entry.Reads as insert-entry-reads
 
--- src/tree.rt:82:9
 insert-entry-requires : tie.Need-insert-entry-requires
 insert-entry-requires c κs = search needs
 
--- src/tree.rt:83:9
 function-end-requires : tie.Need-function-end-requires
 function-end-requires c κs = search needs
 
--- src/tree.rt:84:9
 mark-end-requires : tie.Need-mark-end-requires
 mark-end-requires c κs = search needs
 
--- src/tree.rt:85:5
 insert-end-requires : tie.Need-insert-end-requires
 insert-end-requires c κs = search needs
 
--- src/tree.rt:79:1
 same-length : tie.Need-same-length
 same-length c = search needs
 
--- src/tree.rt:79:1
 returns : tie.Need-returns
-returns c = 
+returns c =
     let a = c .before .before .before .before .before .before .before .before .before .before .before .args in
     let n = c .before .before .before .before .before .before .before .before .insert-entry in
     let e = c .before .before .before .before .before .function-end in

@@ -1,3 +1,4 @@
+-- `insert_entry` meets its contract.
 use mathlib.Core.Path.{_∙_}
 use Prim.Native.Nat.{_%_}
 use Rattle.steps.specs.Words.{words}
@@ -5,31 +6,23 @@ use Rattle.writer.proofs.TreeLaws.{entry-inline, entry-own, address-is}
 use borrow.Author.Needs.{needs}
 use Rattle.writer.proofs.tree.insert_entry.Statement.{statement}
 use Rattle.writer.proofs.tree.insert_entry.Tie as tie
-use Rattle.writer.proofs.tree.insert_entry.Reads as reads
-use Rattle.writer.proofs.tree.insert_entry.Lts as lts
-use Rattle.steps.proofs.insert_source_location.Reads as insert-source-location-reads
 
--- src/tree.rt:66:9
 returns : tie.Need-returns
-returns c = 
+returns c =
     let a = c .before .before .args in
     λ X p x i f g k ea ei h. entry-inline X p (a .function-idx) (words (a .state) x i f g k (a .ranges .now)) (ei ∙ c .if1 .taken)
 
--- src/tree.rt:74:17
 cast-entry : tie.Need-cast-entry
 cast-entry c = search needs
 
--- src/tree.rt:75:5
 insert-source-location-requires : tie.Need-insert-source-location-requires
 insert-source-location-requires c κs = search needs
 
--- src/tree.rt:62:1
 same-length : tie.Need-same-length
 same-length c = search needs
 
--- src/tree.rt:62:1
 returns-2 : tie.Need-returns-2
-returns-2 c = 
+returns-2 c =
     let a = c .before .before .before .before .before .before .before .args in
     let r = c .before .before .insert-source-location in
     λ X p x i f g k ea ei h.

@@ -1,3 +1,4 @@
+-- `is_passed_over` meets its contract.
 use mathlib.Core.Bool.{true, cond}
 use lib.Dec.{ltb, eqb}
 use Rattle.model.specs.Rows.{MAX}
@@ -5,19 +6,13 @@ use Rattle.writer.proofs.TreeLaws.{passed-test}
 use borrow.Author.Needs.{needs}
 use Rattle.writer.proofs.tree.is_passed_over.Statement.{statement}
 use Rattle.writer.proofs.tree.is_passed_over.Tie as tie
-use Rattle.writer.proofs.tree.is_passed_over.Reads as reads
-use Rattle.writer.proofs.tree.is_passed_over.Lts as lts
-use Rattle.writer.proofs.tree.is_skipped.Reads as is-skipped-reads
 
--- src/tree.rt:192:9
 is-skipped-requires : tie.Need-is-skipped-requires
 is-skipped-requires c κs = search needs
 
--- src/tree.rt:192:9
 returns : tie.Need-returns
 returns c = let a = c .before .before .args in passed-test (a .some) (cond (eqb (a .q .size) 0) true (ltb MAX (a .q .address))) (c .before .if1 .taken) (c .is-skipped .ensures)
 
--- src/tree.rt:188:1
 returns-2 : tie.Need-returns-2
 returns-2 c = search needs
 

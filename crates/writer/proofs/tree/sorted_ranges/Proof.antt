@@ -1,3 +1,4 @@
+-- `sorted_ranges` meets its contract: the part of scratch that is lent to `sort_pairs` is the words of the inlinee ranges.
 use mathlib.Core.List.{[]}
 use Rattle.rows.specs.Columns.{columns}
 use Rattle.loops.specs.Scratch.{kid-spans}
@@ -5,50 +6,36 @@ use Rattle.writer.proofs.TreeLaws.{ranges-sorted}
 use borrow.Author.Needs.{needs}
 use Rattle.writer.proofs.tree.sorted_ranges.Statement.{statement}
 use Rattle.writer.proofs.tree.sorted_ranges.Tie as tie
-use Rattle.writer.proofs.tree.sorted_ranges.Reads as reads
-use Rattle.writer.proofs.tree.sorted_ranges.Lts as lts
-use Rattle.sorting.proofs.sort_pairs.Reads as sort-pairs-reads
-use Rattle.writer.proofs.scratch.gather.Reads as gather-reads
 
--- src/tree.rt:142:9
 gather-requires : tie.Need-gather-requires
 gather-requires c κs = search needs
 
--- src/tree.rt:143:20
 mul-end : tie.Need-mul-end
 mul-end c = search needs
 
--- src/tree.rt:143:15
 add-end : tie.Need-add-end
 add-end c = search needs
 
--- src/tree.rt:144:25
 mul-sort-pairs : tie.Need-mul-sort-pairs
 mul-sort-pairs c = search needs
 
--- src/tree.rt:144:25
 sub-sort-pairs : tie.Need-sub-sort-pairs
 sub-sort-pairs c = search needs
 
--- src/tree.rt:144:25
 part-sort-pairs-start : tie.Need-part-sort-pairs-start
 part-sort-pairs-start c = search needs
 
--- src/tree.rt:144:25
 part-sort-pairs-end : tie.Need-part-sort-pairs-end
 part-sort-pairs-end c = search needs
 
--- src/tree.rt:144:5
 sort-pairs-requires : tie.Need-sort-pairs-requires
 sort-pairs-requires c κs = search needs
 
--- src/tree.rt:138:1
 same-length : tie.Need-same-length
 same-length c = search needs
 
--- src/tree.rt:138:1
 returns : tie.Need-returns
-returns c = 
+returns c =
     let a = c .before .before .before .before .before .before .before .before .before .before .before .before .before .args in
     let g = c .before .before .before .before .before .before .gather in
     let r = c .before .before .sort-pairs in

@@ -1,3 +1,4 @@
+-- `visit_row` meets its contract: `row-walked`, from what its six calls ensure.
 use mathlib.Core.Path.{_≡_, sym, ap, subst, _∙_}
 use Prim.Native.Nat.{_+_, _/_, _≤_}
 use native.Mathlib.Omega.{arith}
@@ -13,96 +14,69 @@ use Rattle.writer.proofs.TreeLaws.{gather-ready, lines-room, lines-read
 use borrow.Author.Needs.{needs}
 use Rattle.writer.proofs.tree.visit_row.Statement.{statement}
 use Rattle.writer.proofs.tree.visit_row.Tie as tie
-use Rattle.writer.proofs.tree.visit_row.Reads as reads
-use Rattle.writer.proofs.tree.visit_row.Lts as lts
-use Rattle.rows.proofs.function_row.Reads as function-row-reads
-use Rattle.writer.proofs.lines.process_lines.Reads as process-lines-reads
-use Rattle.writer.proofs.scratch.set_calls.Reads as set-calls-reads
-use Rattle.writer.proofs.tree.begin_row.Reads as begin-row-reads
-use Rattle.writer.proofs.tree.close_function.Reads as close-function-reads
-use Rattle.writer.proofs.tree.sorted_ranges.Reads as sorted-ranges-reads
 
--- src/tree.rt:175:9
 function-row-requires : tie.Need-function-row-requires
 function-row-requires c κs = search needs
 
--- src/tree.rt:176:21
 mul-at : tie.Need-mul-at
 mul-at c = omega (arith, c .before .before .before .before .before .before .before .before .before .before .before .before .before .pre .0 .room, c .before .before .before .before .before .before .before .before .before .before .before .before .before .good .1 .1 .1 .1 .1 .1 .1 .1 .0)
 
--- src/tree.rt:176:14
 add-at : tie.Need-add-at
 add-at c = omega (arith, c .before .before .before .before .before .before .before .before .before .before .before .before .before .pre .0 .room, c .before .before .before .before .before .before .before .before .before .before .before .before .before .good .1 .1 .1 .1 .1 .1 .1 .1 .0)
 
--- src/tree.rt:177:82
 add-sorted-ranges : tie.Need-add-sorted-ranges
 add-sorted-ranges c = omega (arith, c .before .before .before .before .before .before .before .before .before .before .before .before .before .before .pre .0 .inside, c .before .before .before .before .before .before .before .before .before .before .before .before .before .before .good .1 .1 .1 .1 .1 .1 .1 .1 .1 .0)
 
--- src/tree.rt:177:97
 cast-sorted-ranges : tie.Need-cast-sorted-ranges
 cast-sorted-ranges c = search needs
 
--- src/tree.rt:177:89
 add-sorted-ranges-2 : tie.Need-add-sorted-ranges-2
-add-sorted-ranges-2 c = 
+add-sorted-ranges-2 c =
     let a = c .before .before .before .before .before .before .before .before .before .before .before .before .before .before .before .args in
     let h : a .first + c .before .before .function-row .result .lines ≤ length (a .lines64 .now) / 3 = lines-room (a .functions64 .now) (a .functions32 .now) (a .lines64 .now) (a .lines32 .now) (a .text .now) (a .base) (a .i) (a .first) (length (a .s .now)) (a .top) (c .before .before .before .before .before .before .before .before .before .before .before .before .before .before .before .pre .0) (c .before .before .function-row .result) (c .before .before .function-row .ensures) in
     omega (arith, h, c .before .before .before .before .before .before .before .before .before .before .before .before .before .before .before .good .1 .1 .1 .1 .1 .1 .1 .1 .1 .1 .1 .0)
 
--- src/tree.rt:177:9
 sorted-ranges-requires : tie.Need-sorted-ranges-requires
 sorted-ranges-requires c κs = let a = c .before .before .before .before .before .before .before .before .before .before .before .before .before .before .before .args in gather-ready (a .functions64 .now) (a .functions32 .now) (a .lines64 .now) (a .lines32 .now) (a .text .now) (a .base) (a .i) (a .first) (length (a .s .now)) (a .top) (c .before .before .before .before .before .before .before .before .before .before .before .before .before .before .before .pre .0) (c .before .before .function-row .result) (c .before .before .function-row .ensures)
 
--- src/tree.rt:178:9
 begin-row-requires : tie.Need-begin-row-requires
 begin-row-requires c κs = search needs
 
--- src/tree.rt:180:9
 process-lines-requires : tie.Need-process-lines-requires
-process-lines-requires c κs = 
+process-lines-requires c κs =
     let a = c .before .before .before .before .before .before .before .before .before .before .before .before .before .before .before .before .before .before .before .before .before .before .before .before .before .before .before .before .before .before .before .before .before .before .before .args in
     let g = c .before .before .before .before .before .before .before .before .before .before .before .before .before .before .before .before .before .before .before .sorted-ranges in
     lines-ready (a .functions64 .now) (a .functions32 .now) (a .lines64 .now) (a .lines32 .now) (a .text .now) (a .base) (a .i) (a .first) (length (a .s .now)) (a .top) (c .before .before .before .before .before .before .before .before .before .before .before .before .before .before .before .before .before .before .before .before .before .before .before .before .before .before .before .before .before .before .before .before .before .before .before .pre .0) (c .before .before .before .before .before .before .before .before .before .before .before .before .before .before .before .before .before .before .before .before .before .before .function-row .result) (c .before .before .before .before .before .before .before .before .before .before .before .before .before .before .before .before .before .before .before .before .before .before .function-row .ensures) (a .calls) (a .count) (g .result) (a .s .now) (g .last .0) (g .kept .0) (c .before .before .before .before .before .before .before .before .before .before .before .before .before .before .before .before .before .before .before .before .before .before .before .before .before .before .before .before .before .before .before .before .before .before .before .pre .1) (g .ensures)
 
--- src/tree.rt:182:9
 close-function-requires : tie.Need-close-function-requires
 close-function-requires c κs = search needs
 
--- src/tree.rt:183:5
 set-calls-requires : tie.Need-set-calls-requires
 set-calls-requires c κs = search needs
 
--- src/tree.rt:149:1
 same-length : tie.Need-same-length
 same-length c = c .before .before .before .before .before .before .before .before .before .before .before .before .before .before .before .before .before .before .before .before .before .process-lines .kept .1 .0 ∙ c .before .before .before .before .before .before .before .before .before .before .before .before .before .before .before .before .before .before .before .before .before .before .before .before .before .before .before .before .before .before .before .before .before .before .before .begin-row .kept .1 .1 .0
 
--- src/tree.rt:149:1
 same-length-2 : tie.Need-same-length-2
 same-length-2 c = c .before .before .before .before .before .before .before .before .before .before .before .before .before .before .before .before .before .before .before .before .before .process-lines .kept .1 .1 .0 ∙ c .before .before .before .before .before .before .before .before .before .before .before .before .before .before .before .before .before .before .before .before .before .before .before .before .before .before .before .before .before .before .before .before .before .before .before .begin-row .kept .1 .1 .1 .0
 
--- src/tree.rt:149:1
 same-length-3 : tie.Need-same-length-3
 same-length-3 c = search needs
 
--- src/tree.rt:149:1
 same-length-4 : tie.Need-same-length-4
 same-length-4 c = c .before .before .before .before .before .before .before .before .before .before .before .before .before .before .before .before .before .before .before .before .before .before .before .before .before .before .before .before .before .before .before .before .before .before .before .begin-row .kept .1 .1 .1 .1 .0
 
--- src/tree.rt:149:1
 same-length-5 : tie.Need-same-length-5
 same-length-5 c = search needs
 
--- src/tree.rt:149:1
 same-length-6 : tie.Need-same-length-6
 same-length-6 c = search needs
 
--- src/tree.rt:149:1
 same-length-7 : tie.Need-same-length-7
 same-length-7 c = c .before .before .set-calls .kept .0 ∙ c .before .before .before .before .before .before .before .before .before .before .before .before .before .before .before .before .before .before .before .before .before .process-lines .kept .1 .1 .1 .1 .1 .1 .0 ∙ c .before .before .before .before .before .before .before .before .before .before .before .before .before .before .before .before .before .before .before .before .before .before .before .before .before .before .before .before .before .before .before .before .before .before .before .before .before .before .before .before .before .sorted-ranges .kept .0
 
--- src/tree.rt:149:1
 returns : tie.Need-returns
-returns c = 
+returns c =
     let a = c .before .before .before .before .before .before .before .before .before .before .before .before .before .before .before .before .before .before .before .before .before .before .before .before .before .before .before .before .before .before .before .before .before .before .before .before .before .before .before .before .before .before .before .before .before .before .before .before .before .before .before .before .before .before .before .before .before .args in
     let q = c .before .before .before .before .before .before .before .before .before .before .before .before .before .before .before .before .before .before .before .before .before .before .before .before .before .before .before .before .before .before .before .before .before .before .before .before .before .before .before .before .before .before .before .before .function-row in
     let g = c .before .before .before .before .before .before .before .before .before .before .before .before .before .before .before .before .before .before .before .before .before .before .before .before .before .before .before .before .before .before .before .before .before .before .before .before .before .before .before .before .before .sorted-ranges in
