@@ -1,1 +1,6 @@
+pub mod Fill
+pub mod SymbolLaws
+pub mod CallLaws
 pub mod ScratchLaws
+pub mod LineLaws
+pub mod TreeLaws

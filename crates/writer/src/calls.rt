@@ -1,0 +1,434 @@
+// The public calls: begin, a tree, a symbol.
+use rows::OptionalPart;
+ghost use mathlib.Core.Path.{_≡_};
+ghost use mathlib.Core.Bool.{Bool};
+ghost use mathlib.Core.List.{List, []};
+ghost use Prim.Native.Nat.{ℕ};
+ghost use Rattle.model.specs.Rows.{Text, symbol-end};
+ghost use Rattle.model.specs.Machine.{named-symbolM, convert-symbolM};
+ghost use Rattle.model.specs.Converter.{Setup, input};
+ghost use Rattle.rows.specs.Columns.{columns};
+ghost use Rattle.rows.specs.Refusals.{optional?};
+ghost use Rattle.steps.specs.Words.{words, over-words};
+ghost use Rattle.writer.specs.Calls.{memory, called, zeros, zeroed, unused, with-state, usable?, finished, beginOf, treeOf, symbolRow, symbolOf, symbol-put, end-put, namedRow};
+ghost use Rattle.writer.specs.Walk.{switches};
+use crate::tree::process_rows;
+use steps::Converter;
+use steps::LastAddr;
+use steps::State;
+use steps::fits;
+use steps::insert_end;
+use steps::insert_function;
+use steps::insert_range;
+use steps::insert_string;
+use steps::is_free;
+use steps::mark_symbol;
+use steps::shown_name;
+
+// What a call answers: document 01's number (0 for success), and the record.
+pub struct Answer {
+    pub code: u32,
+    pub converter: Converter,
+}
+
+fn zero(t: &mut [u32])
+    ensures { λ _. ⌜ now (t .exit) ≡ zeros (now (t .entry)) ⌝ }
+{
+    let mut i: usize = 0;
+    while i < t.len() {
+        t[i] = 0;
+        i += 1;
+    }
+}
+
+fn zero_bytes(t: &mut [u8])
+    ensures { λ _. ⌜ now (t .exit) ≡ zeros (now (t .entry)) ⌝ }
+{
+    let mut i: usize = 0;
+    while i < t.len() {
+        t[i] = 0;
+        i += 1;
+    }
+}
+
+fn zero_tables(
+    string_bytes: &mut [u8],
+    strings: &mut [u32],
+    files: &mut [u32],
+    functions: &mut [u32],
+    call_locations: &mut [u32],
+    ranges: &mut [u32],
+)
+    ensures { λ _. ⌜ (memory (now («string_bytes» .exit)) (now (strings .exit)) (now (files .exit)) (now (functions .exit)) (now («call_locations» .exit)) (now (ranges .exit))) ≡ zeroed (memory (now («string_bytes» .entry)) (now (strings .entry)) (now (files .entry)) (now (functions .entry)) (now («call_locations» .entry)) (now (ranges .entry))) ⌝ }
+{
+    zero_bytes(string_bytes);
+    zero(strings);
+    zero(files);
+    zero(functions);
+    zero(call_locations);
+    zero(ranges);
+}
+
+fn nothing_used() -> State
+    ensures { λ r. ⌜ r ≡ unused ⌝ }
+{
+    State {
+        string_bytes: 0,
+        strings: 0,
+        files: 0,
+        functions: 0,
+        call_locations: 0,
+        ranges: 0,
+        last_addr: LastAddr::Unset,
+    }
+}
+
+fn with_state(c: Converter, open: bool, state: State) -> Converter
+    ensures { λ r. ⌜ r ≡ with-state c «open» state ⌝ }
+{
+    let id = c.debug_id;
+    Converter {
+        debug_id: id,
+        arch: c.arch,
+        undecorate_functions: c.undecorate_functions,
+        undecorate_symbols: c.undecorate_symbols,
+        open,
+        state,
+    }
+}
+
+// A new converter: nothing is in use, and the lent tables are zero.
+pub fn begin(
+    debug_id: [u8; 32],
+    arch: u32,
+    undecorate_functions: bool,
+    undecorate_symbols: bool,
+    string_bytes: &mut [u8],
+    strings: &mut [u32],
+    files: &mut [u32],
+    functions: &mut [u32],
+    call_locations: &mut [u32],
+    ranges: &mut [u32],
+) -> Converter
+    ensures { λ r. ⌜ (r, memory (now («string_bytes» .exit)) (now (strings .exit)) (now (files .exit)) (now (functions .exit)) (now («call_locations» .exit)) (now (ranges .exit))) ≡ beginOf «debug_id» arch «undecorate_functions» «undecorate_symbols» (memory (now («string_bytes» .entry)) (now (strings .entry)) (now (files .entry)) (now (functions .entry)) (now («call_locations» .entry)) (now (ranges .entry))) ⌝ }
+{
+    zero_tables(
+        string_bytes,
+        strings,
+        files,
+        functions,
+        call_locations,
+        ranges,
+    );
+    Converter {
+        debug_id,
+        arch,
+        undecorate_functions,
+        undecorate_symbols,
+        open: true,
+        state: nothing_used(),
+    }
+}
+
+// Accepted, or 17: all tables zero, and closed.
+fn finish(
+    c: Converter,
+    state: State,
+    string_bytes: &mut [u8],
+    strings: &mut [u32],
+    files: &mut [u32],
+    functions: &mut [u32],
+    call_locations: &mut [u32],
+    ranges: &mut [u32],
+) -> Answer
+    ensures { λ r. ⌜ ((s : List ℕ) → called (r .code) (r .converter) (memory (now («string_bytes» .exit)) (now (strings .exit)) (now (files .exit)) (now (functions .exit)) (now («call_locations» .exit)) (now (ranges .exit))) (zeros s) ≡ finished c s (record { st = state; mm = (memory (now («string_bytes» .entry)) (now (strings .entry)) (now (files .entry)) (now (functions .entry)) (now («call_locations» .entry)) (now (ranges .entry))) })) ⌝ }
+{
+    if fits(
+        state,
+        string_bytes,
+        strings,
+        files,
+        functions,
+        call_locations,
+        ranges,
+    ) {
+        return Answer {
+            code: 0,
+            converter: with_state(c, true, state),
+        };
+    }
+    zero_tables(
+        string_bytes,
+        strings,
+        files,
+        functions,
+        call_locations,
+        ranges,
+    );
+    Answer {
+        code: 17,
+        converter: with_state(c, false, nothing_used()),
+    }
+}
+
+// Whether the converter is open and no count is above its table's capacity.
+fn is_usable(
+    c: Converter,
+    string_bytes: &[u8],
+    strings: &[u32],
+    files: &[u32],
+    functions: &[u32],
+    call_locations: &[u32],
+    ranges: &[u32],
+) -> bool
+    ensures { λ r. ⌜ r ≡ usable? c (memory (now («string_bytes» .entry)) (now (strings .entry)) (now (files .entry)) (now (functions .entry)) (now («call_locations» .entry)) (now (ranges .entry))) ⌝ }
+{
+    if c.open {
+        return fits(
+            c.state,
+            string_bytes,
+            strings,
+            files,
+            functions,
+            call_locations,
+            ranges,
+        );
+    }
+    false
+}
+
+// Whether a symbol's name, where it has one, lies in the lent text and is UTF-8.
+fn is_readable(text: &[u8], name: OptionalPart) -> bool
+    ensures { λ r. ⌜ r ≡ optional? (now (text .entry)) name ⌝ }
+{
+    if name.present {
+        return rows::readable(text, name.part);
+    }
+    true
+}
+
+// A symbol's location, where its start is vacant or holds the empty mapping.
+fn insert_symbol(
+    state: State,
+    functions: &mut [u32],
+    ranges: &mut [u32],
+    name_offset: u32,
+    address: u32,
+) -> State
+    ensures { λ r. ⌜ ((X : Setup) (x i f c : List ℕ) → words r x i f (now (functions .exit)) c (now (ranges .exit)) ≡ symbol-put X «name_offset» address (words state x i f (now (functions .entry)) c (now (ranges .entry)))) ⌝ }
+{
+    if is_free(ranges, state.ranges, address) {
+        let function = insert_function(state, functions, name_offset, address, 4294967295);
+        let location = raw::SourceLocation {
+            file_idx: 4294967295,
+            line: 0,
+            function_idx: function.index,
+            inlined_into_idx: 4294967295,
+        };
+        return insert_range(function.state, ranges, address, location);
+    }
+    state
+}
+
+// The empty mapping at a symbol's end, if it has a size and the end is representable.
+fn insert_symbol_end(state: State, ranges: &mut [u32], address: u32, size: u64) -> State
+    ensures { λ r. ⌜ ((X : Setup) (t : Text) (x i f g c : List ℕ) → words r x i f g c (now (ranges .exit)) ≡ end-put X (symbol-end (namedRow address size t)) (words state x i f g c (now (ranges .entry)))) ⌝ }
+{
+    if 0 < size {
+        if size <= 4294967295 {
+            let end = (address as u64) + size;
+            if end <= 4294967295 {
+                return insert_end(state, ranges, end as u32);
+            }
+        }
+    }
+    state
+}
+
+// A symbol that is named, at an address of 32 bits.
+fn process_named(
+    undecorate: bool,
+    state: State,
+    string_bytes: &mut [u8],
+    strings: &mut [u32],
+    functions: &mut [u32],
+    ranges: &mut [u32],
+    name: &[u8],
+    address: u32,
+    size: u64,
+) -> State
+    ensures { λ r. ⌜ ((b : Bool) (f c : List ℕ) → words r (now («string_bytes» .exit)) (now (strings .exit)) f (now (functions .exit)) c (now (ranges .exit)) ≡ named-symbolM input (over-words (switches b undecorate)) (namedRow address size (now (name .entry))) (words state (now («string_bytes» .entry)) (now (strings .entry)) f (now (functions .entry)) c (now (ranges .entry)))) ⌝ }
+{
+    let shown = shown_name(name, undecorate);
+    let text = insert_string(state, string_bytes, strings, shown);
+    let placed = insert_symbol(text.state, functions, ranges, text.index, address);
+    insert_symbol_end(mark_symbol(placed, address), ranges, address, size)
+}
+
+// One that is unnamed, or at an address above 32 bits, changes nothing.
+fn process_symbol(
+    undecorate: bool,
+    state: State,
+    string_bytes: &mut [u8],
+    strings: &mut [u32],
+    functions: &mut [u32],
+    ranges: &mut [u32],
+    text: &[u8],
+    address: u64,
+    size: u64,
+    name: OptionalPart,
+) -> State
+    ensures { λ r. ⌜ ((b : Bool) (f c : List ℕ) → words r (now («string_bytes» .exit)) (now (strings .exit)) f (now (functions .exit)) c (now (ranges .exit)) ≡ convert-symbolM input (over-words (switches b undecorate)) (symbolRow (now (text .entry)) address size name) (words state (now («string_bytes» .entry)) (now (strings .entry)) f (now (functions .entry)) c (now (ranges .entry)))) ⌝ }
+{
+    if name.present {
+        if address <= 4294967295 {
+            return process_named(
+                undecorate,
+                state,
+                string_bytes,
+                strings,
+                functions,
+                ranges,
+                rows::part(text, name.part),
+                address as u32,
+                size,
+            );
+        }
+    }
+    state
+}
+
+// A symbol.
+pub fn process_symbolic_symbol(
+    converter: Converter,
+    string_bytes: &mut [u8],
+    strings: &mut [u32],
+    files: &mut [u32],
+    functions: &mut [u32],
+    call_locations: &mut [u32],
+    ranges: &mut [u32],
+    text: &[u8],
+    address: u64,
+    size: u64,
+    name: OptionalPart,
+) -> Answer
+    ensures { λ r. ⌜ called (r .code) (r .converter) (memory (now («string_bytes» .exit)) (now (strings .exit)) (now (files .exit)) (now (functions .exit)) (now («call_locations» .exit)) (now (ranges .exit))) [] ≡ symbolOf converter (memory (now («string_bytes» .entry)) (now (strings .entry)) (now (files .entry)) (now (functions .entry)) (now («call_locations» .entry)) (now (ranges .entry))) (now (text .entry)) address size name ⌝ }
+{
+    if is_usable(
+        converter,
+        string_bytes,
+        strings,
+        files,
+        functions,
+        call_locations,
+        ranges,
+    ) {
+        if is_readable(text, name) {
+            let state = process_symbol(
+                converter.undecorate_symbols,
+                converter.state,
+                string_bytes,
+                strings,
+                functions,
+                ranges,
+                text,
+                address,
+                size,
+                name,
+            );
+            return finish(
+                converter,
+                state,
+                string_bytes,
+                strings,
+                files,
+                functions,
+                call_locations,
+                ranges,
+            );
+        }
+        return Answer {
+            code: 14,
+            converter,
+        };
+    }
+    Answer {
+        code: 19,
+        converter,
+    }
+}
+
+// A tree: function rows in preorder, their line rows, and one lent text.
+pub fn process_symbolic_function(
+    converter: Converter,
+    string_bytes: &mut [u8],
+    strings: &mut [u32],
+    files: &mut [u32],
+    functions: &mut [u32],
+    call_locations: &mut [u32],
+    ranges: &mut [u32],
+    scratch: &mut [u32],
+    functions64: &[u64],
+    functions32: &[u32],
+    lines64: &[u64],
+    lines32: &[u32],
+    text: &[u8],
+) -> Answer
+    ensures { λ r. ⌜ called (r .code) (r .converter) (memory (now («string_bytes» .exit)) (now (strings .exit)) (now (files .exit)) (now (functions .exit)) (now («call_locations» .exit)) (now (ranges .exit))) (now (scratch .exit)) ≡ treeOf converter (memory (now («string_bytes» .entry)) (now (strings .entry)) (now (files .entry)) (now (functions .entry)) (now («call_locations» .entry)) (now (ranges .entry))) (now (scratch .entry)) (columns (now (functions64 .entry)) (now (functions32 .entry)) (now (lines64 .entry)) (now (lines32 .entry)) (now (text .entry))) ⌝ }
+{
+    if is_usable(
+        converter,
+        string_bytes,
+        strings,
+        files,
+        functions,
+        call_locations,
+        ranges,
+    ) {
+        let refused = rows::refusal(
+            functions64,
+            functions32,
+            lines64,
+            lines32,
+            text,
+            scratch.len(),
+        );
+        if refused == 0 {
+            let state = process_rows(
+                converter.undecorate_functions,
+                converter.state,
+                string_bytes,
+                strings,
+                files,
+                functions,
+                call_locations,
+                ranges,
+                scratch,
+                functions64,
+                functions32,
+                lines64,
+                lines32,
+                text,
+            );
+            zero(scratch);
+            return finish(
+                converter,
+                state,
+                string_bytes,
+                strings,
+                files,
+                functions,
+                call_locations,
+                ranges,
+            );
+        }
+        return Answer {
+            code: refused,
+            converter,
+        };
+    }
+    Answer {
+        code: 19,
+        converter,
+    }
+}
