@@ -170,8 +170,9 @@ pub(crate) fn process_lines(
     let mut j: u32 = 0;
     while j < lines {
         let line = rows::line_row(lines64, lines32, first + j as usize);
-        if below <= (line.address % 4294967296) as u32 {
-            let b = rows::line_boundaries(line.address, line.has_size, line.size);
+        let b = rows::line_boundaries(line.address, line.has_size, line.size);
+        let cut = (line.address % 4294967296) as u32;
+        if below <= cut {
             call = find_call_location(s, calls, count, call, b.start);
             let located = locate_line(
                 now,

@@ -20,13 +20,13 @@ use Rattle.writer.proofs.lines.process_lines.Statement.{statement}
 use Rattle.writer.proofs.lines.process_lines.Tie as tie
 
 abbrev Inv-loop2 : tie.InvT-loop2
-Inv-loop2 string-bytes strings files call-locations₀ ranges₀ s₀ functions64 functions32 lines64 lines32 text i first function-idx current calls count at spans comp-dir lines now₀ call taken₀ below j location end address₀ call-locations ranges s now taken address =
+Inv-loop2 string-bytes strings files call-locations₀ ranges₀ s₀ functions64 functions32 lines64 lines32 text i first function-idx current calls count at spans comp-dir lines now₀ call taken₀ below j cut location end address₀ call-locations ranges s now taken address =
     (length call-locations ≡ length call-locations₀)
     × (length ranges ≡ length ranges₀)
     × ((X : Setup) (g : List ℕ) → Inner input (over-words X) at spans location end s₀ taken₀ address₀ (words now₀ string-bytes strings files g call-locations₀ ranges₀) s taken address (words now string-bytes strings files g call-locations ranges))
 
 abbrev μ-loop2 : tie.MeasureT-loop2
-μ-loop2 string-bytes strings files call-locations₀ ranges₀ s₀ functions64 functions32 lines64 lines32 text i first function-idx current calls count at spans comp-dir lines now₀ call taken₀ below j location end address₀ call-locations ranges s now taken address =
+μ-loop2 string-bytes strings files call-locations₀ ranges₀ s₀ functions64 functions32 lines64 lines32 text i first function-idx current calls count at spans comp-dir lines now₀ call taken₀ below j cut location end address₀ call-locations ranges s now taken address =
     spans - taken
 
 abbrev Inv-loop : tie.InvT-loop
@@ -69,8 +69,8 @@ add-line-row c =
 line-row-requires : tie.Need-line-row-requires Inv-loop2 μ-loop2 Inv-loop μ-loop
 line-row-requires c κs = search needs
 
-cast-if1 : tie.Need-cast-if1 Inv-loop2 μ-loop2 Inv-loop μ-loop
-cast-if1 c = omega arith
+cast-cut : tie.Need-cast-cut Inv-loop2 μ-loop2 Inv-loop μ-loop
+cast-cut c = omega arith
 
 line-boundaries-requires : tie.Need-line-boundaries-requires Inv-loop2 μ-loop2 Inv-loop μ-loop
 line-boundaries-requires c κs = search needs
@@ -90,7 +90,7 @@ loop2-holds c =
     let a = c .before .before .before .before .before .before .before .before .before .before .before .before .before .before .before .before .before .before .before .before .before .before .before .before .before .before .before .before .before .before .before .before .before .args in
     let l = c .before .before .before .before .before .before .before .before .before .before .before .before .before .before .before .before .before .before .before .loop in
     let d = c .before .before .before .before .before .before .before .before .locate-line in
-    let e = c .before .before .before .before .before .before .before .before .before .before .before .before .before .before .line-boundaries in
+    let e = c .before .before .before .before .before .before .before .before .before .before .before .before .before .before .before .before .line-boundaries in
     let o = l .inv .5 (switches true true) [] in
     (refl, refl, λ X g. begins input (over-words X) (a .at) (a .spans) (d .result .location) (e .result .end) (l .s) (l .taken) (e .result .start) (words (d .result .state) (d .last .1 .0) (d .last .1 .1 .0) (d .last .1 .1 .1 .0) g (l .call-locations) (l .ranges)) (o .few) (omega (arith, o .room, o .len)))
 
@@ -102,7 +102,7 @@ loop2-less c =
     let m = c .before .before .before .before .before .before .before .before .before .before .before .before .loop2 in
     let d = c .before .before .before .before .before .before .before .before .before .before .before .before .before .before .before .before .before .before .before .before .before .locate-line in
     let k = c .before .before .before .before .before .before .before .before .take-turn in
-    let e = c .before .before .before .before .before .before .before .before .before .before .before .before .before .before .before .before .before .before .before .before .before .before .before .before .before .before .before .line-boundaries in
+    let e = c .before .before .before .before .before .before .before .before .before .before .before .before .before .before .before .before .before .before .before .before .before .before .before .before .before .before .before .before .before .line-boundaries in
     let z = turn-less input (over-words (switches true true)) (c .before .before .before .before .before .before .before .before .before .before .before .before .before .before .before .before .before .before .before .before .before .before .before .before .before .before .before .before .before .before .before .before .before .before .before .before .before .before .before .before .before .before .before .before .before .before .args .at) (c .before .before .before .before .before .before .before .before .before .before .before .before .before .before .before .before .before .before .before .before .before .before .before .before .before .before .before .before .before .before .before .before .before .before .before .before .before .before .before .before .before .before .before .before .before .before .args .spans) (d .result .location) (e .result .end) (c .before .before .before .before .before .before .before .before .before .before .before .before .before .before .before .before .before .before .before .before .before .before .before .before .before .before .before .before .before .before .before .before .loop .s) (c .before .before .before .before .before .before .before .before .before .before .before .before .before .before .before .before .before .before .before .before .before .before .before .before .before .before .before .before .before .before .before .before .loop .taken) (e .result .start) (words (d .result .state) (d .last .1 .0) (d .last .1 .1 .0) (d .last .1 .1 .1 .0) [] (c .before .before .before .before .before .before .before .before .before .before .before .before .before .before .before .before .before .before .before .before .before .before .before .before .before .before .before .before .before .before .before .before .loop .call-locations) (c .before .before .before .before .before .before .before .before .before .before .before .before .before .before .before .before .before .before .before .before .before .before .before .before .before .before .before .before .before .before .before .before .loop .ranges)) (m .s) (m .taken) (m .address) (words (m .now) (d .last .1 .0) (d .last .1 .1 .0) (d .last .1 .1 .1 .0) [] (m .call-locations) (m .ranges)) (m .inv .2 (switches true true) [])
     (turned (words (k .result .state) (d .last .1 .0) (d .last .1 .1 .0) (d .last .1 .1 .1 .0) [] (k .last .1 .0) (k .last .1 .1 .0)) (k .last .1 .1 .1 .0) (k .result .taken) (k .result .address) (k .result .done))
     (k .ensures (switches true true) (d .last .1 .0) (d .last .1 .1 .0) (d .last .1 .1 .1 .0) []) (c .if2 .left) in
@@ -113,7 +113,7 @@ loop2-again c =
     let m = c .before .before .before .before .before .before .before .before .before .before .before .before .loop2 in
     let d = c .before .before .before .before .before .before .before .before .before .before .before .before .before .before .before .before .before .before .before .before .before .locate-line in
     let k = c .before .before .before .before .before .before .before .before .take-turn in
-    let e = c .before .before .before .before .before .before .before .before .before .before .before .before .before .before .before .before .before .before .before .before .before .before .before .before .before .before .before .line-boundaries in (
+    let e = c .before .before .before .before .before .before .before .before .before .before .before .before .before .before .before .before .before .before .before .before .before .before .before .before .before .before .before .before .before .line-boundaries in (
       k .kept .1 .0 ∙ m .inv .0,
       k .kept .1 .1 .0 ∙ m .inv .1,
       λ X g. turn-more input (over-words X) (c .before .before .before .before .before .before .before .before .before .before .before .before .before .before .before .before .before .before .before .before .before .before .before .before .before .before .before .before .before .before .before .before .before .before .before .before .before .before .before .before .before .before .before .before .before .before .args .at) (c .before .before .before .before .before .before .before .before .before .before .before .before .before .before .before .before .before .before .before .before .before .before .before .before .before .before .before .before .before .before .before .before .before .before .before .before .before .before .before .before .before .before .before .before .before .before .args .spans) (d .result .location) (e .result .end) (c .before .before .before .before .before .before .before .before .before .before .before .before .before .before .before .before .before .before .before .before .before .before .before .before .before .before .before .before .before .before .before .before .loop .s) (c .before .before .before .before .before .before .before .before .before .before .before .before .before .before .before .before .before .before .before .before .before .before .before .before .before .before .before .before .before .before .before .before .loop .taken) (e .result .start) (words (d .result .state) (d .last .1 .0) (d .last .1 .1 .0) (d .last .1 .1 .1 .0) g (c .before .before .before .before .before .before .before .before .before .before .before .before .before .before .before .before .before .before .before .before .before .before .before .before .before .before .before .before .before .before .before .before .loop .call-locations) (c .before .before .before .before .before .before .before .before .before .before .before .before .before .before .before .before .before .before .before .before .before .before .before .before .before .before .before .before .before .before .before .before .loop .ranges)) (m .s) (m .taken) (m .address) (words (m .now) (d .last .1 .0) (d .last .1 .1 .0) (d .last .1 .1 .1 .0) g (m .call-locations) (m .ranges)) (m .inv .2 X g)
@@ -122,43 +122,43 @@ loop2-again c =
     )
 
 add-j : tie.Need-add-j Inv-loop2 μ-loop2 Inv-loop μ-loop
-add-j c = omega (arith, c .before .before .before .loop-test .taken, c .before .before .before .before .before .before .function-row .ok)
+add-j c = omega (arith, c .before .before .before .before .loop-test .taken, c .before .before .before .before .before .before .before .function-row .ok)
 
 loop-less : tie.Need-loop-less Inv-loop2 μ-loop2 Inv-loop μ-loop
-loop-less c = omega (arith, c .before .before .before .loop-test .taken)
+loop-less c = omega (arith, c .before .before .before .before .loop-test .taken)
 
 loop-again : tie.Need-loop-again Inv-loop2 μ-loop2 Inv-loop μ-loop
 loop-again c =
-    let a = c .before .before .before .before .before .before .before .before .before .before .before .before .before .before .before .before .before .before .args in
-    let q = c .before .before .before .before .before .before .function-row in
-    let l = c .before .before .before .before .loop in
-    let h = c .before .before .before .loop-test .taken in
-    let n = c .before .before .line-row in
+    let a = c .before .before .before .before .before .before .before .before .before .before .before .before .before .before .before .before .before .before .before .args in
+    let q = c .before .before .before .before .before .before .before .function-row in
+    let l = c .before .before .before .before .before .loop in
+    let h = c .before .before .before .before .loop-test .taken in
+    let n = c .before .before .before .line-row in
     let j = c .if1 in
-    let dir = dir-is (columns (a .functions64 .now) (a .functions32 .now) (a .lines64 .now) (a .lines32 .now) (a .text .now)) (a .i) (q .result) (c .before .before .before .before .before .comp-dir-part .result) (q .ensures) (c .before .before .before .before .before .comp-dir-part .ensures) in
+    let dir = dir-is (columns (a .functions64 .now) (a .functions32 .now) (a .lines64 .now) (a .lines32 .now) (a .text .now)) (a .i) (q .result) (c .before .before .before .before .before .before .comp-dir-part .result) (q .ensures) (c .before .before .before .before .before .before .comp-dir-part .ensures) in
     ⊎-elim
     (λ w.
-    let d = w .7 in
-    let m = w .16 in
-    let k = w .20 in
-    let e = w .1 in
-    let f = w .3 in (
-      ap length (w .29) ∙ d .kept .1 .0 ∙ l .inv .0,
-      ap length (w .30) ∙ d .kept .1 .1 .0 ∙ l .inv .1,
-      ap length (w .31) ∙ d .kept .1 .1 .1 .0 ∙ l .inv .2,
-      ap length (w .32) ∙ k .kept .1 .0 ∙ m .inv .0 ∙ l .inv .3,
-      ap length (w .33) ∙ k .kept .1 .1 .0 ∙ m .inv .1 ∙ l .inv .4,
+    let d = w .6 in
+    let m = w .15 in
+    let k = w .19 in
+    let e = c .before .before .line-boundaries in
+    let f = w .2 in (
+      ap length (w .28) ∙ d .kept .1 .0 ∙ l .inv .0,
+      ap length (w .29) ∙ d .kept .1 .1 .0 ∙ l .inv .1,
+      ap length (w .30) ∙ d .kept .1 .1 .1 .0 ∙ l .inv .2,
+      ap length (w .31) ∙ k .kept .1 .0 ∙ m .inv .0 ∙ l .inv .3,
+      ap length (w .32) ∙ k .kept .1 .1 .0 ∙ m .inv .1 ∙ l .inv .4,
       λ X g.
           goes-same (columns (a .functions64 .now) (a .functions32 .now) (a .lines64 .now) (a .lines32 .now) (a .text .now)) (a .i) (a .first) (a .function-idx) (q .result .lines) (a .calls) (a .count) (a .at) (a .spans) (a .s .now) (a .current) X (words (a .state) (a .string-bytes .now) (a .strings .now) (a .files .now) g (a .call-locations .now) (a .ranges .now)) (j .s) (k .last .1 .1 .1 .0) (l .j + 1) (j .call) (f .result) (j .taken) (k .result .taken) (j .below) (k .result .address) (j .now) (k .result .state)
           (j .string-bytes) (d .last .1 .0) (j .strings) (d .last .1 .1 .0) (j .files) (d .last .1 .1 .1 .0) g (j .call-locations) (k .last .1 .0) (j .ranges) (k .last .1 .1 .0)
-          (w .34) (w .36) (w .37) (w .38) (w .35) (w .29) (w .30) (w .31) (w .32) (w .33)
+          (w .33) (w .35) (w .36) (w .37) (w .34) (w .28) (w .29) (w .30) (w .31) (w .32)
           (line-walked (columns (a .functions64 .now) (a .functions32 .now) (a .lines64 .now) (a .lines32 .now) (a .text .now)) (a .i) (a .first) (a .function-idx) (q .result .lines) (a .calls) (a .count) (a .at) (a .spans) (a .s .now) (a .current) X (words (a .state) (a .string-bytes .now) (a .strings .now) (a .files .now) g (a .call-locations .now) (a .ranges .now)) (l .s) (l .j) (l .call) (l .taken) (l .below) (words (l .now) (l .string-bytes) (l .strings) (l .files) g (l .call-locations) (l .ranges)) (l .inv .5 X g) h (n .result) (n .ensures)
-          (e .result) (e .ensures) (w .0 .taken) (c .before .before .before .before .before .comp-dir-part .result) dir (f .result) (f .ensures .0) (f .ensures .1) (d .result .location)
+          (e .result) (e .ensures) (w .0 .taken) (c .before .before .before .before .before .before .comp-dir-part .result) dir (f .result) (f .ensures .0) (f .ensures .1) (d .result .location)
           (words (d .result .state) (d .last .1 .0) (d .last .1 .1 .0) (d .last .1 .1 .1 .0) g (l .call-locations) (l .ranges)) (d .ensures g (l .call-locations) (l .ranges))
           (k .last .1 .1 .1 .0) (k .result .taken) (k .result .address) (words (k .result .state) (d .last .1 .0) (d .last .1 .1 .0) (d .last .1 .1 .1 .0) g (k .last .1 .0) (k .last .1 .1 .0))
           (turn-done input (over-words X) (a .at) (a .spans) (d .result .location) (e .result .end) (l .s) (l .taken) (e .result .start) (words (d .result .state) (d .last .1 .0) (d .last .1 .1 .0) (d .last .1 .1 .1 .0) g (l .call-locations) (l .ranges)) (m .s) (m .taken) (m .address) (words (m .now) (d .last .1 .0) (d .last .1 .1 .0) (d .last .1 .1 .1 .0) g (m .call-locations) (m .ranges)) (m .inv .2 X g)
           (turned (words (k .result .state) (d .last .1 .0) (d .last .1 .1 .0) (d .last .1 .1 .1 .0) g (k .last .1 .0) (k .last .1 .1 .0)) (k .last .1 .1 .1 .0) (k .result .taken) (k .result .address) (k .result .done))
-          (k .ensures X (d .last .1 .0) (d .last .1 .1 .0) (d .last .1 .1 .1 .0) g) (w .28 .taken))),
+          (k .ensures X (d .last .1 .0) (d .last .1 .1 .0) (d .last .1 .1 .1 .0) g) (w .27 .taken))),
     ))
     (λ w. (
       ap length (w .1) ∙ l .inv .0,
@@ -213,8 +213,8 @@ process-lines-spec =
     cast-line-row
     add-line-row
     line-row-requires
-    cast-if1
     line-boundaries-requires
+    cast-cut
     find-call-location-requires
     locate-line-requires
     loop2-holds
