@@ -5,20 +5,20 @@ use mathlib.Core.Bool.{Bool, true, false, cond, _&&_}
 use mathlib.Core.Option.{Option, none, some}
 use mathlib.Core.Logic.{_⊎_, inl, inr, ⊎-elim}
 use mathlib.Core.List.{List, [], _∷_, map}
-use Prim.Native.Nat.{ℕ, suc, _≤_, _<_}
+use Prim.Native.Nat.{ℕ, zero, suc, _+_, _≤_, _<_}
 use native.Mathlib.Omega.{arith}
 use lib.Dec.{eqb, ltb}
 use lib.ListN.{length, take, length-map}
 use borrow.Author.Tests.{eqb-true, eqb-false, eq-eqb, ne-eqb, ltb-true, ltb-false}
 use Rattle.model.specs.Basics.{Entry, Interned, intern}
-use Rattle.model.specs.Rows.{Text}
+use Rattle.model.specs.Rows.{MAX, Text}
 use Rattle.model.specs.Converter.{Location, text-eq, store, range-at, put-range}
-use Rattle.model.specs.Counts.{text-size, text-bytes}
+use Rattle.model.specs.Counts.{text-size, text-bytes, text-offset}
 use Rattle.model.specs.Words.{text-word}
-use Rattle.model.proofs.Intern.{At, intern-at, at-length}
-use Rattle.model.proofs.Chains.{false-true, store-grows, store-reads}
+use Rattle.model.proofs.Intern.{At, Grows, intern-at, at-length}
+use Rattle.model.proofs.Chains.{false-true, text-eq-ok, store-grows, store-reads}
 use Rattle.model.proofs.Always.{Within, reads-within}
-use Rattle.tables.specs.Table.{Left, capacityOf, insertOf, sameRow, sameWords, keyOf, rowAt}
+use Rattle.tables.specs.Table.{Left, capacityOf, insertOf, sameRow, sameWords, rowWords, keyOf, rowAt}
 use Rattle.tables.specs.Ranges.{getOf, putOf, locationOf}
 use Rattle.tables.specs.Strings.{textCapacityOf, textSize, insertTextOf, StringsLeft}
 use Rattle.tables.specs.Plain.{sameKey, putRows, Holds}
@@ -26,8 +26,11 @@ use Rattle.tables.specs.Plain.{intern as row-intern}
 use Rattle.tables.specs.PlainTexts.{textBytes, textOffset, withText, offsetIn, Texts}
 use Rattle.tables.specs.declared.Row.{Row}
 use Rattle.tables.specs.declared.Inserted.{Inserted}
-use Rattle.tables.specs.declared.ranges.Found.the-variants.{At as Held}
-use Rattle.tables.proofs.Rows.{same-eq, same-refl}
+use Rattle.tables.specs.declared.ranges.Found.{Found}
+use Rattle.tables.specs.declared.ranges.Found.the-variants.{Absent, At as Held}
+use Rattle.tables.specs.declared.ranges.Change.{Change}
+use Rattle.tables.proofs.Rows.{same-eq, words-refl}
+use Rattle.tables.proofs.Sets.{Over}
 use Rattle.tables.proofs.Sets as sets
 use Rattle.tables.proofs.Maps as maps
 use Rattle.tables.proofs.TextTables as texts
@@ -52,6 +55,10 @@ module _ {A B : Type 0} (f : A → B) (eq : A → A → Bool) (eq′ : B → B �
 -- the index of what was interned lies within the table
 pub intern-below : {A : Type 0} (eq : A → A → Bool) → ((x a : A) → eq x a ≡ true → x ≡ a) → (xs : List A) (a : A) → intern eq xs a .index < length (intern eq xs a .table)
 intern-below eq ok xs a = at-length (intern eq xs a .table) (intern eq xs a .index) a (intern-at eq ok xs a)
+
+same-refl : (x : Row) → sameRow x x ≡ true
+unfolding sameRow
+same-refl x = words-refl (rowWords x)
 
 -- six words are the same where the rows are
 row-same : (x y : Row) → sameKey 6 x y ≡ sameRow x y

@@ -5,3 +5,5 @@ pub mod StepLaws
 pub mod OverWords
 pub mod OneCall
 pub mod EveryList
+pub mod WrittenFile
+pub mod Claim

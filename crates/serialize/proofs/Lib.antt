@@ -4,3 +4,5 @@ pub mod Ranges
 pub mod Sorted
 pub mod Whole
 pub mod Answers
+pub mod Read
+pub mod Worked

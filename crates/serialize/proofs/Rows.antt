@@ -5,13 +5,13 @@ use mathlib.Core.List.{List, [], _∷_, _++_, append-assoc, append-nil}
 use native.Mathlib.Nat.{zero-add, add-zero, add-suc, suc-add, add-mul-mod-self-left}
 use native.Mathlib.Numerals.{add-one}
 use native.Mathlib.Omega.{arith}
-use lib.ListN.{length, length-append}
+use lib.ListN.{length}
 use lib.Seq.{sets}
 use Rattle.model.specs.Basics.{Span}
 use Rattle.raw.specs.Bytes.{le, leAt, words, tableBytes}
-use Rattle.raw.specs.Rows.{fileBytes, functionBytes, locationBytes, rangeBytes}
+use Rattle.raw.specs.Rows.{rangeBytes}
 use Rattle.raw.proofs.Bytes.{sets-join, length-table, length-words}
-use Rattle.raw.proofs.Rows.{length-file, length-function, length-location, length-range, Stored, all, next, stored}
+use Rattle.raw.proofs.Rows.{length-file, length-function, length-location, length-range, all, next, stored}
 use Rattle.tables.specs.Table.{rowAt}
 use Rattle.tables.specs.Plain.{rowsOf}
 use Rattle.tables.specs.declared.Row.{Row}

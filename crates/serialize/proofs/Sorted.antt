@@ -1,18 +1,17 @@
 -- The entries sorted where they stand, and read back: what the locations and the starts are written from.
-use Prim.Native.Nat.{ℕ, zero, suc, _+_, _*_, _-_, _<_, _≤_, _^_}
+use Prim.Native.Nat.{ℕ, zero, suc, _+_, _*_, _<_, _≤_, _^_}
 use mathlib.Core.Bool.{Bool, true, false, cond}
-use mathlib.Core.Path.{_≡_, refl, ap, sym, _∙_}
+use mathlib.Core.Path.{_≡_, refl, sym, _∙_}
 use mathlib.Core.List.{List, [], _∷_, _++_, append-assoc, append-nil}
 use native.Mathlib.Omega.{arith}
 use lib.ListN.{length, getD, take, drop, length-append}
-use lib.Seq.{sets, sets-eq, length-sets, take-at, drop-at, length-take-le, drop-drop}
+use lib.Seq.{sets, sets-eq, take-at, drop-at, length-take-le, drop-drop}
 use borrow.Rule.Slice.PartMut.{midOf, putMid}
 use Rattle.model.specs.Basics.{Span, before, place, sort}
-use Rattle.raw.specs.Bytes.{le, leAt, words, Words, Stands, tableBytes}
+use Rattle.raw.specs.Bytes.{le, words, Words, Stands, tableBytes}
 use Rattle.raw.proofs.Bytes.{sets-join, length-table, length-words, length-le, stands-left, stands-right, stands-stored, le-back}
 use Rattle.tables.specs.Table.{rowAt}
 use Rattle.tables.specs.Plain.{rowsFrom, rowsOf}
-use Rattle.tables.specs.declared.Row.{Row}
 use Rattle.tables.proofs.Rows.{rows-length}
 use Rattle.sorting.specs.Pairs.{pairWords, sortedBytesOf}
 use Rattle.sorting.proofs.Pairs.{length-pairWords, sorted-entries}

@@ -1,15 +1,14 @@
 -- The file as a whole: its sections joined are what the code stores one after the other, where they stand, and how long it is.
 use Prim.Native.Nat.{ℕ, zero, suc, _+_, _*_, _/_, _%_, _<_, _≤_}
 use mathlib.Core.Path.{_≡_, refl, ap, sym, _∙_}
-use mathlib.Core.List.{List, [], _∷_, _++_, append-assoc}
+use mathlib.Core.List.{List, [], _++_, append-assoc}
 use native.Mathlib.Nat.{mul-mod-right}
 use native.Mathlib.Omega.{arith}
-use lib.ListN.{length, take, replicate, length-append}
+use lib.ListN.{length, take, length-append}
 use lib.Seq.{sets, length-take-le}
 use Rattle.model.specs.Basics.{sort}
 use Rattle.raw.specs.Bytes.{Stands, tableBytes}
 use Rattle.raw.specs.Rows.{versionInfoBytes, headerBytes}
-use Rattle.raw.specs.declared.Header.{Header}
 use Rattle.raw.proofs.Bytes.{sets-join, length-table, stands-left, stands-right, stands-between}
 use Rattle.raw.proofs.Rows.{length-version-info, length-header, length-range}
 use Rattle.tables.specs.Plain.{rowsOf}

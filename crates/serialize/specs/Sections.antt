@@ -1,5 +1,5 @@
 -- The sections of the written file: rows of the lent tables as rows of the file. Document 01 "Rows" and "Writer"; writer.rs, `serialize`. For any content of the tables.
-use Prim.Native.Nat.{ℕ, zero, suc, _+_, _*_, _-_, _%_}
+use Prim.Native.Nat.{ℕ, zero, suc, _+_, _-_, _%_}
 use mathlib.Core.Bool.{cond}
 use mathlib.Core.List.{List, [], _∷_, _++_}
 use lib.Dec.{ltb}

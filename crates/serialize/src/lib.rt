@@ -28,6 +28,106 @@ pub struct Written {
     pub len: usize,
 }
 
+// The file of what was converted: its length, and its bytes at the front of the output. The converter is as it was, and may write again.
+pub fn serialize(
+    converter: Converter,
+    string_bytes: &[u8],
+    strings: &[u32],
+    files: &[u32],
+    functions: &[u32],
+    call_locations: &[u32],
+    ranges: &[u32],
+    out: &mut [u8],
+) -> Written
+    ensures { λ r. ⌜ wrote (r .code) (r .len) (now (out .exit)) ≡ serializeOf converter (memory (now («string_bytes» .entry)) (now (strings .entry)) (now (files .entry)) (now (functions .entry)) (now («call_locations» .entry)) (now (ranges .entry))) (now (out .entry)) ⌝ }
+{
+    let state = converter.state;
+    if !converter.open {
+        return Written { code: 19, len: 0 };
+    }
+    if !steps::fits(
+        state,
+        string_bytes,
+        strings,
+        files,
+        functions,
+        call_locations,
+        ranges,
+    ) {
+        return Written { code: 19, len: 0 };
+    }
+    let last = state.last_addr;
+    let end = vacant_end(last, ranges, state.ranges);
+    let all = num_ranges(state.ranges, end);
+    let at = lay_out(state, all);
+    let len = at.len;
+    if out.len() < len {
+        return Written { code: 18, len: 0 };
+    }
+    write_sections(
+        out,
+        converter,
+        end,
+        all,
+        string_bytes,
+        files,
+        functions,
+        call_locations,
+        ranges,
+    );
+    Written { code: 0, len }
+}
+
+// The file, from the front of the output on. `end` is the sentinel, if there is one, and `all` the number of ranges with it.
+fn write_sections(
+    out: &mut [u8],
+    converter: Converter,
+    end: LastAddr,
+    all: u32,
+    string_bytes: &[u8],
+    files: &[u32],
+    functions: &[u32],
+    call_locations: &[u32],
+    ranges: &[u32],
+)
+    requires { ⌜ Ready converter (now ranges) end all (length (now «string_bytes»)) (length (now out)) ⌝ }
+    ensures { λ _. ⌜ ((i : List ℕ) → now (out .exit) ≡ sets (now (out .entry)) 0 (written-file converter (memory (now («string_bytes» .entry)) i (now (files .entry)) (now (functions .entry)) (now («call_locations» .entry)) (now (ranges .entry))))) ⌝ }
+{
+    let state = converter.state;
+    let at = lay_out(state, all);
+    write_head(out, converter, all);
+    write_files(out, 80, files, state.files);
+    write_functions(out, at.functions, functions, state.functions);
+    write_call_locations(out, at.call_locations, call_locations, state.call_locations);
+    write_sorted(out, at.locations, ranges, state.ranges, end, all);
+    write_padding(out, at.padding, all);
+    write_texts(out, at.texts, string_bytes, state.string_bytes);
+}
+
+// The last end, where it is vacant among the ranges.
+fn vacant_end(last: LastAddr, ranges: &[u32], count: u32) -> LastAddr
+    ensures { λ r. ⌜ r ≡ vacant-end last (now (ranges .entry)) count ⌝ }
+{
+    match last {
+        LastAddr::Unset => LastAddr::Unset,
+        LastAddr::Set(a) => match tables::ranges::get(ranges, count, a) {
+            Found::Absent => LastAddr::Set(a),
+            Found::At(_) => LastAddr::Unset,
+        },
+    }
+}
+
+// How many ranges the file has: the sentinel is one more.
+fn num_ranges(count: u32, end: LastAddr) -> u32
+    requires { ⌜ count ≤ 16777216 ⌝ }
+    ensures { λ r. ⌜ r ≡ count + length (sentinel end count) ⌝ }
+{
+    match end {
+        LastAddr::Unset => count,
+        LastAddr::Set(_) => count + 1,
+    }
+}
+
 // Where the sections begin, and the file's length. The files begin at 80.
 struct Layout {
     functions: usize,
@@ -36,6 +136,61 @@ struct Layout {
     padding: usize,
     texts: usize,
     len: usize,
+}
+
+// The layout of a file with `all` ranges.
+fn lay_out(state: State, all: u32) -> Layout
+    ensures { λ r. ⌜ r ≡ layout-of state all ⌝ }
+{
+    let n = all as usize;
+    let functions = 80 + (state.files as usize) * 24;
+    let call_locations = functions + (state.functions as usize) * 16;
+    let locations = call_locations + (state.call_locations as usize) * 16;
+    let padding = locations + n * 16 + n * 4;
+    let texts = padding + n % 2 * 4;
+    let len = texts + (state.string_bytes as usize);
+    Layout {
+        functions,
+        call_locations,
+        locations,
+        padding,
+        texts,
+        len,
+    }
+}
+
+// Magic, version and header of a file with `all` ranges.
+fn write_head(out: &mut [u8], converter: Converter, all: u32)
+    requires { ⌜ converter .state .«call_locations» + all < 4294967296 ⌝ }
+    ensures { λ _. ⌜ now (out .exit) ≡ sets (now (out .entry)) 0 (versionInfoBytes version-info ++ headerBytes (header-of converter all)) ⌝ }
+{
+    let state = converter.state;
+    let num_source_locations = state.call_locations + all;
+    let debug_id = converter.debug_id;
+    let reserved = [0u8; 14];
+    raw::write_version_info(
+        out,
+        0,
+        VersionInfo {
+            magic: raw::SYMCACHE_MAGIC,
+            version: 9,
+        },
+    );
+    raw::write_header(
+        out,
+        8,
+        Header {
+            debug_id,
+            arch: converter.arch,
+            num_files: state.files,
+            num_functions: state.functions,
+            num_source_locations,
+            num_ranges: all,
+            string_bytes: state.string_bytes,
+            variable_header: 0,
+            reserved,
+        },
+    );
 }
 
 // `count` file rows from `at` on.
@@ -106,6 +261,19 @@ fn write_call_locations(out: &mut [u8], at: usize, call_locations: &[u32], count
     }
 }
 
+// The locations of the ranges from `at` on and then their starts, ascending. The entries are sorted in the second half of the room for the locations.
+fn write_sorted(out: &mut [u8], at: usize, ranges: &[u32], count: u32, end: LastAddr, all: u32)
+    requires { ⌜ (all ≡ count + length (sentinel end count)) × (at + all * 20 ≤ length (now out)) ⌝ }
+    ensures { λ _. ⌜ now (out .exit) ≡ sets (now (out .entry)) at (range-sections (now (ranges .entry)) count (sort (entries 0 (rowsOf (now (ranges .entry)) count) ++ sentinel end count))) ⌝ }
+{
+    let entries = at + (all as usize) * 8;
+    let starts = at + (all as usize) * 16;
+    write_entries(out, entries, ranges, count);
+    write_sentinel(out, entries + (count as usize) * 8, end, count);
+    sorting::sort_entries(&mut out[entries..starts]);
+    write_ranges(out, at, ranges, count, all);
+}
+
 // An entry: a range's start and its row number, eight bytes.
 fn write_entry(out: &mut [u8], at: usize, start: u32, row: u32)
     requires { ⌜ at + 8 ≤ length (now out) ⌝ }
@@ -128,20 +296,15 @@ fn write_entries(out: &mut [u8], at: usize, ranges: &[u32], count: u32)
     }
 }
 
-// The location of an entry: the sentinel's is the empty mapping.
-fn entry_location(ranges: &[u32], count: u32, start: u32, row: u32) -> SourceLocation
-    ensures { λ r. ⌜ r ≡ entry-location (now (ranges .entry)) count (record { from = start; to = row }) ⌝ }
+// The sentinel's entry, if there is one.
+fn write_sentinel(out: &mut [u8], at: usize, end: LastAddr, count: u32)
+    requires { ⌜ at + 8 * length (sentinel end count) ≤ length (now out) ⌝ }
+    ensures { λ _. ⌜ (now (out .exit) ≡ sets (now (out .entry)) at (tableBytes entry-row (sentinel end count))) × Words (pairWords (sentinel end count)) ⌝ }
 {
-    if row < count {
-        let r = tables::row_at(ranges, row);
-        return SourceLocation {
-            file_idx: r.b,
-            line: r.c,
-            function_idx: r.d,
-            inlined_into_idx: r.e,
-        };
+    match end {
+        LastAddr::Unset => {}
+        LastAddr::Set(a) => write_entry(out, at, a, count),
     }
-    SourceLocation::NO_SOURCE_LOCATION
 }
 
 // The locations of the ranges from `at` on, then their starts, in the order of the entries. There are `all` of them, in the second half of the room for
@@ -164,52 +327,20 @@ fn write_ranges(out: &mut [u8], at: usize, ranges: &[u32], count: u32, all: u32)
     }
 }
 
-// The last end, where it is vacant among the ranges.
-fn vacant_end(last: LastAddr, ranges: &[u32], count: u32) -> LastAddr
-    ensures { λ r. ⌜ r ≡ vacant-end last (now (ranges .entry)) count ⌝ }
+// The location of an entry: the sentinel's is the empty mapping.
+fn entry_location(ranges: &[u32], count: u32, start: u32, row: u32) -> SourceLocation
+    ensures { λ r. ⌜ r ≡ entry-location (now (ranges .entry)) count (record { from = start; to = row }) ⌝ }
 {
-    match last {
-        LastAddr::Unset => LastAddr::Unset,
-        LastAddr::Set(a) => match tables::ranges::get(ranges, count, a) {
-            Found::Absent => LastAddr::Set(a),
-            Found::At(_) => LastAddr::Unset,
-        },
+    if row < count {
+        let r = tables::row_at(ranges, row);
+        return SourceLocation {
+            file_idx: r.b,
+            line: r.c,
+            function_idx: r.d,
+            inlined_into_idx: r.e,
+        };
     }
-}
-
-// How many ranges the file has: the sentinel is one more.
-fn num_ranges(count: u32, end: LastAddr) -> u32
-    requires { ⌜ count ≤ 16777216 ⌝ }
-    ensures { λ r. ⌜ r ≡ count + length (sentinel end count) ⌝ }
-{
-    match end {
-        LastAddr::Unset => count,
-        LastAddr::Set(_) => count + 1,
-    }
-}
-
-// The sentinel's entry, if there is one.
-fn write_sentinel(out: &mut [u8], at: usize, end: LastAddr, count: u32)
-    requires { ⌜ at + 8 * length (sentinel end count) ≤ length (now out) ⌝ }
-    ensures { λ _. ⌜ (now (out .exit) ≡ sets (now (out .entry)) at (tableBytes entry-row (sentinel end count))) × Words (pairWords (sentinel end count)) ⌝ }
-{
-    match end {
-        LastAddr::Unset => {}
-        LastAddr::Set(a) => write_entry(out, at, a, count),
-    }
-}
-
-// The locations of the ranges from `at` on and then their starts, ascending. The entries are sorted in the second half of the room for the locations.
-fn write_sorted(out: &mut [u8], at: usize, ranges: &[u32], count: u32, end: LastAddr, all: u32)
-    requires { ⌜ (all ≡ count + length (sentinel end count)) × (at + all * 20 ≤ length (now out)) ⌝ }
-    ensures { λ _. ⌜ now (out .exit) ≡ sets (now (out .entry)) at (range-sections (now (ranges .entry)) count (sort (entries 0 (rowsOf (now (ranges .entry)) count) ++ sentinel end count))) ⌝ }
-{
-    let entries = at + (all as usize) * 8;
-    let starts = at + (all as usize) * 16;
-    write_entries(out, entries, ranges, count);
-    write_sentinel(out, entries + (count as usize) * 8, end, count);
-    sorting::sort_entries(&mut out[entries..starts]);
-    write_ranges(out, at, ranges, count, all);
+    SourceLocation::NO_SOURCE_LOCATION
 }
 
 // Zeros from the end of so many range starts up to a multiple of 8: four or none.
@@ -232,134 +363,4 @@ fn write_texts(out: &mut [u8], at: usize, texts: &[u8], n: u32)
         out[at + i] = texts[i];
         i += 1;
     }
-}
-
-// The layout of a file with `all` ranges.
-fn lay_out(state: State, all: u32) -> Layout
-    ensures { λ r. ⌜ r ≡ layout-of state all ⌝ }
-{
-    let n = all as usize;
-    let functions = 80 + (state.files as usize) * 24;
-    let call_locations = functions + (state.functions as usize) * 16;
-    let locations = call_locations + (state.call_locations as usize) * 16;
-    let padding = locations + n * 16 + n * 4;
-    let texts = padding + n % 2 * 4;
-    let len = texts + (state.string_bytes as usize);
-    Layout {
-        functions,
-        call_locations,
-        locations,
-        padding,
-        texts,
-        len,
-    }
-}
-
-// Magic, version and header of a file with `all` ranges.
-fn write_head(out: &mut [u8], converter: Converter, all: u32)
-    requires { ⌜ converter .state .«call_locations» + all < 4294967296 ⌝ }
-    ensures { λ _. ⌜ now (out .exit) ≡ sets (now (out .entry)) 0 (versionInfoBytes version-info ++ headerBytes (header-of converter all)) ⌝ }
-{
-    let state = converter.state;
-    let debug_id = converter.debug_id;
-    let reserved = [0u8; 14];
-    raw::write_version_info(
-        out,
-        0,
-        VersionInfo {
-            magic: raw::SYMCACHE_MAGIC,
-            version: 9,
-        },
-    );
-    raw::write_header(
-        out,
-        8,
-        Header {
-            debug_id,
-            arch: converter.arch,
-            num_files: state.files,
-            num_functions: state.functions,
-            num_source_locations: state.call_locations + all,
-            num_ranges: all,
-            string_bytes: state.string_bytes,
-            variable_header: 0,
-            reserved,
-        },
-    );
-}
-
-// The file, from the front of the output on. `end` is the sentinel, if there is one, and `all` the number of ranges with it.
-fn write_sections(
-    out: &mut [u8],
-    converter: Converter,
-    end: LastAddr,
-    all: u32,
-    string_bytes: &[u8],
-    files: &[u32],
-    functions: &[u32],
-    call_locations: &[u32],
-    ranges: &[u32],
-)
-    requires { ⌜ Ready converter (now ranges) end all (length (now «string_bytes»)) (length (now out)) ⌝ }
-    ensures { λ _. ⌜ ((i : List ℕ) → now (out .exit) ≡ sets (now (out .entry)) 0 (written-file converter (memory (now («string_bytes» .entry)) i (now (files .entry)) (now (functions .entry)) (now («call_locations» .entry)) (now (ranges .entry))))) ⌝ }
-{
-    let state = converter.state;
-    let at = lay_out(state, all);
-    write_head(out, converter, all);
-    write_files(out, 80, files, state.files);
-    write_functions(out, at.functions, functions, state.functions);
-    write_call_locations(out, at.call_locations, call_locations, state.call_locations);
-    write_sorted(out, at.locations, ranges, state.ranges, end, all);
-    write_padding(out, at.padding, all);
-    write_texts(out, at.texts, string_bytes, state.string_bytes);
-}
-
-// The file of what was converted: its length, and its bytes at the front of the output. The converter is as it was, and may write again.
-pub fn serialize(
-    converter: Converter,
-    string_bytes: &[u8],
-    strings: &[u32],
-    files: &[u32],
-    functions: &[u32],
-    call_locations: &[u32],
-    ranges: &[u32],
-    out: &mut [u8],
-) -> Written
-    ensures { λ r. ⌜ wrote (r .code) (r .len) (now (out .exit)) ≡ serializeOf converter (memory (now («string_bytes» .entry)) (now (strings .entry)) (now (files .entry)) (now (functions .entry)) (now («call_locations» .entry)) (now (ranges .entry))) (now (out .entry)) ⌝ }
-{
-    let state = converter.state;
-    if !converter.open {
-        return Written { code: 19, len: 0 };
-    }
-    if !steps::fits(
-        state,
-        string_bytes,
-        strings,
-        files,
-        functions,
-        call_locations,
-        ranges,
-    ) {
-        return Written { code: 19, len: 0 };
-    }
-    let last = state.last_addr;
-    let end = vacant_end(last, ranges, state.ranges);
-    let all = num_ranges(state.ranges, end);
-    let at = lay_out(state, all);
-    let len = at.len;
-    if out.len() < len {
-        return Written { code: 18, len: 0 };
-    }
-    write_sections(
-        out,
-        converter,
-        end,
-        all,
-        string_bytes,
-        files,
-        functions,
-        call_locations,
-        ranges,
-    );
-    Written { code: 0, len }
 }

@@ -1,5 +1,4 @@
 -- An answer has one meaning and one form: two refusals with the same number and counts are the same.
-use Prim.Native.Nat.{ℕ}
 use mathlib.Core.Path.{_≡_, refl, ap, sym, _∙_}
 use mathlib.Core.Bool.{cond}
 use lib.Dec.{eqb}
@@ -7,7 +6,7 @@ use Rattle.symcache.specs.declared.ErrorKind.{ErrorKind}
 use Rattle.symcache.specs.declared.ErrorKind.the-variants as kind
 use Rattle.symcache.specs.declared.Parsed.{Parsed}
 use Rattle.symcache.specs.declared.Parsed.the-variants as parsed
-use Rattle.symcache.specs.Answers.{Refusal, refusalOf, Answer, gives, refuses, parseAnswer}
+use Rattle.symcache.specs.Answers.{Refusal, refusalOf, parseAnswer}
 
 -- the case that a refusal is of
 unfoldable pub kindOf : Refusal → ErrorKind

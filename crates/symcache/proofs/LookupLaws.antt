@@ -1,23 +1,20 @@
 -- Laws that the functions of src/lookup.rt cite.
 use Prim.Native.Nat.{ℕ, zero, suc, _+_, _*_, _-_, _≤_, _<_}
-use mathlib.Core.Path.{_≡_, refl, ap, sym, _∙_}
+use mathlib.Core.Path.{_≡_, refl}
 use mathlib.Core.List.{List}
-use mathlib.Core.Option.{Option, none, some}
-use mathlib.Core.Bool.{Bool, true, false, cond, _&&_, _||_}
+use mathlib.Core.Option.{none, some}
+use mathlib.Core.Bool.{Bool, true, false, _||_}
 use native.Mathlib.Omega.{arith}
 use native.Mathlib.Numerals.{add-one}
-use lib.Dec.{ltb, leb, eqb}
-use lib.ListN.{length}
-use borrow.Author.Tests.{lt-ltb, le-ltb, le-leb, lt-leb, eq-eqb, ne-eqb, leb-false}
-use Rattle.raw.specs.declared.Function.{Function}
-use Rattle.raw.specs.declared.File.{File}
+use lib.Dec.{leb, eqb}
+use borrow.Author.Tests.{lt-ltb, le-ltb, eq-eqb, ne-eqb, leb-false}
 use Rattle.raw.specs.declared.SourceLocation.{SourceLocation}
-use Rattle.raw.specs.Rows.{max32, functionAt, fileAt, locationAt, isNoSourceLocation}
+use Rattle.raw.specs.Rows.{max32, functionAt, isNoSourceLocation}
 use Rattle.symcache.specs.declared.SymCache.{SymCache}
 use Rattle.symcache.specs.declared.lookup.FrameFile.{FrameFile}
 use Rattle.symcache.specs.declared.lookup.SourceLocations.{SourceLocations}
 use Rattle.symcache.specs.declared.lookup.Frame.{Frame}
-use Rattle.symcache.specs.Answers.{Refusal, Answer, gives, refuses, andThen, NextFunction}
+use Rattle.symcache.specs.Answers.{Refusal, Answer, gives, refuses, andThen}
 use Rattle.symcache.specs.Lookup.{locationIn, functionIn, fileIn, entryOf, languageOf, fileOf, frameIn, met, ended, stepIn, foundAt, walkFrom, walkAt, nextFunction}
 
 neither : (a b : Bool) → (a || b) ≡ false → (a ≡ false) × (b ≡ false)

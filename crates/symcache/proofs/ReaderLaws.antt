@@ -1,13 +1,12 @@
 -- Laws of the reader.
-use Prim.Native.Nat.{ℕ, zero, suc, _+_, _*_, _-_, _≤_, _<_, _^_}
-use mathlib.Core.Path.{_≡_, refl, ap, sym, _∙_}
+use Prim.Native.Nat.{ℕ, zero, suc, _+_, _*_, _-_, _≤_, _<_}
+use mathlib.Core.Path.{_≡_, refl, sym, _∙_}
 use mathlib.Core.List.{List}
-use mathlib.Core.Bool.{Bool, true, false, cond, not, _&&_}
+use mathlib.Core.Bool.{Bool, true, false, not}
 use native.Mathlib.Omega.{arith}
 use native.Mathlib.Numerals.{add-one}
-use lib.Dec.{ltb, leb, eqb}
 use lib.ListN.{length}
-use borrow.Author.Tests.{lt-ltb, le-ltb, ltb-true, ltb-false, eq-eqb, ne-eqb, not-false}
+use borrow.Author.Tests.{lt-ltb, le-ltb, ltb-false, eq-eqb, ne-eqb, not-false}
 use Rattle.raw.specs.declared.VersionInfo.{VersionInfo}
 use Rattle.raw.specs.declared.Header.{Header}
 use Rattle.raw.specs.Rows.{versionInfoAt, headerAt}
@@ -100,8 +99,15 @@ pub unexpected-bytes : (n : ℕ) (c : SymCache) (v f : ℕ) → c .files + 24 * 
     → refuses (record { number = 10; expected = c .«string_bytes»; found = f }) ≡ tested n c v
 unfolding tested refuseIf
 unexpected-bytes n c v f h₁ h₂ h₃ h₄ h₅ h₆ e =
-    rw (le-ltb n (c .files + 24 * c .«num_files») h₁, le-ltb n (c .functions + 16 * c .«num_functions») h₂, le-ltb n (c .«source_locations» + 16 * c .«num_source_locations») h₃,
-    le-ltb n (c .ranges + 4 * c .«num_ranges») h₄, le-ltb (c .«num_source_locations») (c .«num_ranges») h₅, lt-ltb n (c .strings + c .«string_bytes») h₆, e)
+    rw (
+      le-ltb n (c .files + 24 * c .«num_files») h₁,
+      le-ltb n (c .functions + 16 * c .«num_functions») h₂,
+      le-ltb n (c .«source_locations» + 16 * c .«num_source_locations») h₃,
+      le-ltb n (c .ranges + 4 * c .«num_ranges») h₄,
+      le-ltb (c .«num_source_locations») (c .«num_ranges») h₅,
+      lt-ltb n (c .strings + c .«string_bytes») h₆,
+      e,
+    )
 
 -- ── What an accepted file has ──
 
@@ -121,15 +127,17 @@ tested-within n d v c e =
     let (t₅, e₅) = passed _ _ _ c e₄ in
     let (t₆, e₆) = passed _ _ _ c e₅ in
     let (t₇, e₇) = passed _ _ _ c e₆ in
-    let same : d ≡ c = cc in
-    (same, rw (← same) (record {
-      files = ltb-false n (d .files + 24 * d .«num_files») t₁;
-      functions = ltb-false n (d .functions + 16 * d .«num_functions») t₂;
-      locations = ltb-false n (d .«source_locations» + 16 * d .«num_source_locations») t₃;
-      ranges = ltb-false n (d .ranges + 4 * d .«num_ranges») t₄;
-      fewer = ltb-false (d .«num_source_locations») (d .«num_ranges») t₅;
-      strings = ltb-false n (d .strings + d .«string_bytes») t₆;
-    }))
+    let same : d ≡ c = cc in (
+      same,
+      rw (← same) (record {
+        files = ltb-false n (d .files + 24 * d .«num_files») t₁;
+        functions = ltb-false n (d .functions + 16 * d .«num_functions») t₂;
+        locations = ltb-false n (d .«source_locations» + 16 * d .«num_source_locations») t₃;
+        ranges = ltb-false n (d .ranges + 4 * d .«num_ranges») t₄;
+        fewer = ltb-false (d .«num_source_locations») (d .«num_ranges») t₅;
+        strings = ltb-false n (d .strings + d .«string_bytes») t₆;
+      }),
+    )
 
 pub parsed-within : (s : List ℕ) (c : SymCache) → parsed s ≡ gives c → (layoutOf (headerAt s 8) ≡ c) × Within (length s) c
 unfolding parsed

@@ -1,19 +1,19 @@
 -- The binary search: it does not depend on its bound, and on ascending starts it ends at the greatest start at most the address.
 use Prim.Native.Nat.{ℕ, zero, suc, _+_, _*_, _/_, _-_, _≤_, _<_}
-use mathlib.Core.Path.{_≡_, refl, ap, sym, _∙_}
+use mathlib.Core.Path.{_≡_, refl, sym, _∙_}
 use mathlib.Core.List.{List}
 use mathlib.Core.Bool.{Bool, true, false, cond, _&&_}
 use mathlib.Core.Logic.{_⊎_, inl, inr, ⊎-elim}
 use native.Mathlib.Omega.{arith}
 use lib.Dec.{ltb, leb, eqb}
 use lib.ListN.{length}
-use borrow.Author.Tests.{lt-ltb, le-ltb, le-leb, lt-leb, ltb-true, ltb-false, leb-true, leb-false, eq-eqb, ne-eqb, eqb-false}
+use borrow.Author.Tests.{le-leb, lt-leb, ltb-true, ltb-false, leb-true, leb-false, eq-eqb, ne-eqb, eqb-false}
 use Rattle.raw.specs.Rows.{max32}
 use Rattle.symcache.specs.declared.SymCache.{SymCache}
 use Rattle.symcache.specs.Answers.{gives}
 use Rattle.symcache.specs.Reader.{startAt, ascendingFrom, ascending, opened, Within}
 use Rattle.symcache.proofs.ReaderLaws.{opened-has}
-use Rattle.symcache.specs.Lookup.{searchIn, foundAmong, usable, foundAt}
+use Rattle.symcache.specs.Lookup.{countIn, searchIn, foundAmong, usable, foundAt}
 
 -- cases
 meets : (i j : ℕ) → i ≤ j → (i ≡ j) ⊎ (i < j)
@@ -26,6 +26,13 @@ meets i j h = go (ltb i j) refl
 more : (n : ℕ) → (n ≡ 0 → ⊥) → 0 < n
 more zero h = absurd (h refl)
 more (suc n) h = omega arith
+
+below-or-past : (i j : ℕ) → (i < j) ⊎ (j ≤ i)
+below-or-past i j = go (ltb i j) refl
+  where
+    go : (t : Bool) → ltb i j ≡ t → (i < j) ⊎ (j ≤ i)
+    go true e = inl (ltb-true i j e)
+    go false e = inr (ltb-false i j e)
 
 zero-or-more : (n : ℕ) → (n ≡ 0) ⊎ (0 < n)
 zero-or-more zero = inl refl
@@ -46,27 +53,30 @@ both false b e = let z : _≡_ {A = ℕ} 0 1 = cc in absurd (omega arith)
 -- ── The halvings ──
 
 module _ (f : ℕ → ℕ) (a : ℕ) where
-  -- nothing is left to halve
-  pub search-done : (k b n : ℕ) → n ≤ 1 → searchIn f a k b n ≡ b
+  -- the last few are counted
+  abbrev few : ℕ → ℕ → ℕ
+  few b n = b + countIn f a (b + 1) (n - 1)
+
+  pub search-done : (k b n : ℕ) → n ≤ 8 → searchIn f a k b n ≡ few b n
   unfolding searchIn
   search-done zero b n h = refl
-  search-done (suc k) b n h = rw (le-leb n 1 h)
+  search-done (suc k) b n h = rw (le-leb n 8 h)
 
-  search-stops : (b n : ℕ) → searchIn f a zero b n ≡ b
+  search-stops : (b n : ℕ) → searchIn f a zero b n ≡ few b n
   unfolding searchIn
   search-stops b n = refl
 
   -- one halving
-  pub search-half : (k b n : ℕ) → 1 < n → searchIn f a (suc k) b n ≡ searchIn f a k (cond (leb (f (b + n / 2)) a) (b + n / 2) b) (n - n / 2)
+  pub search-half : (k b n : ℕ) → 8 < n → searchIn f a (suc k) b n ≡ searchIn f a k (cond (leb (f (b + n / 2)) a) (b + n / 2) b) (n - n / 2)
   unfolding searchIn
-  search-half k b n h = rw (lt-leb n 1 h)
+  search-half k b n h = rw (lt-leb n 8 h)
 
-  one-or-more : (n : ℕ) → (n ≤ 1) ⊎ (1 < n)
-  one-or-more n = go (leb n 1) refl
+  few-or-more : (n : ℕ) → (n ≤ 8) ⊎ (8 < n)
+  few-or-more n = go (leb n 8) refl
     where
-      go : (t : Bool) → leb n 1 ≡ t → (n ≤ 1) ⊎ (1 < n)
-      go true e = inl (leb-true n 1 e)
-      go false e = inr (leb-false n 1 e)
+      go : (t : Bool) → leb n 8 ≡ t → (n ≤ 8) ⊎ (8 < n)
+      go true e = inl (leb-true n 8 e)
+      go false e = inr (leb-false n 8 e)
 
   -- as many halvings as there are starts are enough
   pub search-enough : (k m b n : ℕ) → n ≤ k → n ≤ m → searchIn f a k b n ≡ searchIn f a m b n
@@ -75,21 +85,34 @@ module _ (f : ℕ → ℕ) (a : ℕ) where
   search-enough (suc k) (suc m) b n h g =
       ⊎-elim (λ l. search-done (suc k) b n l ∙ sym (search-done (suc m) b n l))
       (λ l. search-half k b n l ∙ (search-enough k m (cond (leb (f (b + n / 2)) a) (b + n / 2) b) (n - n / 2) (omega arith) (omega arith) ∙ sym (search-half m b n l)))
-      (one-or-more n)
+      (few-or-more n)
 
   -- one turn of the loop
-  turn : (b n b′ : ℕ) → 1 < n → cond (leb (f (b + n / 2)) a) (b + n / 2) b ≡ b′ → searchIn f a (n - n / 2) b′ (n - n / 2) ≡ searchIn f a n b n
+  turn : (b n b′ : ℕ) → 8 < n → cond (leb (f (b + n / 2)) a) (b + n / 2) b ≡ b′ → searchIn f a (n - n / 2) b′ (n - n / 2) ≡ searchIn f a n b n
   turn b zero b′ h e = absurd (omega arith)
   turn b (suc n) b′ h e =
       sym (search-half n b (suc n) h ∙ (rw e (search-enough n (suc n - suc n / 2) b′ (suc n - suc n / 2) (omega arith) (omega arith))))
 
-  pub turn-up : (b n : ℕ) → 1 < n → f (b + n / 2) ≤ a → searchIn f a (n - n / 2) (b + n / 2) (n - n / 2) ≡ searchIn f a n b n
+  pub turn-up : (b n : ℕ) → 8 < n → f (b + n / 2) ≤ a → searchIn f a (n - n / 2) (b + n / 2) (n - n / 2) ≡ searchIn f a n b n
   turn-up b n h l = turn b n (b + n / 2) h (rw (le-leb (f (b + n / 2)) a l))
 
-  pub turn-down : (b n : ℕ) → 1 < n → a < f (b + n / 2) → searchIn f a (n - n / 2) b (n - n / 2) ≡ searchIn f a n b n
+  pub turn-down : (b n : ℕ) → 8 < n → a < f (b + n / 2) → searchIn f a (n - n / 2) b (n - n / 2) ≡ searchIn f a n b n
   turn-down b n h l = turn b n b h (rw (lt-leb (f (b + n / 2)) a l))
 
-  -- ── Where it ends ──
+  -- the count: its beginning, one turn, its end
+  pub count-begins : (b n b′ n′ : ℕ) → b′ ≡ b → n′ ≡ n → 0 + countIn f a b′ n′ ≡ countIn f a b n
+  count-begins b n b′ n′ d e = rw (d, e) (omega arith)
+
+  pub count-turn : (b i n : ℕ) → i < n → cond (leb (f (b + i)) a) 1 0 + countIn f a (b + (i + 1)) (n - (i + 1)) ≡ countIn f a (b + i) (n - i)
+  unfolding countIn
+  count-turn b i n h =
+      let e : n - i ≡ suc (n - (i + 1)) = omega arith in
+      let d : b + (i + 1) ≡ suc (b + i) = omega arith in
+      rw (e, d)
+
+  pub count-done : (b i n : ℕ) → n ≤ i → countIn f a (b + i) (n - i) ≡ 0
+  unfolding countIn
+  count-done b i n h = let e : n - i ≡ zero = omega arith in rw e
 
   at-most-or-above : (i : ℕ) → (f i ≤ a) ⊎ (a < f i)
   at-most-or-above i = go (leb (f i) a) refl
@@ -98,26 +121,80 @@ module _ (f : ℕ → ℕ) (a : ℕ) where
       go true e = inl (leb-true (f i) a e)
       go false e = inr (leb-false (f i) a e)
 
+  -- ── Where it ends ──
+
   -- the search ends among the starts, at one at most the address or at the first, and every start after it lies above the address
   pub record Ended (m r : ℕ) : Type 0 where
     pub inside : r < m
     pub low : (f r ≤ a) ⊎ (r ≡ 0)
     pub above : (j : ℕ) → r < j → j < m → a < f j
 
+  -- k of the n starts from index i on are at most the address, and they come first
+  pub record Counted (i n k : ℕ) : Type 0 where
+    pub most : k ≤ n
+    pub low : (j : ℕ) → i ≤ j → j < i + k → f j ≤ a
+    pub above : (j : ℕ) → i + k ≤ j → j < i + n → a < f j
+
+  count-up : (n i : ℕ) → f i ≤ a → countIn f a i (suc n) ≡ suc (countIn f a (suc i) n)
+  unfolding countIn
+  count-up n i t = rw (le-leb (f i) a t) (omega arith)
+
+  count-down : (n i : ℕ) → a < f i → countIn f a i (suc n) ≡ countIn f a (suc i) n
+  unfolding countIn
+  count-down n i t = rw (lt-leb (f i) a t) (omega arith)
+
+  no-count : (i : ℕ) → countIn f a i zero ≡ 0
+  unfolding countIn
+  no-count i = refl
+
+  count-none : (n i : ℕ) → ((j : ℕ) → i ≤ j → j < i + n → a < f j) → countIn f a i n ≡ 0
+  count-none zero i h = no-count i
+  count-none (suc n) i h = count-down n i (h i (omega arith) (omega arith)) ∙ count-none n (suc i) (λ j x y. h j (omega arith) (omega arith))
+
+  counted-up : (n i k : ℕ) → f i ≤ a → Counted (suc i) n k → Counted i (suc n) (suc k)
+  counted-up n i k t C = record {
+    most = omega (arith, C .most);
+    low = λ j x y. ⊎-elim (λ z. rw (← z) t) (λ z. C .low j z (omega arith)) (meets i j x);
+    above = λ j x y. C .above j (omega arith) (omega arith);
+  }
+
+  counted-none : (n i : ℕ) → ((j : ℕ) → i ≤ j → j < i + n → a < f j) → Counted i n 0
+  counted-none n i h = record { most = omega arith; low = λ j x y. absurd (omega arith); above = λ j x y. h j (omega arith) y }
+
   module _ (m : ℕ) (climbs : (i j : ℕ) → i < j → j < m → f i < f j) where
+    from-above : (n i : ℕ) → i + n ≤ m → a < f i → (j : ℕ) → i ≤ j → j < i + n → a < f j
+    from-above n i h t j x y = ⊎-elim (λ z. rw (← z) t) (λ z. let w = climbs i j z (omega arith) in omega arith) (meets i j x)
+
+    counts : (n i : ℕ) → i + n ≤ m → Counted i n (countIn f a i n)
+    counts zero i h = rw (no-count i) (counted-none zero i (λ j x y. absurd (omega arith)))
+    counts (suc n) i h =
+        ⊎-elim (λ t. rw (count-up n i t) (counted-up n i (countIn f a (suc i) n) t (counts n (suc i) (omega arith))))
+        (λ t. rw (count-none (suc n) i (from-above (suc n) i h t)) (counted-none (suc n) i (from-above (suc n) i h t)))
+        (at-most-or-above i)
+
+    few-ends : (b n : ℕ) → 0 < n → b + n ≤ m → (f b ≤ a) ⊎ (b ≡ 0) → ((j : ℕ) → b + n ≤ j → j < m → a < f j) → Ended m (few b n)
+    few-ends b n p l low above = go (countIn f a (b + 1) (n - 1)) (counts (n - 1) (b + 1) (omega arith))
+      where
+        go : (k : ℕ) → Counted (b + 1) (n - 1) k → Ended m (b + k)
+        go k C = record {
+          inside = omega (arith, C .most);
+          low = ⊎-elim (λ z. let e : b + k ≡ b = omega arith in rw e low) (λ z. inl (C .low (b + k) (omega arith) (omega arith))) (zero-or-more k);
+          above = λ j x y. ⊎-elim (λ z. C .above j (omega arith) (omega arith)) (λ z. above j z y) (below-or-past j (b + n));
+        }
+
     later : (b n j : ℕ) → a < f (b + n / 2) → b + (n - n / 2) ≤ j → j < m → a < f j
     later b n j t x y = ⊎-elim (λ z. rw (← z) t) (λ z. let w = climbs (b + n / 2) j z y in omega arith) (meets (b + n / 2) j (omega arith))
 
     ends : (k b n : ℕ) → n ≤ k → 0 < n → b + n ≤ m → (f b ≤ a) ⊎ (b ≡ 0) → ((j : ℕ) → b + n ≤ j → j < m → a < f j) → Ended m (searchIn f a k b n)
     ends zero b n h p l low above = absurd (omega arith)
     ends (suc k) b n h p l low above =
-        ⊎-elim (λ z. rw (search-done (suc k) b n z) (record { inside = omega arith; low = low; above = λ j x y. above j (omega arith) y }))
+        ⊎-elim (λ z. rw (search-done (suc k) b n z) (few-ends b n p l low above))
         (λ z. rw (search-half k b n z)
         (⊎-elim
         (λ t. rw (le-leb (f (b + n / 2)) a t) (ends k (b + n / 2) (n - n / 2) (omega arith) (omega arith) (omega arith) (inl t) (λ j x y. above j (omega arith) y)))
         (λ t. rw (lt-leb (f (b + n / 2)) a t) (ends k b (n - n / 2) (omega arith) (omega arith) (omega arith) low (λ j x y. later b n j t x y)))
         (at-most-or-above (b + n / 2))))
-        (one-or-more n)
+        (few-or-more n)
 
     pub search-ends : 0 < m → Ended m (searchIn f a m 0 m)
     search-ends p = ends m 0 m (omega arith) p (omega arith) (inr refl) (λ j x y. absurd (omega arith))
@@ -175,17 +252,27 @@ found-none f m n a e g = go (zero-or-more n)
 
 -- ── Any content ──
 
+-- a count is at most what is counted
+pub count-most : (f : ℕ → ℕ) (a n i : ℕ) → countIn f a i n ≤ n
+unfolding countIn
+count-most f a zero i = omega arith
+count-most f a (suc n) i =
+    ⊎-elim (λ t. rw (le-leb (f i) a t) (omega (arith, count-most f a n (suc i)))) (λ t. rw (lt-leb (f i) a t) (omega (arith, count-most f a n (suc i)))) (at-most-or-above f a i)
+
+few-inside : (f : ℕ → ℕ) (a b n : ℕ) → 0 < n → b + countIn f a (b + 1) (n - 1) < b + n
+few-inside f a b n p = omega (arith, count-most f a (n - 1) (b + 1))
+
 -- the search ends among the starts
 pub search-inside : (f : ℕ → ℕ) (a k b n : ℕ) → 0 < n → searchIn f a k b n < b + n
-search-inside f a zero b n p = rw (search-stops f a b n) (omega arith)
+search-inside f a zero b n p = rw (search-stops f a b n) (few-inside f a b n p)
 search-inside f a (suc k) b n p =
-    ⊎-elim (λ z. rw (search-done f a (suc k) b n z) (omega arith))
+    ⊎-elim (λ z. rw (search-done f a (suc k) b n z) (few-inside f a b n p))
     (λ z. rw (search-half f a k b n z)
     (⊎-elim
     (λ t. rw (le-leb (f (b + n / 2)) a t) (omega (arith, search-inside f a k (b + n / 2) (n - n / 2) (omega arith))))
     (λ t. rw (lt-leb (f (b + n / 2)) a t) (omega (arith, search-inside f a k b (n - n / 2) (omega arith))))
     (at-most-or-above f a (b + n / 2))))
-    (one-or-more f a n)
+    (few-or-more f a n)
 
 none-among : (f : ℕ → ℕ) (m n a : ℕ) → n ≡ 0 → foundAmong f m n a ≡ max32
 unfolding foundAmong
@@ -247,8 +334,11 @@ usable-has n c e =
 pub usable-within : (n : ℕ) (c : SymCache) → Within n c → usable n c ≡ true
 unfolding usable
 usable-within n c w =
-    rw (le-leb (c .«num_ranges») (c .«num_source_locations») (w .fewer), le-leb (c .ranges + 4 * c .«num_ranges») n (w .ranges),
-    le-leb (c .«source_locations» + 16 * c .«num_source_locations») n (w .locations))
+    rw (
+      le-leb (c .«num_ranges») (c .«num_source_locations») (w .fewer),
+      le-leb (c .ranges + 4 * c .«num_ranges») n (w .ranges),
+      le-leb (c .«source_locations» + 16 * c .«num_source_locations») n (w .locations),
+    )
 
 -- what is found is a location of the table
 module _ (s : List ℕ) (c : SymCache) (a : ℕ) where

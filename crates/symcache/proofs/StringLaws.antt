@@ -1,8 +1,8 @@
 -- Laws that the functions of src/strings.rt cite.
 use Prim.Native.Nat.{ℕ, _+_, _*_, _-_, _≤_, _<_}
-use mathlib.Core.Path.{_≡_, refl, ap, sym, _∙_}
+use mathlib.Core.Path.{_≡_, _∙_}
 use mathlib.Core.List.{List, []}
-use mathlib.Core.Option.{Option, none, some}
+use mathlib.Core.Option.{none, some}
 use native.Mathlib.Omega.{arith}
 use lib.ListN.{length, take, drop, length-take, length-drop}
 use borrow.Author.Tests.{lt-ltb, le-ltb}
@@ -13,7 +13,7 @@ use Rattle.text.specs.declared.strings.Text.the-variants.{Absent, At}
 use Rattle.text.specs.Texts.{read-text, text-part}
 use Rattle.text.proofs.TextLaws.{text-within}
 use Rattle.symcache.specs.declared.SymCache.{SymCache}
-use Rattle.symcache.specs.Answers.{Refusal, Answer, gives, refuses, andThen}
+use Rattle.symcache.specs.Answers.{Refusal, gives, refuses, andThen}
 use Rattle.symcache.specs.Reader.{parsed}
 use Rattle.symcache.specs.Lookup.{functionIn}
 use Rattle.symcache.specs.Strings.{sectionOf, placed, gotString, orElse, stringOf, textOr, nameIn, nameOf}

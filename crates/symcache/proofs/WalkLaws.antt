@@ -1,12 +1,12 @@
 -- Every walk in every file ends, after at most as many frames as there are locations.
-use Prim.Native.Nat.{ℕ, zero, suc, _+_, _*_, _-_, _≤_, _<_}
-use mathlib.Core.Path.{_≡_, refl, ap, sym, _∙_}
+use Prim.Native.Nat.{ℕ, zero, suc, _+_, _-_, _≤_}
+use mathlib.Core.Path.{_≡_, refl, ap, sym}
 use mathlib.Core.List.{List, [], _∷_}
 use mathlib.Core.Option.{Option, none, some}
-use mathlib.Core.Bool.{Bool, true, false, cond, _&&_, _||_}
+use mathlib.Core.Bool.{Bool, true, false, cond, _||_}
 use native.Mathlib.Nat.{add-zero, add-suc}
 use native.Mathlib.Omega.{arith}
-use lib.Dec.{ltb, leb, eqb}
+use lib.Dec.{leb, eqb}
 use lib.ListN.{length}
 use borrow.Author.Tests.{le-leb}
 use Rattle.raw.specs.Rows.{max32}
@@ -26,8 +26,10 @@ module _ (s : List ℕ) (c : SymCache) where
   pub steps-end : (k : SourceLocations) → c .«num_source_locations» ≤ k .steps → stepIn s c k ≡ none
   unfolding stepIn ended
   steps-end k h =
-      rw (le-leb (c .«num_source_locations») (k .steps) h,
-      ends-there (eqb (k .current) max32) (leb (c .«num_source_locations») (k .current)) (met s c (k .current) (k .first) (k .steps)))
+      rw (
+        le-leb (c .«num_source_locations») (k .steps) h,
+        ends-there (eqb (k .current) max32) (leb (c .«num_source_locations») (k .current)) (met s c (k .current) (k .first) (k .steps)),
+      )
 
   -- each step is counted
   pub step-counts : (k : SourceLocations) (t : Framed) → stepIn s c k ≡ some t → t .next .steps ≡ k .steps + 1

@@ -2,9 +2,9 @@
 use Prim.Native.Nat.{ℕ, zero, suc, _+_, _*_, _/_, _-_}
 use mathlib.Core.List.{List, [], _∷_}
 use mathlib.Core.Option.{Option, none, some}
-use mathlib.Core.Bool.{Bool, true, false, cond, not, _&&_, _||_}
+use mathlib.Core.Bool.{Bool, false, cond, _&&_, _||_}
 use lib.Dec.{eqb, ltb, leb}
-use lib.ListN.{length, take, drop}
+use lib.ListN.{length}
 use Rattle.raw.specs.declared.File.{File}
 use Rattle.raw.specs.declared.Function.{Function}
 use Rattle.raw.specs.declared.SourceLocation.{SourceLocation}
@@ -21,11 +21,16 @@ use Rattle.symcache.specs.Reader.{parsed, opened, startAt}
 
 -- ── The search ──
 
--- the last halvings of a binary search for `a`: `n` starts from index `b` on are left; `k` bounds the number of halvings
+-- how many of the n starts from index i on are at most the address
+unfoldable pub countIn : (ℕ → ℕ) → ℕ → ℕ → ℕ → ℕ
+countIn f a i zero = 0
+countIn f a i (suc n) = cond (leb (f i) a) 1 0 + countIn f a (suc i) n
+
+-- a binary search for `a` among `n` starts from index `b` on: halved as long as more than 8 are left, which are counted; `k` bounds the number of halvings
 unfoldable pub searchIn : (ℕ → ℕ) → ℕ → ℕ → ℕ → ℕ → ℕ
-searchIn f a zero b n = b
+searchIn f a zero b n = b + countIn f a (b + 1) (n - 1)
 searchIn f a (suc k) b n =
-    cond (leb n 1) b (searchIn f a k (cond (leb (f (b + n / 2)) a) (b + n / 2) b) (n - n / 2))
+    cond (leb n 8) (b + countIn f a (b + 1) (n - 1)) (searchIn f a k (cond (leb (f (b + n / 2)) a) (b + n / 2) b) (n - n / 2))
 
 -- the location of the start that the search ends at, among `n` starts that belong to the last `n` of `m` locations; MAX where that start lies above the address
 unfoldable pub foundAmong : (ℕ → ℕ) → ℕ → ℕ → ℕ → ℕ

@@ -1,7 +1,7 @@
 -- The reader: document 01 "Reader" and numbers 1 to 12; `SymCache::parse` of v9/mod.rs over what follows the first eight bytes.
 use Prim.Native.Nat.{ℕ, zero, suc, _+_, _*_, _/_, _-_, _≤_, _<_, _^_}
 use mathlib.Core.List.{List}
-use mathlib.Core.Bool.{Bool, true, false, not, _&&_}
+use mathlib.Core.Bool.{Bool, true, not, _&&_}
 use lib.Dec.{eqb, ltb}
 use lib.ListN.{length}
 use Rattle.raw.specs.declared.Header.{Header}

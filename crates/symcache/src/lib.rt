@@ -49,7 +49,10 @@ impl ErrorKind {
             ErrorKind::InvalidFunctions => 7,
             ErrorKind::InvalidSourceLocations => 8,
             ErrorKind::InvalidRanges => 9,
-            ErrorKind::UnexpectedStringBytes { expected: _, found: _ } => 10,
+            ErrorKind::UnexpectedStringBytes {
+                expected: _,
+                found: _,
+            } => 10,
             ErrorKind::InvalidVariableHeader => 11,
             ErrorKind::UnorderedRanges => 12,
         }

@@ -1,17 +1,18 @@
 // Looking addresses up: v9/lookup.rs.
 ghost use mathlib.Core.Path.{_≡_};
 ghost use Prim.Native.Nat.{_+_, _*_, _-_, _≤_, _<_, _^_};
+ghost use mathlib.Core.Bool.{cond};
 ghost use lib.Dec.{leb};
 ghost use lib.ListN.{length};
 ghost use Rattle.symcache.specs.Answers.{gives, lookupAnswer, stepAnswer, fileAnswer, functionAnswer, functionsAnswer, filesAnswer};
 ghost use Rattle.symcache.specs.Reader.{startAt, Within};
-ghost use Rattle.symcache.specs.Lookup.{searchIn, usable, foundAt, locationIn, functionIn, fileIn, walkFrom, walkAt, lookedUp, met, entryOf, languageOf, fileOf, frameIn, ended, stepIn, stepped, gotFile, gotFunction, nextFunction, functionsNext, nextFile, filesNext};
-use raw::File;
-use raw::Function;
-use raw::SourceLocation;
+ghost use Rattle.symcache.specs.Lookup.{countIn, searchIn, usable, foundAt, locationIn, functionIn, fileIn, walkFrom, walkAt, lookedUp, met, entryOf, languageOf, fileOf, frameIn, ended, stepIn, stepped, gotFile, gotFunction, nextFunction, functionsNext, nextFile, filesNext};
 use super::ErrorKind;
 use super::Parsed;
 use super::SymCache;
+use raw::File;
+use raw::Function;
+use raw::SourceLocation;
 
 // A walk from a source location to the one into which it was inlined, and so on: where it began, where it is, and how many steps it made.
 pub struct SourceLocations {
@@ -67,7 +68,11 @@ pub struct Functions {
 }
 
 pub enum FunctionStep {
-    Function { index: u32, function: Function, next: Functions },
+    Function {
+        index: u32,
+        function: Function,
+        next: Functions,
+    },
     End,
     Refused(ErrorKind),
 }
@@ -85,14 +90,38 @@ pub enum FileStep {
 
 // The search
 
+fn at_most(start: u32, addr: u32) -> usize
+    ensures { λ r. ⌜ (r ≡ cond (leb start addr) 1 0) × (r ≤ 1) ⌝ }
+{
+    if start <= addr {
+        return 1;
+    }
+    0
+}
+
+// How many of the `n` starts from index `from` on are at most `addr`.
+fn count(s: &[u8], ranges: usize, from: usize, n: usize, addr: u32) -> usize
+    requires { ⌜ ranges + 4 * (from + n) ≤ length (now s) ⌝ }
+    ensures { λ r. ⌜ (r ≡ countIn (startAt (now (s .entry)) ranges) addr from n) × (r ≤ n) ⌝ }
+{
+    let mut found: usize = 0;
+    let mut i: usize = 0;
+    while i < n {
+        found += at_most(super::range_start(s, ranges, from + i), addr);
+        i += 1;
+    }
+    found
+}
+
 // The index at which a binary search for `addr` among `n` starts ends: the last of those at most `addr`, or 0.
+// The last few are counted: there a test can't be foreseen, and nothing has to be fetched.
 fn search(s: &[u8], ranges: usize, n: usize, addr: u32) -> usize
     requires { ⌜ (0 < n) × (ranges + 4 * n ≤ length (now s)) ⌝ }
     ensures { λ r. ⌜ (r ≡ searchIn (startAt (now (s .entry)) ranges) addr n 0 n) × (r < n) ⌝ }
 {
     let mut base: usize = 0;
     let mut size = n;
-    while 1 < size {
+    while 8 < size {
         let half = size / 2;
         let mid = base + half;
         if super::range_start(s, ranges, mid) <= addr {
@@ -100,7 +129,7 @@ fn search(s: &[u8], ranges: usize, n: usize, addr: u32) -> usize
         }
         size -= half;
     }
-    base
+    base + count(s, ranges, base + 1, size - 1, addr)
 }
 
 // Whether `n` bytes from `at` on lie in `len`.
@@ -121,7 +150,11 @@ fn is_usable(len: usize, c: SymCache) -> bool
         return false;
     }
     if lies_in(len, c.ranges, 4 * (c.num_ranges as usize)) {
-        return lies_in(len, c.source_locations, 16 * (c.num_source_locations as usize));
+        return lies_in(
+            len,
+            c.source_locations,
+            16 * (c.num_source_locations as usize),
+        );
     }
     false
 }

@@ -2,9 +2,9 @@
 ghost use mathlib.Core.Path.{_≡_};
 ghost use Rattle.text.specs.Texts.{read-text};
 ghost use Rattle.symcache.specs.Strings.{stringAnswer, gotString, stringOf, textOr, nameOf};
-use text::strings::Text;
 use super::ErrorKind;
 use super::Parsed;
+use text::strings::Text;
 
 // Where a text lies in the file.
 pub enum GotString {

@@ -79,7 +79,17 @@ fn push_lines(s: &mut [u32], at: usize, lines64: &[u64], lines32: &[u32], first:
 }
 
 // The inlinee ranges of a function at `depth`: the lines of the rows one deeper, among the rows from i on up to the next that is not deeper. As pairs from word `at` on; answers how many.
-pub(crate) fn gather(s: &mut [u32], at: usize, functions64: &[u64], functions32: &[u32], lines64: &[u64], lines32: &[u32], i: usize, first: usize, depth: u32) -> usize
+pub(crate) fn gather(
+    s: &mut [u32],
+    at: usize,
+    functions64: &[u64],
+    functions32: &[u32],
+    lines64: &[u64],
+    lines32: &[u32],
+    i: usize,
+    first: usize,
+    depth: u32,
+) -> usize
     requires { ⌜ (at + length (kid-spans (columns (now functions64) (now functions32) (now lines64) (now lines32) []) depth i first) * 2 ≤ length (now s)) × (i ≤ length (now functions64) / 2) × (depth < 65536) × (first ≡ firstLine (columns (now functions64) (now functions32) (now lines64) (now lines32) []) i) × LinesWithin (now functions64) (now functions32) (now lines64) ⌝ }
     ensures { λ r. ⌜ (r ≡ length (kid-spans (columns (now (functions64 .entry)) (now (functions32 .entry)) (now (lines64 .entry)) (now (lines32 .entry)) []) depth i first)) × (now (s .exit) ≡ sets (now (s .entry)) at (pairWords (kid-spans (columns (now (functions64 .entry)) (now (functions32 .entry)) (now (lines64 .entry)) (now (lines32 .entry)) []) depth i first))) ⌝ }
 {

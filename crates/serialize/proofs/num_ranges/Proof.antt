@@ -1,5 +1,4 @@
 -- `num_ranges` meets its contract, by the sentinel's two variants.
-use mathlib.Core.Path.{_≡_}
 use borrow.Author.Needs.{needs}
 use native.Mathlib.Nat.{add-zero}
 use Rattle.serialize.proofs.num_ranges.Statement.{statement}

@@ -1,6 +1,4 @@
 -- `write_entry` meets its contract: two numbers, one behind the other.
-use Prim.Native.Nat.{_+_}
-use mathlib.Core.Path.{refl}
 use borrow.Author.Needs.{needs}
 use Rattle.serialize.proofs.Rows.{entry-stored}
 use Rattle.serialize.proofs.write_entry.Statement.{statement}

@@ -1,6 +1,5 @@
 -- `write_padding` meets its contract: behind an odd number of starts four zeros, else none.
-use mathlib.Core.Path.{_≡_, _∙_}
-use Prim.Native.Nat.{_%_}
+use mathlib.Core.Path.{_∙_}
 use native.Mathlib.Omega.{arith}
 use borrow.Author.Needs.{needs}
 use Rattle.serialize.proofs.Rows.{padding-odd, padding-even}

@@ -1,9 +1,8 @@
 -- `write_ranges` meets its contract. The invariant: i entries are read, and their locations and starts stored.
-use Prim.Native.Nat.{_≤_, _+_, _*_, _-_}
-use mathlib.Core.Path.{_≡_, refl, ap, sym, _∙_}
+use Prim.Native.Nat.{_≤_, _-_}
+use mathlib.Core.Path.{_≡_, ap, _∙_}
 use native.Mathlib.Omega.{arith}
 use lib.ListN.{length}
-use lib.Seq.{sets, length-sets}
 use borrow.Author.Needs.{needs}
 use Rattle.serialize.proofs.Ranges.{turned, length-turned, turned-none, turned-step, turned-all}
 use Rattle.serialize.proofs.write_ranges.Statement.{statement}

@@ -1,5 +1,5 @@
 -- `write_sentinel` meets its contract, by the sentinel's two variants.
-use Prim.Native.Nat.{ℕ, _<_, _≤_, _+_, _^_}
+use Prim.Native.Nat.{_<_, _^_}
 use mathlib.Core.Path.{_≡_}
 use lib.ListN.{length}
 use native.Mathlib.Omega.{arith}

@@ -5,8 +5,6 @@ use Rattle.symcache.specs.Reader.{aligned}
 use borrow.Author.Needs.{needs}
 use Rattle.symcache.proofs.align_to_8.Statement.{statement}
 use Rattle.symcache.proofs.align_to_8.Tie as tie
-use Rattle.symcache.proofs.align_to_8.Reads as reads
-use Rattle.symcache.proofs.align_to_8.Lts as lts
 
 add-result : tie.Need-add-result
 add-result c = search needs

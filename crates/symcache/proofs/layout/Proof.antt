@@ -4,9 +4,6 @@ use Rattle.symcache.proofs.ReaderLaws.{layout-made}
 use borrow.Author.Needs.{needs}
 use Rattle.symcache.proofs.layout.Statement.{statement}
 use Rattle.symcache.proofs.layout.Tie as tie
-use Rattle.symcache.proofs.layout.Reads as reads
-use Rattle.symcache.proofs.layout.Lts as lts
-use Rattle.symcache.proofs.align_to_8.Reads as align-to-8-reads
 
 align-to-8-requires : tie.Need-align-to-8-requires
 align-to-8-requires c κs = search needs
@@ -60,9 +57,10 @@ align-to-8-requires-5 : tie.Need-align-to-8-requires-5
 align-to-8-requires-5 c κs = search needs
 
 returns : tie.Need-returns
-returns c = 
-    (layout-made (c .before .before .before .before .before .before .before .before .before .args .h) _ _ _ _ _ (c .before .before .before .before .before .before .before .before .align-to-8 .ensures .0) (c .before .before .before .before .before .before .align-to-82 .ensures .0) (c .before .before .before .before .align-to-83 .ensures .0) (c .before .before .align-to-84 .ensures .0) (c .align-to-85 .ensures .0),
-    record { files = omega arith; functions = omega arith; locations = omega arith; ranges = omega arith; strings = omega arith })
+returns c = (
+  layout-made (c .before .before .before .before .before .before .before .before .before .args .h) _ _ _ _ _ (c .before .before .before .before .before .before .before .before .align-to-8 .ensures .0) (c .before .before .before .before .before .before .align-to-82 .ensures .0) (c .before .before .before .before .align-to-83 .ensures .0) (c .before .before .align-to-84 .ensures .0) (c .align-to-85 .ensures .0),
+  record { files = omega arith; functions = omega arith; locations = omega arith; ranges = omega arith; strings = omega arith },
+)
 
 pub layout-spec : {M : Type 1} → statement M
 layout-spec =

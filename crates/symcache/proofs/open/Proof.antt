@@ -1,14 +1,10 @@
 -- `open` meets its contract: what `parse` refuses, and then the test of the starts.
-use mathlib.Core.Path.{_≡_, refl, ap, sym, _∙_}
+use mathlib.Core.Path.{ap, sym, _∙_}
 use Rattle.symcache.specs.Answers.{parseAnswer}
 use Rattle.symcache.proofs.ReaderLaws.{parsed-within, opened-accepted, opened-unordered, opened-refused}
 use borrow.Author.Needs.{needs}
 use Rattle.symcache.proofs.open.Statement.{statement}
 use Rattle.symcache.proofs.open.Tie as tie
-use Rattle.symcache.proofs.open.Reads as reads
-use Rattle.symcache.proofs.open.Lts as lts
-use Rattle.symcache.proofs.is_ascending.Reads as is-ascending-reads
-use Rattle.symcache.proofs.parse.Reads as parse-reads
 
 parse-requires : tie.Need-parse-requires
 parse-requires c κs = search needs

@@ -1,16 +1,10 @@
 -- `parse` meets its contract: the tests of the first bytes, in order, and then those of the tables.
-use mathlib.Core.Path.{_≡_, refl, ap, sym, _∙_}
+use mathlib.Core.Path.{refl, _∙_}
 use Rattle.raw.specs.Rows.{versionInfoAt}
 use Rattle.symcache.proofs.ReaderLaws.{too-short, wrong-endianness, wrong-format, wrong-version, invalid-header, then-tables}
 use borrow.Author.Needs.{needs}
 use Rattle.symcache.proofs.parse.Statement.{statement}
 use Rattle.symcache.proofs.parse.Tie as tie
-use Rattle.symcache.proofs.parse.Reads as reads
-use Rattle.symcache.proofs.parse.Lts as lts
-use Rattle.raw.proofs.header_at.Reads as header-at-reads
-use Rattle.raw.proofs.version_info_at.Reads as version-info-at-reads
-use Rattle.symcache.proofs.layout.Reads as layout-reads
-use Rattle.symcache.proofs.parse_tables.Reads as parse-tables-reads
 
 returns : tie.Need-returns
 returns c = too-short (c .before .before .args .s .now) (versionInfoAt (c .before .before .args .s .now) 0) refl (c .if1 .taken)

@@ -7,9 +7,6 @@ use Rattle.symcache.specs.Reader.{tested}
 use borrow.Author.Needs.{needs}
 use Rattle.symcache.proofs.parse_tables.Statement.{statement}
 use Rattle.symcache.proofs.parse_tables.Tie as tie
-use Rattle.symcache.proofs.parse_tables.Reads as reads
-use Rattle.symcache.proofs.parse_tables.Lts as lts
-use Rattle.symcache.proofs.found_bytes.Reads as found-bytes-reads
 
 cast-if1 : tie.Need-cast-if1
 cast-if1 c = search needs
@@ -80,7 +77,7 @@ cast-t14 : tie.Need-cast-t14
 cast-t14 c = search needs
 
 returns-6 : tie.Need-returns-6
-returns-6 c = 
+returns-6 c =
     let a = c .before .before .before .before .before .before .before .before .before .before .before .before .before .before .before .before .before .before .before .args in
     unexpected-bytes (a .len) (a .c) (a .variable-header) (c .before .found-bytes .result) (c .before .before .before .before .before .before .before .before .before .before .before .before .before .before .before .before .if1 .left) (c .before .before .before .before .before .before .before .before .before .before .before .before .before .if2 .left) (c .before .before .before .before .before .before .before .before .before .before .if3 .left) (c .before .before .before .before .before .before .before .if4 .left) (c .before .before .before .before .before .if5 .left) (c .before .before .if6 .taken) (c .before .found-bytes .ensures)
 

@@ -6,9 +6,6 @@ use Rattle.raw.proofs.Bytes.{leAt-four}
 use borrow.Author.Needs.{needs}
 use Rattle.symcache.proofs.range_start.Statement.{statement}
 use Rattle.symcache.proofs.range_start.Tie as tie
-use Rattle.symcache.proofs.range_start.Reads as reads
-use Rattle.symcache.proofs.range_start.Lts as lts
-use Rattle.symcache.proofs.wide.Reads as wide-reads
 
 mul-at : tie.Need-mul-at
 mul-at c = search needs

@@ -1,16 +1,11 @@
 -- `find` meets its contract.
 use native.Mathlib.Omega.{arith}
-use mathlib.Core.Path.{_≡_, refl, ap, sym, _∙_}
+use mathlib.Core.Path.{sym, _∙_}
 use lib.ListN.{length}
 use Rattle.symcache.proofs.SearchLaws.{found-far, found-empty, found-unusable, found-here, found-above, usable-has}
 use borrow.Author.Needs.{needs}
 use Rattle.symcache.proofs.lookup.find.Statement.{statement}
 use Rattle.symcache.proofs.lookup.find.Tie as tie
-use Rattle.symcache.proofs.lookup.find.Reads as reads
-use Rattle.symcache.proofs.lookup.find.Lts as lts
-use Rattle.symcache.proofs.lookup.is_usable.Reads as is-usable-reads
-use Rattle.symcache.proofs.lookup.search.Reads as search-reads
-use Rattle.symcache.proofs.range_start.Reads as range-start-reads
 
 returns : tie.Need-returns
 returns c = found-far (c .before .before .args .s .now) (c .before .before .args .cache) (c .before .before .args .addr) (c .if1 .taken)

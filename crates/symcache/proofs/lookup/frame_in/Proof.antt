@@ -3,11 +3,6 @@ use Rattle.symcache.proofs.LookupLaws.{frame-made}
 use borrow.Author.Needs.{needs}
 use Rattle.symcache.proofs.lookup.frame_in.Statement.{statement}
 use Rattle.symcache.proofs.lookup.frame_in.Tie as tie
-use Rattle.symcache.proofs.lookup.frame_in.Reads as reads
-use Rattle.symcache.proofs.lookup.frame_in.Lts as lts
-use Rattle.symcache.proofs.lookup.frame_file.Reads as frame-file-reads
-use Rattle.symcache.proofs.lookup.function_or_missing.Reads as function-or-missing-reads
-use Rattle.symcache.proofs.lookup.location_in.Reads as location-in-reads
 
 location-in-requires : tie.Need-location-in-requires
 location-in-requires c κs = search needs
@@ -22,7 +17,7 @@ frame-file-requires c κs = search needs
 
 -- src/lookup.rt:245:1
 returns : tie.Need-returns
-returns c = 
+returns c =
     let a = c .before .before .before .before .args in
     frame-made (a .s .now) (a .c) (a .i) (c .before .before .location-in .result) _ _ _ (c .before .before .location-in .ensures) (c .before .function-or-missing .ensures .0) (c .before .function-or-missing .ensures .1) (c .frame-file .ensures)
 

@@ -1,12 +1,9 @@
 -- `function_in` meets its contract.
-use borrow.Author.Tests.{lt-ltb, le-ltb, eq-eqb, ne-eqb, le-leb, lt-leb}
+use borrow.Author.Tests.{lt-ltb, le-ltb}
 use Rattle.symcache.specs.Lookup.{functionIn}
 use borrow.Author.Needs.{needs}
 use Rattle.symcache.proofs.lookup.function_in.Statement.{statement}
 use Rattle.symcache.proofs.lookup.function_in.Tie as tie
-use Rattle.symcache.proofs.lookup.function_in.Reads as reads
-use Rattle.symcache.proofs.lookup.function_in.Lts as lts
-use Rattle.raw.proofs.function_at.Reads as function-at-reads
 
 mul-function-at : tie.Need-mul-function-at
 mul-function-at c = search needs

@@ -1,13 +1,10 @@
 -- `function_or_missing` meets its contract.
-use borrow.Author.Tests.{lt-ltb, le-ltb, eq-eqb, ne-eqb, le-leb, lt-leb}
-use mathlib.Core.Path.{_≡_, refl, ap, sym, _∙_}
+use borrow.Author.Tests.{lt-ltb, le-ltb}
+use mathlib.Core.Path.{refl}
 use Rattle.symcache.specs.Lookup.{functionIn}
 use borrow.Author.Needs.{needs}
 use Rattle.symcache.proofs.lookup.function_or_missing.Statement.{statement}
 use Rattle.symcache.proofs.lookup.function_or_missing.Tie as tie
-use Rattle.symcache.proofs.lookup.function_or_missing.Reads as reads
-use Rattle.symcache.proofs.lookup.function_or_missing.Lts as lts
-use Rattle.raw.proofs.function_at.Reads as function-at-reads
 
 mul-function-at : tie.Need-mul-function-at
 mul-function-at c = search needs

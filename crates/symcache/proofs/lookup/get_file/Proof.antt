@@ -1,6 +1,6 @@
 -- `get_file` meets its contract: what `parse` refuses, and then the row.
 use native.Mathlib.Omega.{arith}
-use mathlib.Core.Path.{_≡_, refl, ap, sym, _∙_}
+use mathlib.Core.Path.{ap, sym, _∙_}
 use Rattle.symcache.specs.Answers.{parseAnswer}
 use Rattle.symcache.specs.Reader.{parsed}
 use Rattle.symcache.specs.Lookup.{gotFile}
@@ -9,10 +9,6 @@ use Rattle.symcache.proofs.LookupLaws.{then-gives, then-refuses}
 use borrow.Author.Needs.{needs}
 use Rattle.symcache.proofs.lookup.get_file.Statement.{statement}
 use Rattle.symcache.proofs.lookup.get_file.Tie as tie
-use Rattle.symcache.proofs.lookup.get_file.Reads as reads
-use Rattle.symcache.proofs.lookup.get_file.Lts as lts
-use Rattle.symcache.proofs.lookup.file_in.Reads as file-in-reads
-use Rattle.symcache.proofs.parse.Reads as parse-reads
 
 parse-requires : tie.Need-parse-requires
 parse-requires c κs = search needs

@@ -1,13 +1,10 @@
 -- `is_ended` meets its contract: the four tests, in order.
-use borrow.Author.Tests.{lt-ltb, le-ltb, eq-eqb, ne-eqb, le-leb, lt-leb}
+use borrow.Author.Tests.{eq-eqb, ne-eqb, le-leb, lt-leb}
 use Rattle.raw.specs.Rows.{max32}
 use Rattle.symcache.specs.Lookup.{ended}
 use borrow.Author.Needs.{needs}
 use Rattle.symcache.proofs.lookup.is_ended.Statement.{statement}
 use Rattle.symcache.proofs.lookup.is_ended.Tie as tie
-use Rattle.symcache.proofs.lookup.is_ended.Reads as reads
-use Rattle.symcache.proofs.lookup.is_ended.Lts as lts
-use Rattle.symcache.proofs.lookup.is_met.Reads as is-met-reads
 
 returns : tie.Need-returns
 unfolding ended

@@ -1,13 +1,10 @@
 -- `is_met` meets its contract. The invariant: what is left of the walk decides.
 use native.Mathlib.Omega.{arith}
-use mathlib.Core.Path.{_≡_, refl, ap, sym, _∙_}
+use mathlib.Core.Path.{_≡_, refl, sym, _∙_}
 use Rattle.symcache.specs.Lookup.{met}
 use Rattle.symcache.proofs.LookupLaws.{met-here, met-outside, met-further, met-nowhere}
 use Rattle.symcache.proofs.lookup.is_met.Statement.{statement}
 use Rattle.symcache.proofs.lookup.is_met.Tie as tie
-use Rattle.symcache.proofs.lookup.is_met.Reads as reads
-use Rattle.symcache.proofs.lookup.is_met.Lts as lts
-use Rattle.symcache.proofs.lookup.location_in.Reads as location-in-reads
 
 abbrev Inv-loop : tie.InvT-loop
 Inv-loop s c i first steps at₀ left₀ at left = met s c i at left ≡ met s c i first steps

@@ -1,13 +1,10 @@
 -- `is_usable` meets its contract.
-use borrow.Author.Tests.{lt-ltb, le-ltb, eq-eqb, ne-eqb, le-leb, lt-leb}
-use mathlib.Core.Path.{_≡_, refl, ap, sym, _∙_}
+use borrow.Author.Tests.{le-leb, lt-leb}
+use mathlib.Core.Path.{sym, _∙_}
 use Rattle.symcache.specs.Lookup.{usable}
 use borrow.Author.Needs.{needs}
 use Rattle.symcache.proofs.lookup.is_usable.Statement.{statement}
 use Rattle.symcache.proofs.lookup.is_usable.Tie as tie
-use Rattle.symcache.proofs.lookup.is_usable.Reads as reads
-use Rattle.symcache.proofs.lookup.is_usable.Lts as lts
-use Rattle.symcache.proofs.lookup.lies_in.Reads as lies-in-reads
 
 returns : tie.Need-returns
 unfolding usable

@@ -1,13 +1,11 @@
 -- `lies_in` meets its contract.
 use Prim.Native.Nat.{_+_}
 use native.Mathlib.Omega.{arith}
-use mathlib.Core.Path.{_≡_, refl, ap, sym, _∙_}
-use borrow.Author.Tests.{lt-ltb, le-ltb, eq-eqb, ne-eqb, le-leb, lt-leb}
+use mathlib.Core.Path.{sym}
+use borrow.Author.Tests.{lt-leb}
 use Rattle.raw.proofs.Bytes.{leb-shift}
 use Rattle.symcache.proofs.lookup.lies_in.Statement.{statement}
 use Rattle.symcache.proofs.lookup.lies_in.Tie as tie
-use Rattle.symcache.proofs.lookup.lies_in.Reads as reads
-use Rattle.symcache.proofs.lookup.lies_in.Lts as lts
 
 returns : tie.Need-returns
 returns c = sym (lt-leb (c .before .args .at + c .before .args .n) (c .before .args .len) (omega arith))

@@ -3,9 +3,6 @@ use Rattle.symcache.specs.Lookup.{locationIn}
 use borrow.Author.Needs.{needs}
 use Rattle.symcache.proofs.lookup.location_in.Statement.{statement}
 use Rattle.symcache.proofs.lookup.location_in.Tie as tie
-use Rattle.symcache.proofs.lookup.location_in.Reads as reads
-use Rattle.symcache.proofs.lookup.location_in.Lts as lts
-use Rattle.raw.proofs.location_at.Reads as location-at-reads
 
 mul-location-at : tie.Need-mul-location-at
 mul-location-at c = search needs

@@ -1,6 +1,5 @@
 -- `lookup` meets its contract: what `open` refuses, and then the walk.
-use native.Mathlib.Omega.{arith}
-use mathlib.Core.Path.{_≡_, refl, ap, sym, _∙_}
+use mathlib.Core.Path.{ap, sym, _∙_}
 use Rattle.symcache.specs.Answers.{gives, parseAnswer}
 use Rattle.symcache.specs.Reader.{opened}
 use Rattle.symcache.specs.Lookup.{lookedUp}
@@ -8,10 +7,6 @@ use Rattle.symcache.proofs.LookupLaws.{then-gives, then-refuses}
 use borrow.Author.Needs.{needs}
 use Rattle.symcache.proofs.lookup.lookup.Statement.{statement}
 use Rattle.symcache.proofs.lookup.lookup.Tie as tie
-use Rattle.symcache.proofs.lookup.lookup.Reads as reads
-use Rattle.symcache.proofs.lookup.lookup.Lts as lts
-use Rattle.symcache.proofs.lookup.walk.Reads as walk-reads
-use Rattle.symcache.proofs.open.Reads as open-reads
 
 open-requires : tie.Need-open-requires
 open-requires c κs = search needs

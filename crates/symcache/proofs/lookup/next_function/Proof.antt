@@ -1,6 +1,6 @@
 -- `next_function` meets its contract. The invariant: what is still to be read decides.
 use Rattle.symcache.specs.Answers.{gives}
-use mathlib.Core.Path.{ap, _≡_, refl, sym, _∙_}
+use mathlib.Core.Path.{ap, _≡_, refl, _∙_}
 use native.Mathlib.Omega.{arith}
 use Prim.Native.Nat.{_-_}
 use borrow.Author.Needs.{needs}
@@ -8,9 +8,6 @@ use Rattle.symcache.specs.Lookup.{nextFunction}
 use Rattle.symcache.proofs.LookupLaws.{function-passed, function-given, functions-end}
 use Rattle.symcache.proofs.lookup.next_function.Statement.{statement}
 use Rattle.symcache.proofs.lookup.next_function.Tie as tie
-use Rattle.symcache.proofs.lookup.next_function.Reads as reads
-use Rattle.symcache.proofs.lookup.next_function.Lts as lts
-use Rattle.raw.proofs.function_at.Reads as function-at-reads
 
 abbrev Inv-loop : tie.InvT-loop
 Inv-loop s c from i₀ i = nextFunction s c i (c .«num_functions» - i) ≡ nextFunction s c from (c .«num_functions» - from)
@@ -44,7 +41,7 @@ add-t10 c = omega arith
 
 -- src/lookup.rt:363:13
 returns : tie.Need-returns Inv-loop μ-loop
-returns c = 
+returns c =
     let a = c .before .before .before .before .before .before .before .before .args in
     let i = c .before .before .before .before .before .before .loop .i in
     let e = c .before .before .function-at .ensures in
@@ -60,7 +57,7 @@ loop-less c = omega arith
 
 -- src/lookup.rt:360:5
 loop-again : tie.Need-loop-again Inv-loop μ-loop
-loop-again c = 
+loop-again c =
     let a = c .before .before .before .before .before .before .before .before .args in
     function-passed (a .s .now) (a .c) (c .before .before .before .before .before .before .loop .i) (a .c .«num_functions») (c .before .before .before .before .if1 .taken) (rw (c .before .before .function-at .ensures) at (c .if2 .left)) ∙ c .before .before .before .before .before .before .loop .inv
 

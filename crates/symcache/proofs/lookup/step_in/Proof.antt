@@ -1,16 +1,11 @@
 -- `step_in` meets its contract.
 use native.Mathlib.Omega.{arith}
-use mathlib.Core.Path.{_≡_, refl, ap, sym, _∙_}
+use mathlib.Core.Path.{sym, _∙_}
 use Rattle.symcache.specs.Lookup.{stepIn}
 use Rattle.symcache.proofs.LookupLaws.{goes-on, step-made}
 use borrow.Author.Needs.{needs}
 use Rattle.symcache.proofs.lookup.step_in.Statement.{statement}
 use Rattle.symcache.proofs.lookup.step_in.Tie as tie
-use Rattle.symcache.proofs.lookup.step_in.Reads as reads
-use Rattle.symcache.proofs.lookup.step_in.Lts as lts
-use Rattle.symcache.proofs.lookup.frame_in.Reads as frame-in-reads
-use Rattle.symcache.proofs.lookup.is_ended.Reads as is-ended-reads
-use Rattle.symcache.proofs.lookup.location_in.Reads as location-in-reads
 
 is-ended-requires : tie.Need-is-ended-requires
 is-ended-requires c κs = search needs

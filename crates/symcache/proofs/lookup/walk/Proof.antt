@@ -1,17 +1,11 @@
 -- `walk` meets its contract: only the first location is tested for the empty mapping.
 use native.Mathlib.Omega.{arith}
-use mathlib.Core.Path.{_≡_, refl, ap, sym, _∙_}
+use mathlib.Core.Path.{sym, _∙_}
 use Rattle.symcache.proofs.SearchLaws.{found-inside}
 use Rattle.symcache.proofs.LookupLaws.{walk-nowhere, walk-empty, walk-begins}
 use borrow.Author.Needs.{needs}
 use Rattle.symcache.proofs.lookup.walk.Statement.{statement}
 use Rattle.symcache.proofs.lookup.walk.Tie as tie
-use Rattle.symcache.proofs.lookup.walk.Reads as reads
-use Rattle.symcache.proofs.lookup.walk.Lts as lts
-use Rattle.raw.proofs.SourceLocation.is_no_source_location.Reads as is-no-source-location-reads
-use Rattle.symcache.proofs.lookup.find.Reads as find-reads
-use Rattle.symcache.proofs.lookup.location_in.Reads as location-in-reads
-use Rattle.symcache.proofs.lookup.walk_from.Reads as walk-from-reads
 
 find-requires : tie.Need-find-requires
 find-requires c κs = search needs

@@ -1,17 +1,12 @@
 -- `function_name` meets its contract.
 use native.Mathlib.Omega.{arith}
-use mathlib.Core.Path.{_≡_, refl, ap, sym, _∙_}
+use mathlib.Core.Path.{ap, sym, _∙_}
 use Rattle.symcache.specs.Answers.{parseAnswer}
 use Rattle.symcache.proofs.ReaderLaws.{parsed-within}
 use Rattle.symcache.proofs.StringLaws.{name-refused, name-given, name-missing}
 use borrow.Author.Needs.{needs}
 use Rattle.symcache.proofs.strings.function_name.Statement.{statement}
 use Rattle.symcache.proofs.strings.function_name.Tie as tie
-use Rattle.symcache.proofs.strings.function_name.Reads as reads
-use Rattle.symcache.proofs.strings.function_name.Lts as lts
-use Rattle.raw.proofs.function_at.Reads as function-at-reads
-use Rattle.symcache.proofs.parse.Reads as parse-reads
-use Rattle.symcache.proofs.strings.text_or.Reads as text-or-reads
 
 parse-requires : tie.Need-parse-requires
 parse-requires c κs = search needs

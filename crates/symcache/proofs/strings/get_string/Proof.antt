@@ -1,16 +1,12 @@
 -- `get_string` meets its contract.
 use native.Mathlib.Omega.{arith}
-use mathlib.Core.Path.{_≡_, refl, ap, sym, _∙_}
+use mathlib.Core.Path.{ap, sym, _∙_}
 use Rattle.symcache.specs.Answers.{parseAnswer}
 use Rattle.symcache.proofs.ReaderLaws.{parsed-within}
 use Rattle.symcache.proofs.StringLaws.{bytes-refused, bytes-given}
 use borrow.Author.Needs.{needs}
 use Rattle.symcache.proofs.strings.get_string.Statement.{statement}
 use Rattle.symcache.proofs.strings.get_string.Tie as tie
-use Rattle.symcache.proofs.strings.get_string.Reads as reads
-use Rattle.symcache.proofs.strings.get_string.Lts as lts
-use Rattle.symcache.proofs.parse.Reads as parse-reads
-use Rattle.text.proofs.strings.text_part.Reads as text-part-reads
 
 parse-requires : tie.Need-parse-requires
 parse-requires c κs = search needs

@@ -1,16 +1,12 @@
 -- `read_string` meets its contract.
 use native.Mathlib.Omega.{arith}
-use mathlib.Core.Path.{_≡_, refl, ap, sym, _∙_}
+use mathlib.Core.Path.{ap, sym, _∙_}
 use Rattle.symcache.specs.Answers.{parseAnswer}
 use Rattle.symcache.proofs.ReaderLaws.{parsed-within}
 use Rattle.symcache.proofs.StringLaws.{string-inside, string-there, string-absent, string-refused}
 use borrow.Author.Needs.{needs}
 use Rattle.symcache.proofs.strings.read_string.Statement.{statement}
 use Rattle.symcache.proofs.strings.read_string.Tie as tie
-use Rattle.symcache.proofs.strings.read_string.Reads as reads
-use Rattle.symcache.proofs.strings.read_string.Lts as lts
-use Rattle.symcache.proofs.parse.Reads as parse-reads
-use Rattle.text.proofs.strings.read_text.Reads as read-text-reads
 
 parse-requires : tie.Need-parse-requires
 parse-requires c κs = search needs

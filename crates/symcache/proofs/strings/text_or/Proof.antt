@@ -1,14 +1,11 @@
 -- `text_or` meets its contract.
 use native.Mathlib.Omega.{arith}
-use mathlib.Core.Path.{_≡_, refl, ap, sym, _∙_}
+use mathlib.Core.Path.{sym, _∙_}
 use Rattle.text.proofs.TextLaws.{text-within}
 use Rattle.symcache.proofs.StringLaws.{text-or-absent, text-or-there}
 use borrow.Author.Needs.{needs}
 use Rattle.symcache.proofs.strings.text_or.Statement.{statement}
 use Rattle.symcache.proofs.strings.text_or.Tie as tie
-use Rattle.symcache.proofs.strings.text_or.Reads as reads
-use Rattle.symcache.proofs.strings.text_or.Lts as lts
-use Rattle.text.proofs.strings.read_text.Reads as read-text-reads
 
 read-text-requires : tie.Need-read-text-requires
 read-text-requires c κs = search needs

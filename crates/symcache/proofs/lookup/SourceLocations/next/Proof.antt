@@ -1,6 +1,5 @@
 -- `SourceLocations/next` meets its contract: what `parse` refuses, and then the row.
-use native.Mathlib.Omega.{arith}
-use mathlib.Core.Path.{_≡_, refl, ap, sym, _∙_}
+use mathlib.Core.Path.{ap, sym, _∙_}
 use Rattle.symcache.specs.Answers.{parseAnswer}
 use Rattle.symcache.specs.Reader.{parsed}
 use Rattle.symcache.specs.Lookup.{stepped}
@@ -9,10 +8,6 @@ use Rattle.symcache.proofs.LookupLaws.{then-gives, then-refuses}
 use borrow.Author.Needs.{needs}
 use Rattle.symcache.proofs.lookup.SourceLocations.next.Statement.{statement}
 use Rattle.symcache.proofs.lookup.SourceLocations.next.Tie as tie
-use Rattle.symcache.proofs.lookup.SourceLocations.next.Reads as reads
-use Rattle.symcache.proofs.lookup.SourceLocations.next.Lts as lts
-use Rattle.symcache.proofs.lookup.step_in.Reads as step-in-reads
-use Rattle.symcache.proofs.parse.Reads as parse-reads
 
 parse-requires : tie.Need-parse-requires
 parse-requires c κs = search needs
@@ -23,7 +18,7 @@ enum-known-parsed c = search needs
 
 -- src/lookup.rt:306:33
 step-in-requires : tie.Need-step-in-requires
-step-in-requires c κs = let w = parsed-within (c .before .before .before .before .before .args .s .now) (c .before .parsed .given .0 .0) (sym (c .before .before .before .parse .ensures) ∙ ap parseAnswer (c .before .parsed .given .1)) .1  in w
+step-in-requires c κs = let w = parsed-within (c .before .before .before .before .before .args .s .now) (c .before .parsed .given .0 .0) (sym (c .before .before .before .parse .ensures) ∙ ap parseAnswer (c .before .parsed .given .1)) .1 in w
 
 -- src/lookup.rt:307:29
 enum-known-parsed-2 : tie.Need-enum-known-parsed-2

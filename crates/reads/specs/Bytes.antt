@@ -1,0 +1,62 @@
+-- THE BYTES OF A FILE whose rows are given as words: document 01 "Writer", "Rows"; writer.rs, `serialize`.
+use Prim.Native.Nat.{ℕ, _*_, _-_, _%_, _≤_}
+use mathlib.Core.Path.{_≡_}
+use mathlib.Core.List.{List, [], _∷_, _++_}
+use lib.ListN.{length, replicate}
+use Rattle.raw.specs.Bytes.{words, Words, tableBytes}
+use Rattle.raw.specs.Rows.{versionInfoBytes, headerWords, headerBytes}
+use Rattle.raw.specs.declared.VersionInfo.{VersionInfo}
+use Rattle.raw.specs.declared.Header.{Header}
+use Rattle.model.proofs.FileRows.{Ascending}
+use Rattle.model.proofs.Sections.{Sections}
+
+-- "bytes 53 59 4D 43, version 9"
+abbrev pub version-info : VersionInfo
+version-info = record { magic = 0x434d_5953; version = 9 }
+
+-- the header that tells of the sections
+abbrev pub header-of : List ℕ → ℕ → Sections → Header
+header-of id a z = record {
+  «debug_id» = id;
+  arch = a;
+  «num_files» = length (z .files);
+  «num_functions» = length (z .functions);
+  «num_source_locations» = length (z .locations);
+  «num_ranges» = length (z .starts);
+  «string_bytes» = length (z .strings);
+  «variable_header» = 0;
+  reserved = replicate 14 0;
+}
+
+-- zeros from n bytes up to a multiple of 8
+unfoldable pub padding : ℕ → List ℕ
+padding n = replicate ((8 - n % 8) % 8) 0
+
+-- "bytes 53 59 4D 43, version 9, header, then files, functions, call locations followed by range locations, range starts, texts, each on a multiple of 8.
+-- Nothing follows the texts." Only the range starts can end off a multiple of 8
+unfoldable pub file-bytes : List ℕ → ℕ → Sections → List ℕ
+file-bytes id a z =
+    versionInfoBytes version-info
+    ++ (headerBytes (header-of id a z)
+    ++ (tableBytes words (z .files)
+    ++ (tableBytes words (z .functions)
+    ++ (tableBytes words (z .locations)
+    ++ (words (z .starts) ++ (padding (length (z .starts) * 4) ++ z .strings))))))
+
+-- ── What has a file ──
+
+-- each row has n words of 32 bits
+abbrev pub Rows : ℕ → List (List ℕ) → Type 0
+Rows n [] = Unit {0}
+Rows n (r ∷ rs) = ((length r ≡ n) × Words r) × Rows n rs
+
+-- rows of 24, 16 and 16 bytes, starts that ascend strictly, a location for each of them, a debug id of 32 bytes, and a header whose numbers have 32 bits each
+pub record Readable (id : List ℕ) (a : ℕ) (z : Sections) : Type 0 where
+  pub id-size : length id ≡ 32
+  pub numbers : Words (headerWords (header-of id a z))
+  pub files : Rows 6 (z .files)
+  pub functions : Rows 4 (z .functions)
+  pub locations : Rows 4 (z .locations)
+  pub starts : Words (z .starts)
+  pub ascending : Ascending 0 (z .starts)
+  pub fewer : length (z .starts) ≤ length (z .locations)

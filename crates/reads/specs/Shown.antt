@@ -1,0 +1,69 @@
+-- WHAT A READER SHOWS at an address: the answers of `lookup` and `next`, each frame with its texts as `function_name` and `read_string` read them. All in the very definitions
+-- that the contracts of these functions cite.
+use Prim.Native.Nat.{ℕ}
+use mathlib.Core.Path.{_≡_}
+use mathlib.Core.Option.{Option, none, some}
+use mathlib.Core.List.{List, [], _∷_, map}
+use lib.ListN.{take, drop}
+use Rattle.symcache.specs.declared.lookup.SourceLocations.{SourceLocations}
+use Rattle.symcache.specs.declared.lookup.Frame.{Frame}
+use Rattle.symcache.specs.declared.lookup.FrameFile.{FrameFile}
+use Rattle.symcache.specs.declared.lookup.FrameFile.the-variants as frame-file
+use Rattle.symcache.specs.Answers.{Answer, gives, refuses}
+use Rattle.symcache.specs.Lookup.{lookedUp, stepped}
+use Rattle.symcache.specs.Strings.{Part, gotString, nameOf}
+use Rattle.model.specs.Rows.{Text}
+use Rattle.model.specs.Converter.{Six}
+use Rattle.model.specs.Frames as plain
+
+-- the part of the file that `read_string` tells of
+abbrev pub part-of : List ℕ → Answer (Option Part) → Option Text
+part-of s (gives none) = none
+part-of s (gives (some p)) = some (take (p .len) (drop (p .start) s))
+part-of s (refuses r) = none
+
+abbrev pub text-shown : List ℕ → ℕ → Option Text
+text-shown s offset = part-of s (gotString s offset)
+
+abbrev pub file-shown : List ℕ → FrameFile → Option (Six (Option Text))
+file-shown s frame-file.None = none
+file-shown s (frame-file.File f) = some (record {
+  name = text-shown s (f .«name_offset»);
+  directory = text-shown s (f .«directory_offset»);
+  comp-dir = text-shown s (f .«comp_dir_offset»);
+  srcsrv-name = text-shown s (f .«srcsrv_name_offset»);
+  srcsrv-dir = text-shown s (f .«srcsrv_dir_offset»);
+  revision = text-shown s (f .«srcsrv_revision_offset»);
+})
+
+pub record Shown : Type 0 where
+  pub name : Text
+  pub entry : ℕ
+  pub language : ℕ
+  pub number : ℕ
+  pub file : Option (Six (Option Text))
+
+-- a frame of the file s, with d for the stand-in
+abbrev pub shown : List ℕ → List ℕ → Frame → Shown
+shown s d f = record { name = nameOf s d (f .«function_idx»); entry = f .«entry_pc»; language = f .language; number = f .line; file = file-shown s (f .file) }
+
+-- the same of a plain frame: the stand-in where it has no name
+abbrev pub name-or : List ℕ → Option Text → Text
+name-or d none = d
+name-or d (some t) = t
+
+abbrev pub with-stand-in : List ℕ → plain.Frame → Shown
+with-stand-in d f = record { name = name-or d (f .name); entry = f .entry; language = f .language; number = f .number; file = f .file }
+
+-- `next` on the file s from the cursor k on gives these frames one by one, and then the end; no call refuses
+pub data Walked (s : List ℕ) : SourceLocations → List Frame → Type 0 where
+  ends : {k : SourceLocations} → stepped s k ≡ gives none → Walked s k []
+  goes : {k n : SourceLocations} {f : Frame} {fs : List Frame} → stepped s k ≡ gives (some (record { frame = f; next = n })) → Walked s n fs → Walked s k (f ∷ fs)
+
+-- looking up x in the file s and iterating `next` shows exactly vs
+pub record Found (s d : List ℕ) (x : ℕ) (vs : List Shown) : Type 0 where
+  pub cursor : SourceLocations
+  pub looked : lookedUp s x ≡ gives cursor
+  pub frames : List Frame
+  pub walked : Walked s cursor frames
+  pub shows : map (shown s d) frames ≡ vs
