@@ -4,18 +4,18 @@ use mathlib.Core.List.{List, [], _∷_, _++_, map, append-assoc}
 use Prim.Native.Nat.{ℕ, zero, suc, _+_, _*_, _-_, _≤_, _<_}
 use native.Mathlib.Omega.{arith}
 use native.Mathlib.Numerals.{add-one}
-use lib.ListN.{length, getD, set, take, drop, length-append, length-map, length-take}
-use lib.Seq.{sets, sets-eq, take-at, drop-at, getD-at, length-take-le, length-sets, take-all}
+use lib.ListN.{length, getD, set, take, drop, length-append, length-map}
+use lib.Seq.{sets, sets-eq, take-at, drop-at, getD-at, length-take-le}
 use Rattle.raw.proofs.Bytes.{sets-join}
-use Rattle.model.specs.Basics.{Span, Deep, sort}
-use Rattle.model.specs.Rows.{FunctionRow, LineRow, boundaries}
+use Rattle.model.specs.Basics.{Span, sort}
+use Rattle.model.specs.Rows.{boundaries}
 use Rattle.model.specs.Machine.{kid-spansM}
 use Rattle.model.specs.Converter.{input, deep}
 use Rattle.sorting.specs.Pairs.{pairWords, sortedOf}
 use Rattle.sorting.proofs.Order.{sort-length}
 use Rattle.sorting.proofs.Pairs.{length-pairWords, sorted-pairWords}
 use Rattle.rows.specs.Columns.{Columns, columns, functionRows, functionStruct, lineStruct, boundariesOf, lineAt, linesFrom, functionAt, rowsFrom}
-use Rattle.rows.proofs.RowLaws.{lineAt-boundaries, linesFrom-none, linesFrom-more, rowsFrom-none, rowsFrom-more, functionAt-depth, functionAt-lines}
+use Rattle.rows.proofs.RowLaws.{lineAt-boundaries, rowsFrom-none, rowsFrom-more, functionAt-depth, functionAt-lines}
 use Rattle.loops.specs.Scratch.{pairsAt, line-spans, kid-spans}
 use Rattle.loops.proofs.Rows.{kids-end, kids-here, kids-deeper, length-lines}
 use Rattle.loops.proofs.Lines.{lines-next, lines-done}

@@ -1,15 +1,13 @@
 -- THE LOOP OVER A ROW'S LINES: what is still to come, from where it stands, is what was to come from where it began.
-use mathlib.Core.Path.{_≡_, refl, sym, ap, _∙_, subst}
-use mathlib.Core.Bool.{Bool, true, false, cond}
+use mathlib.Core.Path.{_≡_, refl, sym, ap, _∙_}
 use mathlib.Core.List.{List, [], _∷_, _++_, map, append-assoc, append-nil}
-use Prim.Native.Nat.{ℕ, zero, suc, _+_, _*_, _-_, _≤_, _<_}
+use Prim.Native.Nat.{ℕ, suc, _+_, _*_, _-_, _≤_, _<_}
 use native.Mathlib.Omega.{arith}
-use lib.Dec.{ltb}
 use lib.ListN.{length, take}
 use borrow.Author.Tests.{lt-ltb, le-ltb, le-leb, lt-leb}
 use Rattle.model.specs.Basics.{Span}
 use Rattle.model.specs.Rows.{LineRow, FunctionRow, SymbolRow, boundaries, cut32}
-use Rattle.model.specs.Machine.{Machine, Ref, WalkedM, LoopedM, CursorM, advanceM, walkM, loopM}
+use Rattle.model.specs.Machine.{Machine, Ref, LoopedM, advanceM, walkM, loopM}
 use Rattle.model.specs.Converter.{input}
 use Rattle.rows.specs.Columns.{Columns, lineAt, linesFrom}
 use Rattle.rows.proofs.RowLaws.{linesFrom-more, linesFrom-none}

@@ -5,10 +5,9 @@ use mathlib.Core.List.{List, [], _∷_, _++_, map, map-append}
 use Prim.Native.Nat.{ℕ, zero, suc, _+_, _*_, _-_, _/_, _%_, _≤_, _<_}
 use native.Mathlib.Omega.{arith}
 use native.Mathlib.Numerals.{add-one}
-use lib.ListN.{length, getD, set, take, drop, length-set}
+use lib.ListN.{length, getD, set, take, length-set}
 use lib.Seq.{getD-set-same, getD-set-other, getD-take, sets, length-sets}
 use Rattle.model.specs.Basics.{Span}
-use Rattle.model.specs.Machine.{Ref}
 use Rattle.loops.specs.Scratch.{pairsAt, ref-of, refsAt, two32, startAt, lenAt, setCalls}
 
 -- the pair at word b

@@ -1,27 +1,24 @@
 -- ROWS IN PREORDER: only the call locations of the depths up to the next row's are ever read, and each line row is an inlinee range of one depth at most. So the pairs that are stacked fit.
-use mathlib.Core.Path.{_≡_, refl, sym, ap, _∙_, subst}
-use mathlib.Core.Bool.{Bool, true, false, cond}
+use mathlib.Core.Path.{_≡_, refl, ap, _∙_}
 use mathlib.Core.Logic.{_⊎_, inl, inr, ⊎-elim, _≢_}
 use mathlib.Core.List.{List, [], _∷_, _++_, map}
 use Prim.Native.Nat.{ℕ, zero, suc, _+_, _*_, _-_, _≤_, _<_}
 use native.Mathlib.Omega.{arith}
 use native.Mathlib.Nat.{add-suc, suc-add}
 use native.Mathlib.Numerals.{add-one}
-use lib.Dec.{eqb}
 use lib.ListN.{length, getD, length-append, length-map}
 use borrow.Author.Tests.{le-leb, lt-leb, eq-eqb, ne-eqb}
-use Rattle.model.specs.Basics.{Span, Deep}
-use Rattle.model.specs.Rows.{MAX, LineRow, FunctionRow, SymbolRow, boundaries}
-use Rattle.model.specs.Machine.{Input, Machine, Ref, LoopedM, set-atM, kid-spansM, rowM, convertM, startM}
+use Rattle.model.specs.Basics.{Deep}
+use Rattle.model.specs.Rows.{FunctionRow}
+use Rattle.model.specs.Machine.{Input, Machine, Ref, set-atM, kid-spansM, rowM, convertM}
 use Rattle.model.specs.Converter.{input, deep}
 use Rattle.model.specs.Premises.{Legal}
 use Rattle.model.proofs.Maps.{lt-or-ge, eq-or-ne}
 use Rattle.model.proofs.Depths.{Steps}
-use Rattle.rows.specs.Columns.{Columns, functionRows, lineRows, functionStruct, lineAt, linesFrom, functionAt, rowsFrom, treeRows, rootRow, laterRows}
+use Rattle.rows.specs.Columns.{Columns, functionRows, functionStruct, linesFrom, functionAt, rowsFrom}
 use Rattle.rows.specs.Refusals.{firstLine, total}
-use Rattle.rows.proofs.RowLaws.{rowsFrom-more, functionAt-depth, functionAt-lines}
-use Rattle.rows.proofs.Accepted.{Accepted}
-use Rattle.loops.specs.Scratch.{pairsAt, ref-of, refsAt, startAt, lenAt, callsOf, topOf, kid-spans, RowDone}
+use Rattle.rows.proofs.RowLaws.{rowsFrom-more, functionAt-lines}
+use Rattle.loops.specs.Scratch.{ref-of, startAt, lenAt, callsOf, topOf}
 use Rattle.loops.proofs.Pairs.{pairs-same}
 
 -- ── How many inlinee ranges there are ──

@@ -1,23 +1,22 @@
 -- A TREE, ROW BY ROW: the rows still to come, with the call locations that scratch holds, leave what all rows leave; and the next row's inlinee ranges have room.
-use mathlib.Core.Path.{_≡_, refl, sym, ap, _∙_, subst}
-use mathlib.Core.Logic.{_⊎_, inl, inr, ⊎-elim}
-use mathlib.Core.List.{List, [], _∷_, map}
+use mathlib.Core.Path.{_≡_, refl, sym, ap, _∙_}
+use mathlib.Core.Logic.{⊎-elim}
+use mathlib.Core.List.{List, map}
 use Prim.Native.Nat.{ℕ, zero, suc, _+_, _*_, _-_, _≤_, _<_}
 use native.Mathlib.Omega.{arith}
 use native.Mathlib.Nat.{eq-or-lt-of-le}
-use lib.ListN.{length, getD}
+use lib.ListN.{length}
 use borrow.Author.Tests.{eq-eqb, ne-eqb}
-use Rattle.model.specs.Basics.{Deep}
 use Rattle.model.specs.Rows.{MAX, LineRow, FunctionRow, SymbolRow}
-use Rattle.model.specs.Machine.{Machine, Ref, LoopedM, set-atM, kid-spansM, rowM, convertM, startM}
+use Rattle.model.specs.Machine.{Machine, LoopedM, set-atM, kid-spansM, rowM, convertM, startM}
 use Rattle.model.specs.Converter.{input, deep}
 use Rattle.model.proofs.Maps.{eq-or-ne}
 use Rattle.model.proofs.Depths.{Steps}
-use Rattle.rows.specs.Columns.{Columns, functionRows, lineRows, functionStruct, functionAt, treeRows, rootRow, laterRows}
+use Rattle.rows.specs.Columns.{Columns, functionRows, lineRows, functionStruct, functionAt, treeRows, laterRows}
 use Rattle.rows.specs.Refusals.{firstLine, total}
 use Rattle.rows.proofs.RowLaws.{functionAt-depth, functionAt-lines}
 use Rattle.rows.proofs.Accepted.{Accepted}
-use Rattle.loops.specs.Scratch.{startAt, lenAt, callsOf, topOf, kid-spans, RowDone}
+use Rattle.loops.specs.Scratch.{startAt, callsOf, topOf, kid-spans, RowDone}
 use Rattle.loops.proofs.Rows.{kids, kids-suc, kids-row, convert-agree, first-line, rows-left, rows-next, rows-none, kids-fit, length-lines, steps-of, start-kept, top-kept, calls-kept}
 
 module _ {R P L S : Type 0} (M : Machine FunctionRow LineRow SymbolRow R P L ℕ S) (k : Columns) (size : ℕ) (w₀ : S) where

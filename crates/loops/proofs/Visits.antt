@@ -1,15 +1,15 @@
 -- ONE ROW: what it leaves in scratch where it is passed over, and where its lines are walked.
 use mathlib.Core.Path.{_≡_, refl, sym, ap, _∙_}
-use mathlib.Core.Bool.{Bool, true, false}
-use mathlib.Core.Logic.{_⊎_, inl, inr, ⊎-elim}
+use mathlib.Core.Bool.{true, false}
+use mathlib.Core.Logic.{inr}
 use mathlib.Core.List.{List, [], _∷_, map}
 use Prim.Native.Nat.{ℕ, suc, _+_, _*_, _-_, _≤_, _<_}
 use native.Mathlib.Omega.{arith}
-use lib.ListN.{length, getD, take}
+use lib.ListN.{length, take}
 use Rattle.model.specs.Basics.{Span, sort}
 use Rattle.model.specs.Rows.{MAX}
 use Rattle.model.specs.Machine.{Input, Machine, Ref, LoopedM, loopM, closingM, rowM}
-use Rattle.loops.specs.Scratch.{pairsAt, ref-of, refsAt, startAt, lenAt, setCalls, callsOf, topOf, Lined, RowDone}
+use Rattle.loops.specs.Scratch.{pairsAt, ref-of, refsAt, startAt, lenAt, setCalls, callsOf, Lined, RowDone}
 use Rattle.loops.proofs.Pairs.{pairAt, getD-kept, pairs-same, pairs-zero, calls-other, start-set, len-set}
 
 -- ── A row, case by case ──

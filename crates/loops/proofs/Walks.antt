@@ -1,19 +1,49 @@
 -- THE WALK OVER ONE LINE, turn by turn: what is still to come, from where the walk stands, is what was to come from where it began.
 use mathlib.Core.Path.{_≡_, refl, sym, ap, _∙_, subst}
-use mathlib.Core.Bool.{Bool, true, false, cond, true≢false, false≢true}
+use mathlib.Core.Bool.{true, false, cond, true≢false, false≢true}
 use mathlib.Core.Logic.{_⊎_, inl, inr, ⊎-elim}
-use mathlib.Core.List.{List, [], _∷_, _++_, map, append-assoc, append-nil}
-use Prim.Native.Nat.{ℕ, zero, suc, _+_, _*_, _-_, _≤_, _<_}
+use mathlib.Core.List.{List, [], _∷_, _++_, append-assoc, append-nil}
+use Prim.Native.Nat.{ℕ, _+_, _*_, _-_, _≤_, _<_}
 use native.Mathlib.Omega.{arith}
-use lib.Dec.{ltb, leb}
+use lib.Dec.{ltb}
 use lib.ListN.{length, getD, set, take, length-set}
 use lib.Seq.{getD-set-same, getD-set-other, take-set-le}
 use borrow.Author.Tests.{lt-ltb, le-ltb, le-leb, lt-leb}
 use Rattle.model.specs.Basics.{Span}
 use Rattle.model.specs.Machine.{Input, Machine, Ref, WalkedM, walkM}
 use Rattle.model.proofs.Maps.{lt-or-ge}
-use Rattle.loops.specs.Scratch.{pairsAt, ref-of, refsAt, Turned, turned, taking, turn}
+use Rattle.loops.specs.Scratch.{pairsAt, refsAt, Turned, turned, taking, turn}
 use Rattle.loops.proofs.Pairs.{pairAt, pairs-above, pairs-below, pairs-next, pairs-none, refs-more}
+
+-- ── A turn, case by case ──
+
+module _ {Q N Y R P L S : Type 0} (M : Machine Q N Y R P L ℕ S) (l : L) (e b n t a : ℕ) (s : List ℕ) (w : S) where
+  -- the inlinee range at hand, and the state after the line's own range
+  abbrev from : ℕ
+  from = getD s (b + t * 2) 0
+
+  abbrev to : ℕ
+  to = getD s (b + t * 2 + 1) 0
+
+  abbrev own-range : S
+  own-range = cond (ltb a from) (M .put a l w) w
+
+  pub turn-past : e ≤ a → turn M l e b n t a s w ≡ turned w s t a true
+  unfolding turn
+  turn-past h = rw (le-leb e a h)
+
+  module _ (h : a < e) where
+    pub turn-last : n ≤ t → turn M l e b n t a s w ≡ turned (M .put a l w) s t e true
+    unfolding turn
+    turn-last g = rw (lt-leb e a h, le-leb n t g)
+
+    pub turn-stops : t < n → e ≤ from → turn M l e b n t a s w ≡ turned own-range s t e true
+    unfolding turn taking
+    turn-stops g k = rw (lt-leb e a h, lt-leb n t g, le-leb e from k)
+
+    pub turn-takes : t < n → from < e → turn M l e b n t a s w ≡ turned (M .enter l own-range .1) (set s (b + t * 2 + 1) (M .enter l own-range .0)) (t + 1) to false
+    unfolding turn taking
+    turn-takes g k = rw (lt-leb e a h, lt-leb n t g, lt-leb e from k)
 
 module _ {Q N Y R P L S : Type 0} (I : Input Q N Y) (M : Machine Q N Y R P L ℕ S) where
   -- ── The walk, case by case ──
@@ -73,7 +103,6 @@ module _ {Q N Y R P L S : Type 0} (I : Input Q N Y) (M : Machine Q N Y R P L ℕ
       pub begins : t₀ ≤ n → b + n * 2 ≤ length s₀ → Inner s₀ t₀ a₀ w₀
       begins h r = record { state = refl; left = refl; stop = refl; calls = refl; kept = refl; len = refl; few = h; room = r }
 
-      -- what a turn is, case by case, with the walk from where it stands
       module _ (s : List ℕ) (t a : ℕ) (w : S) (i : Inner s t a w) where
         -- it stops: nothing more is taken
         stops : (w′ : S) (a′ : ℕ) → ahead s t a w ≡ record { state = w′; calls = []; left = pairsAt s (b + t * 2) (n - t); at = a′ } → Stopped s t a′ w′
@@ -118,32 +147,6 @@ module _ {Q N Y R P L S : Type 0} (I : Input Q N Y) (M : Machine Q N Y R P L ℕ
                 room = i .room;
               }
 
-        -- the inlinee range at hand, and the state after the line's own range
-        abbrev from : ℕ
-        from = getD s (b + t * 2) 0
-
-        abbrev to : ℕ
-        to = getD s (b + t * 2 + 1) 0
-
-        abbrev own-range : S
-        own-range = cond (ltb a from) (M .put a l w) w
-
-        turn-past : e ≤ a → turn M l e b n t a s w ≡ turned w s t a true
-        unfolding turn
-        turn-past h = rw (le-leb e a h)
-
-        turn-last : a < e → n ≤ t → turn M l e b n t a s w ≡ turned (M .put a l w) s t e true
-        unfolding turn
-        turn-last h g = rw (lt-leb e a h, le-leb n t g)
-
-        turn-stops : a < e → t < n → e ≤ from → turn M l e b n t a s w ≡ turned own-range s t e true
-        unfolding turn taking
-        turn-stops h g k = rw (lt-leb e a h, lt-leb n t g, le-leb e from k)
-
-        turn-takes : a < e → t < n → from < e → turn M l e b n t a s w ≡ turned (M .enter l own-range .1) (set s (b + t * 2 + 1) (M .enter l own-range .0)) (t + 1) to false
-        unfolding turn taking
-        turn-takes h g k = rw (lt-leb e a h, lt-leb n t g, lt-leb e from k)
-
         -- a turn stops, or takes one more pair
         abbrev Does : Turned S → Type 0
         Does o =
@@ -154,12 +157,12 @@ module _ {Q N Y R P L S : Type 0} (I : Input Q N Y) (M : Machine Q N Y R P L ℕ
         does = ⊎-elim (λ (h : a < e). ⊎-elim (one h) (none h) (lt-or-ge t n)) past (lt-or-ge a e)
           where
             past : e ≤ a → Does (turn M l e b n t a s w)
-            past h = subst Does (sym (turn-past h)) (inl (refl, stops w a (walk-past l e a w _ h)))
+            past h = subst Does (sym (turn-past M l e b n t a s w h)) (inl (refl, stops w a (walk-past l e a w _ h)))
 
             none : a < e → n ≤ t → Does (turn M l e b n t a s w)
             none h g =
                 let z : pairsAt s (b + t * 2) (n - t) ≡ [] = pairs-none s (b + t * 2) n t g in
-                subst Does (sym (turn-last h g)) (inl (refl, stops (M .put a l w) e (rw z (walk-last l e a w h))))
+                subst Does (sym (turn-last M l e b n t a s w h g)) (inl (refl, stops (M .put a l w) e (rw z (walk-last l e a w h))))
 
             one : a < e → t < n → Does (turn M l e b n t a s w)
             one h g =
@@ -167,10 +170,10 @@ module _ {Q N Y R P L S : Type 0} (I : Input Q N Y) (M : Machine Q N Y R P L ℕ
                 let rs = pairsAt s (b + (t + 1) * 2) (n - (t + 1)) in
                 let z : pairsAt s (b + t * 2) (n - t) ≡ r ∷ rs = pairs-next s b n t g in
                 ⊎-elim
-                (λ k. subst Does (sym (turn-takes h g k))
-                (inr (refl, g, refl, goes-on g (M .enter l own-range .1) (M .enter l own-range .0) (rw z (walk-takes l e a w r rs h k)))))
-                (λ k. subst Does (sym (turn-stops h g k)) (inl (refl, stops own-range e (rw z (walk-stops l e a w r rs h k)))))
-                (lt-or-ge from e)
+                (λ k. subst Does (sym (turn-takes M l e b n t a s w h g k))
+                (inr (refl, g, refl, goes-on g (M .enter l (own-range M l e b n t a s w) .1) (M .enter l (own-range M l e b n t a s w) .0) (rw z (walk-takes l e a w r rs h k)))))
+                (λ k. subst Does (sym (turn-stops M l e b n t a s w h g k)) (inl (refl, stops (own-range M l e b n t a s w) e (rw z (walk-stops l e a w r rs h k)))))
+                (lt-or-ge (getD s (b + t * 2) 0) e)
 
         module _ (o : Turned S) (f : o ≡ turn M l e b n t a s w) where
           pub turn-done : o .done ≡ true → Stopped (o .scratch) (o .taken) (o .address) (o .state)

@@ -33,7 +33,7 @@ use Rattle.symcache.specs.Reader.{layoutOf, opened}
 use Rattle.reads.specs.Bytes.{header-of, file-bytes}
 use Rattle.reads.specs.Shown.{with-stand-in, Found}
 use Rattle.reads.proofs.Written.{file-shows, file-opened, file-demand}
-use Rattle.reopened.specs.Calls.{setup, words-of, usable?, treeOf, symbolRow, symbolOf, beginOf}
+use Rattle.writer.specs.Calls.{setup, words-of, usable?, treeOf, symbolRow, symbolOf, beginOf}
 use Rattle.reopened.specs.Lists.{Call, tree, symbol, write, Standing, givenTree, next, run, begun, Typed}
 use Rattle.reopened.specs.Demand3.{Nested, Premises, asked, Shows, Reopened, file-of, Demand3}
 use Rattle.reopened.proofs.Encoding.{capacities, capacities-lent}

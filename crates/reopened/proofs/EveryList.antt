@@ -28,7 +28,7 @@ use Rattle.rows.proofs.Accepted.{Accepted, accepted, given-fits}
 use Rattle.steps.specs.Words.{Memory, Words, over-words}
 use Rattle.steps.specs.declared.Converter.{Converter}
 use Rattle.steps.proofs.Lengths.{Lens}
-use Rattle.reopened.specs.Calls.{Called, called, zeros, unused, with-state, setup, words-of, usable?, finished, beginOf, rows-converted, treeOf, symbolRow, symbolOf}
+use Rattle.writer.specs.Calls.{Called, called, zeros, unused, with-state, setup, words-of, usable?, finished, beginOf, rows-converted, treeOf, symbolRow, symbolOf}
 use Rattle.reopened.specs.Lists.{Call, tree, symbol, write, Standing, givenTree, after, next, run, begun, due, Typed}
 use Rattle.reopened.proofs.Encoding.{capacities, Enc, has-room, enc-room, enc-fits}
 use Rattle.reopened.proofs.OneCall.{Left, call-left, tree-is, symbol-is, converted-more, lengths-of, zero-memory, zero-lengths, begun-holds}

@@ -7,3 +7,4 @@ pub mod OneCall
 pub mod EveryList
 pub mod WrittenFile
 pub mod Claim
+pub mod Marked

@@ -45,7 +45,7 @@ use Rattle.serialize.specs.File.{ranges-of, version-info, header-of, written-fi
 use Rattle.serialize.proofs.Rows.{table-append}
 use Rattle.reads.specs.Bytes.{file-bytes}
 use Rattle.reads.specs.Bytes as reads
-use Rattle.reopened.specs.Calls.{words-of}
+use Rattle.writer.specs.Calls.{words-of}
 use Rattle.reopened.proofs.WordRows.{range-row, source, range-row-location}
 use Rattle.reopened.proofs.WordRows as rows
 use Rattle.reopened.proofs.Interned.{shown, got, holds-count}

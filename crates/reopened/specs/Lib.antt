@@ -1,3 +1,2 @@
-pub mod Calls
 pub mod Lists
 pub mod Demand3

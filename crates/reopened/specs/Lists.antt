@@ -14,7 +14,7 @@ use Rattle.rows.specs.Columns.{Columns, rootRow, laterRows}
 use Rattle.rows.specs.declared.OptionalPart.{OptionalPart}
 use Rattle.steps.specs.Words.{Memory}
 use Rattle.steps.specs.declared.Converter.{Converter}
-use Rattle.reopened.specs.Calls.{Called, beginOf, treeOf, symbolOf, symbolRow}
+use Rattle.writer.specs.Calls.{Called, beginOf, treeOf, symbolOf, symbolRow}
 
 pub data Call : Type 0 where
   tree : Columns → List ℕ → Call  -- the rows with their text, and the scratch

@@ -3,3 +3,4 @@ pub mod SymbolLaws
 pub mod CallLaws
 pub mod ScratchLaws
 pub mod LineLaws
+pub mod TreeLaws

@@ -1,12 +1,12 @@
 -- What the code of lines.rt does, step by step, as the definitions have it.
 use mathlib.Core.Path.{_≡_, refl, sym, ap, _∙_, subst}
-use mathlib.Core.Bool.{Bool, true, false, cond}
+use mathlib.Core.Bool.{true, false, cond}
 use mathlib.Core.List.{List}
 use Prim.Native.Nat.{ℕ, _+_, _*_, _-_, _%_, _≤_, _<_}
 use native.Mathlib.Omega.{arith}
 use lib.Dec.{ltb}
 use lib.ListN.{length, getD, set}
-use borrow.Author.Tests.{lt-ltb, le-ltb, le-leb, lt-leb}
+use borrow.Author.Tests.{lt-ltb, le-ltb}
 use Rattle.text.specs.Utf8.{utf8}
 use Rattle.model.specs.Basics.{Span}
 use Rattle.model.specs.Rows.{cut32, boundaries}
@@ -22,8 +22,8 @@ use Rattle.rows.proofs.RowLaws.{lineAt-address, lineAt-boundaries}
 use Rattle.steps.specs.declared.State.{State}
 use Rattle.steps.specs.Words.{Words, words, no-part, sixOf, locate-six, over-words}
 use Rattle.steps.proofs.RowTexts.{dirPart, locate-is}
-use Rattle.loops.specs.Scratch.{pairsAt, refsAt, turned, taking, turn, Lined}
-use Rattle.loops.proofs.Walks.{Stopped}
+use Rattle.loops.specs.Scratch.{pairsAt, refsAt, turned, turn, Lined}
+use Rattle.loops.proofs.Walks.{turn-past, turn-last, turn-stops, turn-takes, Stopped}
 use Rattle.loops.proofs.Lines.{Outer, line-skipped, line-done, ended}
 use Rattle.writer.specs.Walk.{cursor}
 use Rattle.writer.specs.declared.lines.Current.{Current}
@@ -40,26 +40,22 @@ module _ {S : Type 0} (a next : ℕ) (t w : S) where
 pub falls-more : {n t u : ℕ} → t < n → u ≡ t + 1 → n - u < n - t
 falls-more h e = omega arith
 
--- a turn, case by case
+-- a turn, case by case, with the values that the code has
 module _ {Q N Y R P L S : Type 0} (M : Machine Q N Y R P L ℕ S) (l : L) (e at n t a : ℕ) (s : List ℕ) (w : S) where
   pub past-line : e ≤ a → turned w s t a true ≡ turn M l e at n t a s w
-  unfolding turn
-  past-line h = rw (le-leb e a h)
+  past-line h = sym (turn-past M l e at n t a s w h)
 
   pub last-range : (w₁ : S) → a < e → n ≤ t → w₁ ≡ M .put a l w → turned w₁ s t e true ≡ turn M l e at n t a s w
-  unfolding turn
-  last-range w₁ h g f = rw (f, lt-leb e a h, le-leb n t g)
+  last-range w₁ h g f = rw f (sym (turn-last M l e at n t a s w h g))
 
   module _ (from : ℕ) (w₁ : S) (h : a < e) (g : t < n) (f : from ≡ getD s (at + t * 2) 0) (o : w₁ ≡ cond (ltb a from) (M .put a l w) w) where
     pub stops-before : e ≤ from → turned w₁ s t e true ≡ turn M l e at n t a s w
-    unfolding turn taking
-    stops-before p = rw (o, f, lt-leb e a h, lt-leb n t g, le-leb e (getD s (at + t * 2) 0) (rw f at p))
+    stops-before p = rw (o, f) (sym (turn-stops M l e at n t a s w h g (rw f at p)))
 
     pub takes-range : from < e → (to v : ℕ) (w₂ : S) (s₁ : List ℕ) → to ≡ getD s (at + t * 2 + 1) 0 → (v, w₂) ≡ M .enter l w₁ → s₁ ≡ set s (at + t * 2 + 1) v
         → turned w₂ s₁ (t + 1) to false ≡ turn M l e at n t a s w
-    unfolding turn taking
     takes-range p to v w₂ s₁ q c z =
-        rw (z, q, ap (λ (x : ℕ × S). x .0) c, ap (λ (x : ℕ × S). x .1) c, o, f, lt-leb e a h, lt-leb n t g, lt-leb e (getD s (at + t * 2) 0) (rw f at p))
+        rw (z, q, ap (λ (x : ℕ × S). x .0) c, ap (λ (x : ℕ × S). x .1) c, o, f) (sym (turn-takes M l e at n t a s w h g (rw f at p)))
 
 -- the compilation directory, of the row's struct
 pub dir-is : (k : Columns) (i : ℕ) (q : FunctionStruct) (dir : TextPart) → q ≡ functionStruct k i → dir ≡ cond (utf8 (textOf (k .text) (q .«comp_dir»))) (q .«comp_dir») no-part → dir ≡ dirPart k i

@@ -109,8 +109,5 @@ symbol-put X name address s =
 abbrev pub end-put : Setup → Option ℕ → Words → Words
 end-put X end s = elim end [ none ↦ s | some e ↦ put-end input (over-words X) e s ]
 
-abbrev pub switches : Bool → Bool → Setup
-switches f s = record { functions-on = f; symbols-on = s }
-
 abbrev pub namedRow : ℕ → ℕ → Text → SymbolRow
 namedRow address size name = record { address = address; size = size; name = some name }

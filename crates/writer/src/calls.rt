@@ -7,9 +7,12 @@ ghost use Prim.Native.Nat.{ℕ};
 ghost use Rattle.model.specs.Rows.{Text, symbol-end};
 ghost use Rattle.model.specs.Machine.{named-symbolM, convert-symbolM};
 ghost use Rattle.model.specs.Converter.{Setup, input};
+ghost use Rattle.rows.specs.Columns.{columns};
 ghost use Rattle.rows.specs.Refusals.{optional?};
 ghost use Rattle.steps.specs.Words.{words, over-words};
-ghost use Rattle.writer.specs.Calls.{memory, called, zeros, zeroed, unused, with-state, usable?, finished, beginOf, symbolRow, symbolOf, symbol-put, end-put, switches, namedRow};
+ghost use Rattle.writer.specs.Calls.{memory, called, zeros, zeroed, unused, with-state, usable?, finished, beginOf, treeOf, symbolRow, symbolOf, symbol-put, end-put, namedRow};
+ghost use Rattle.writer.specs.Walk.{switches};
+use crate::tree::process_rows;
 use steps::Converter;
 use steps::LastAddr;
 use steps::State;
@@ -346,6 +349,81 @@ pub fn process_symbolic_symbol(
         }
         return Answer {
             code: 14,
+            converter,
+        };
+    }
+    Answer {
+        code: 19,
+        converter,
+    }
+}
+
+// A tree: function rows in preorder, their line rows, and one lent text.
+pub fn process_symbolic_function(
+    converter: Converter,
+    string_bytes: &mut [u8],
+    strings: &mut [u32],
+    files: &mut [u32],
+    functions: &mut [u32],
+    call_locations: &mut [u32],
+    ranges: &mut [u32],
+    scratch: &mut [u32],
+    functions64: &[u64],
+    functions32: &[u32],
+    lines64: &[u64],
+    lines32: &[u32],
+    text: &[u8],
+) -> Answer
+    ensures { λ r. ⌜ called (r .code) (r .converter) (memory (now («string_bytes» .exit)) (now (strings .exit)) (now (files .exit)) (now (functions .exit)) (now («call_locations» .exit)) (now (ranges .exit))) (now (scratch .exit)) ≡ treeOf converter (memory (now («string_bytes» .entry)) (now (strings .entry)) (now (files .entry)) (now (functions .entry)) (now («call_locations» .entry)) (now (ranges .entry))) (now (scratch .entry)) (columns (now (functions64 .entry)) (now (functions32 .entry)) (now (lines64 .entry)) (now (lines32 .entry)) (now (text .entry))) ⌝ }
+{
+    if is_usable(
+        converter,
+        string_bytes,
+        strings,
+        files,
+        functions,
+        call_locations,
+        ranges,
+    ) {
+        let refused = rows::refusal(
+            functions64,
+            functions32,
+            lines64,
+            lines32,
+            text,
+            scratch.len(),
+        );
+        if refused == 0 {
+            let state = process_rows(
+                converter.undecorate_functions,
+                converter.state,
+                string_bytes,
+                strings,
+                files,
+                functions,
+                call_locations,
+                ranges,
+                scratch,
+                functions64,
+                functions32,
+                lines64,
+                lines32,
+                text,
+            );
+            zero(scratch);
+            return finish(
+                converter,
+                state,
+                string_bytes,
+                strings,
+                files,
+                functions,
+                call_locations,
+                ranges,
+            );
+        }
+        return Answer {
+            code: refused,
             converter,
         };
     }

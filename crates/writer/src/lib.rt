@@ -2,3 +2,4 @@
 pub mod calls;
 mod lines;
 mod scratch;
+mod tree;

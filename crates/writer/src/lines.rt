@@ -1,7 +1,12 @@
 // A function's lines.
-use crate::scratch::{set_word, word};
+use crate::scratch::set_word;
+use crate::scratch::word;
 use raw::SourceLocation;
-use steps::{comp_dir_part, insert_call_location, insert_range, locate_line, State};
+use steps::State;
+use steps::comp_dir_part;
+use steps::insert_call_location;
+use steps::insert_range;
+use steps::locate_line;
 ghost use mathlib.Core.Path.{_≡_};
 ghost use mathlib.Core.Bool.{cond};
 ghost use mathlib.Core.List.{List};
@@ -40,7 +45,13 @@ fn find_call_location(s: &[u32], at: usize, count: usize, current: Current, star
 }
 
 // A line's own range, where the walk stands before the next inlinee range.
-fn insert_self_range(state: State, ranges: &mut [u32], address: u32, next: u32, location: SourceLocation) -> State
+fn insert_self_range(
+    state: State,
+    ranges: &mut [u32],
+    address: u32,
+    next: u32,
+    location: SourceLocation,
+) -> State
     ensures { λ r. ⌜ ((x i f g c : List ℕ) → words r x i f g c (now (ranges .exit)) ≡ cond (ltb address next) (put-range address location (words state x i f g c (now (ranges .entry)))) (words state x i f g c (now (ranges .entry)))) ⌝ }
 {
     if address < next {
@@ -58,28 +69,59 @@ pub(crate) struct Turn {
 }
 
 // One turn of the walk over the inlinee ranges (`count` pairs from word `at` on) of a line that ends at `end`. A range that the line covers becomes a call location.
-fn take_turn(state: State, call_locations: &mut [u32], ranges: &mut [u32], s: &mut [u32], at: usize, count: usize, taken: usize, address: u32, end: u32, location: SourceLocation) -> Turn
+fn take_turn(
+    state: State,
+    call_locations: &mut [u32],
+    ranges: &mut [u32],
+    s: &mut [u32],
+    at: usize,
+    count: usize,
+    taken: usize,
+    address: u32,
+    end: u32,
+    location: SourceLocation,
+) -> Turn
     requires { ⌜ at + count * 2 ≤ length (now s) ⌝ }
     ensures { λ r. ⌜ ((X : Setup) (x i f g : List ℕ) → turned (words (r .state) x i f g (now («call_locations» .exit)) (now (ranges .exit))) (now (s .exit)) (r .taken) (r .address) (r .done) ≡ turn (over-words X) location end at count taken address (now (s .entry)) (words state x i f g (now («call_locations» .entry)) (now (ranges .entry)))) ⌝ }
 {
     if end <= address {
-        return Turn { state, taken, address, done: true };
+        return Turn {
+            state,
+            taken,
+            address,
+            done: true,
+        };
     }
     if count <= taken {
         let last = insert_range(state, ranges, address, location);
-        return Turn { state: last, taken, address: end, done: true };
+        return Turn {
+            state: last,
+            taken,
+            address: end,
+            done: true,
+        };
     }
     let k = at + taken * 2;
     let start = word(s, k);
     let next = insert_self_range(state, ranges, address, start, location);
     if end <= start {
-        return Turn { state: next, taken, address: end, done: true };
+        return Turn {
+            state: next,
+            taken,
+            address: end,
+            done: true,
+        };
     }
     let stop = word(s, k + 1);
     let call = insert_call_location(next, call_locations, location);
     let after = call.state;
     set_word(s, k + 1, call.index);
-    Turn { state: after, taken: taken + 1, address: stop, done: false }
+    Turn {
+        state: after,
+        taken: taken + 1,
+        address: stop,
+        done: false,
+    }
 }
 
 // What the loop over the lines leaves: how many inlinee ranges became call locations.
@@ -119,22 +161,47 @@ pub(crate) fn process_lines(
     let comp_dir = comp_dir_part(text, q.comp_dir);
     let lines = q.lines;
     let mut now = state;
-    let mut call = Current { idx: current, passed: 0 };
+    let mut call = Current {
+        idx: current,
+        passed: 0,
+    };
     let mut taken: usize = 0;
     let mut below: u32 = 0;
     let mut j: u32 = 0;
     while j < lines {
         let line = rows::line_row(lines64, lines32, first + j as usize);
-        if below <= (line.address % 4294967296) as u32 {
-            let b = rows::line_boundaries(line.address, line.has_size, line.size);
+        let b = rows::line_boundaries(line.address, line.has_size, line.size);
+        let cut = (line.address % 4294967296) as u32;
+        if below <= cut {
             call = find_call_location(s, calls, count, call, b.start);
-            let located = locate_line(now, string_bytes, strings, files, text, comp_dir, line, function_idx, call.idx);
+            let located = locate_line(
+                now,
+                string_bytes,
+                strings,
+                files,
+                text,
+                comp_dir,
+                line,
+                function_idx,
+                call.idx,
+            );
             now = located.state;
             let location = located.location;
             let end = b.end;
             let mut address = b.start;
             let stop = loop {
-                let t = take_turn(now, call_locations, ranges, s, at, spans, taken, address, end, location);
+                let t = take_turn(
+                    now,
+                    call_locations,
+                    ranges,
+                    s,
+                    at,
+                    spans,
+                    taken,
+                    address,
+                    end,
+                    location,
+                );
                 now = t.state;
                 taken = t.taken;
                 address = t.address;
@@ -146,5 +213,8 @@ pub(crate) fn process_lines(
         }
         j += 1;
     }
-    Lines { state: now, calls: taken }
+    Lines {
+        state: now,
+        calls: taken,
+    }
 }

@@ -1,6 +1,7 @@
 -- `process_named` meets its contract: `named-law`.
 use Rattle.steps.specs.Words.{words}
-use Rattle.writer.specs.Calls.{switches, namedRow}
+use Rattle.writer.specs.Walk.{switches}
+use Rattle.writer.specs.Calls.{namedRow}
 use Rattle.writer.proofs.SymbolLaws.{named-law}
 use borrow.Author.Needs.{needs}
 use Rattle.writer.proofs.calls.process_named.Statement.{statement}

@@ -1,6 +1,6 @@
 -- `process_symbol` meets its contract: by whether it is named, and by its address.
 use Rattle.steps.specs.Words.{words}
-use Rattle.writer.specs.Calls.{switches}
+use Rattle.writer.specs.Walk.{switches}
 use Rattle.writer.proofs.SymbolLaws.{symbol-named, symbol-above, symbol-unnamed}
 use borrow.Author.Needs.{needs}
 use Rattle.writer.proofs.calls.process_symbol.Statement.{statement}

@@ -1,3 +1,4 @@
+-- `find_call_location` meets its contract: from where the loop stands the cursor gets to where it got from the start.
 use Prim.Native.Nat.{ℕ, _+_, _*_, _-_, _≤_}
 use mathlib.Core.Path.{_≡_, refl, sym, ap, _∙_}
 use native.Mathlib.Omega.{arith}
@@ -7,9 +8,6 @@ use Rattle.loops.specs.Scratch.{refsAt}
 use Rattle.loops.proofs.Lines.{cursor-end, cursor-stays, cursor-moves}
 use Rattle.writer.proofs.lines.find_call_location.Statement.{statement}
 use Rattle.writer.proofs.lines.find_call_location.Tie as tie
-use Rattle.writer.proofs.lines.find_call_location.Reads as reads
-use Rattle.writer.proofs.lines.find_call_location.Lts as lts
-use Rattle.writer.proofs.scratch.word.Reads as word-reads
 
 abbrev Inv-loop : tie.InvT-loop
 Inv-loop s at count start idx₀ passed₀ idx passed =
@@ -18,57 +16,46 @@ Inv-loop s at count start idx₀ passed₀ idx passed =
 abbrev μ-loop : tie.MeasureT-loop
 μ-loop s at count start idx₀ passed₀ idx passed = count - passed
 
--- src/lines.rt:31:5
 loop-holds : tie.Need-loop-holds Inv-loop μ-loop
 loop-holds c = (c .before .pre .1, refl)
 
--- src/lines.rt:32:22
 mul-k : tie.Need-mul-k Inv-loop μ-loop
 mul-k c = omega arith
 
--- src/lines.rt:32:17
 add-k : tie.Need-add-k Inv-loop μ-loop
 add-k c = omega arith
 
--- src/lines.rt:33:20
 word-requires : tie.Need-word-requires Inv-loop μ-loop
 word-requires c κs = search needs
 
--- src/lines.rt:34:13
 returns : tie.Need-returns Inv-loop μ-loop
 returns c =
     let a = c .before .before .before .before .before .args in
     let l = c .before .before .before .loop in
     (l .inv .0, l .inv .1 ∙ cursor-stays (a .s .now) (a .at) (a .count) (a .start) (l .idx) (l .passed) (c .before .before .loop-test .taken) (rw (c .before .word .ensures) at (c .if1 .taken)))
 
--- src/lines.rt:36:23
 add-word : tie.Need-add-word Inv-loop μ-loop
 add-word c = omega arith
 
--- src/lines.rt:36:9
 word-requires-2 : tie.Need-word-requires-2 Inv-loop μ-loop
 word-requires-2 c κs = search needs
 
--- src/lines.rt:37:9
 add-passed : tie.Need-add-passed Inv-loop μ-loop
 add-passed c = omega arith
 
--- src/lines.rt:31:5
 loop-less : tie.Need-loop-less Inv-loop μ-loop
 loop-less c = omega arith
 
--- src/lines.rt:31:5
 loop-again : tie.Need-loop-again Inv-loop μ-loop
 loop-again c =
     let a = c .before .before .before .before .before .before .args in
     let l = c .before .before .before .before .loop in (
       omega arith,
       l .inv .1
-      ∙ cursor-moves (a .s .now) (a .at) (a .count) (a .start) (l .idx) (l .passed) (c .before .before .before .loop-test .taken) (rw (c .before .before .word .ensures) at (c .before .if1 .left))
-      ∙ ap (λ (v : ℕ). advanceM (a .start) v (refsAt (a .s .now) (a .at + (l .passed + 1) * 2) (a .count - (l .passed + 1)))) (sym (c .word2 .ensures)),
+          ∙ cursor-moves (a .s .now) (a .at) (a .count) (a .start) (l .idx) (l .passed) (c .before .before .before .loop-test .taken) (rw (c .before .before .word .ensures) at (c .before .if1 .left))
+          ∙ ap (λ (v : ℕ). advanceM (a .start) v (refsAt (a .s .now) (a .at + (l .passed + 1) * 2) (a .count - (l .passed + 1)))) (sym (c .word2 .ensures)),
     )
 
--- src/lines.rt:25:1
 returns-2 : tie.Need-returns-2 Inv-loop μ-loop
 returns-2 c =
     let a = c .before .before .before .args in

@@ -1,21 +1,16 @@
+-- `insert_self_range` meets its contract.
 use Rattle.steps.specs.Words.{words, put-range}
 use Rattle.writer.proofs.LineLaws.{self-range, no-self-range}
 use borrow.Author.Needs.{needs}
 use Rattle.writer.proofs.lines.insert_self_range.Statement.{statement}
 use Rattle.writer.proofs.lines.insert_self_range.Tie as tie
-use Rattle.writer.proofs.lines.insert_self_range.Reads as reads
-use Rattle.writer.proofs.lines.insert_self_range.Lts as lts
-use Rattle.steps.proofs.insert_range.Reads as insert-range-reads
 
--- src/lines.rt:47:9
 insert-range-requires : tie.Need-insert-range-requires
 insert-range-requires c κs = search needs
 
--- src/lines.rt:47:9
 same-length : tie.Need-same-length
 same-length c = search needs
 
--- src/lines.rt:47:9
 returns : tie.Need-returns
 returns c =
     let a = c .before .before .before .before .before .before .args in
@@ -24,7 +19,6 @@ returns c =
     let w = words (a .state) x i f g k (a .ranges .now) in
     self-range (a .address) (a .next) (put-range (a .address) (a .location) w) w (words (r .result) x i f g k (r .last .1 .0)) (c .before .before .before .before .if1 .taken) (r .ensures x i f g k)
 
--- src/lines.rt:43:1
 returns-2 : tie.Need-returns-2
 returns-2 c =
     let a = c .before .before .args in

@@ -1,63 +1,46 @@
+-- `take_turn` meets its contract: one law for each of its four returns.
 use native.Mathlib.Omega.{arith}
 use Rattle.steps.specs.Words.{words, over-words}
 use Rattle.writer.proofs.LineLaws.{past-line, last-range, stops-before, takes-range}
 use borrow.Author.Needs.{needs}
 use Rattle.writer.proofs.lines.take_turn.Statement.{statement}
 use Rattle.writer.proofs.lines.take_turn.Tie as tie
-use Rattle.writer.proofs.lines.take_turn.Reads as reads
-use Rattle.writer.proofs.lines.take_turn.Lts as lts
-use Rattle.steps.proofs.insert_call_location.Reads as insert-call-location-reads
-use Rattle.steps.proofs.insert_range.Reads as insert-range-reads
-use Rattle.writer.proofs.lines.insert_self_range.Reads as insert-self-range-reads
-use Rattle.writer.proofs.scratch.set_word.Reads as set-word-reads
-use Rattle.writer.proofs.scratch.word.Reads as word-reads
 
--- src/lines.rt:66:9
 returns : tie.Need-returns
 returns c =
     let a = c .before .before .before .before .args in
     λ X x i f g. past-line (over-words X) (a .location) (a .end) (a .at) (a .count) (a .taken) (a .address) (a .s .now) (words (a .state) x i f g (a .call-locations .now) (a .ranges .now)) (c .if1 .taken)
 
--- src/lines.rt:69:13
 insert-range-requires : tie.Need-insert-range-requires
 insert-range-requires c κs = search needs
 
--- src/lines.rt:70:9
 same-length : tie.Need-same-length
 same-length c = search needs
 
--- src/lines.rt:70:9
 returns-2 : tie.Need-returns-2
 returns-2 c =
     let a = c .before .before .before .before .before .before .before .before .before .args in
     let r = c .before .before .insert-range in
     λ X x i f g. last-range (over-words X) (a .location) (a .end) (a .at) (a .count) (a .taken) (a .address) (a .s .now) (words (a .state) x i f g (a .call-locations .now) (a .ranges .now)) (words (r .result) x i f g (a .call-locations .now) (r .last .1 .0)) (c .before .before .before .before .before .if1 .left) (c .before .before .before .before .if2 .taken) (r .ensures x i f g (a .call-locations .now))
 
--- src/lines.rt:72:18
 mul-k : tie.Need-mul-k
 mul-k c = search needs
 
--- src/lines.rt:72:13
 add-k : tie.Need-add-k
 add-k c = search needs
 
--- src/lines.rt:73:9
 word-requires : tie.Need-word-requires
 word-requires c κs = search needs
 
--- src/lines.rt:74:9
 insert-self-range-requires : tie.Need-insert-self-range-requires
 insert-self-range-requires c κs = search needs
 
--- src/lines.rt:76:9
 same-length-2 : tie.Need-same-length-2
 same-length-2 c = search needs
 
--- src/lines.rt:76:9
 same-length-3 : tie.Need-same-length-3
 same-length-3 c = search needs
 
--- src/lines.rt:76:9
 returns-3 : tie.Need-returns-3
 returns-3 c =
     let a = c .before .before .before .before .before .before .before .before .before .before .before .before .args in
@@ -65,43 +48,33 @@ returns-3 c =
     let v = c .before .before .before .before .before .word in
     λ X x i f g. stops-before (over-words X) (a .location) (a .end) (a .at) (a .count) (a .taken) (a .address) (a .s .now) (words (a .state) x i f g (a .call-locations .now) (a .ranges .now)) (v .result) (words (r .result) x i f g (a .call-locations .now) (r .last .1 .0)) (c .before .before .before .before .before .before .before .before .if1 .left) (c .before .before .before .before .before .before .before .if2 .left) (v .ensures) (r .ensures x i f g (a .call-locations .now)) (c .if3 .taken)
 
--- src/lines.rt:78:24
 add-word : tie.Need-add-word
 add-word c = search needs
 
--- src/lines.rt:78:9
 word-requires-2 : tie.Need-word-requires-2
 word-requires-2 c κs = search needs
 
--- src/lines.rt:79:9
 insert-call-location-requires : tie.Need-insert-call-location-requires
 insert-call-location-requires c κs = search needs
 
--- src/lines.rt:81:17
 add-set-word : tie.Need-add-set-word
 add-set-word c = omega (arith, c .before .before .before .before .before .before .before .before .before .before .before .before .before .before .before .before .before .before .before .before .pre, c .before .before .before .before .before .before .before .before .before .before .before .before .before .before .before .if2 .left, c .before .before .before .before .before .before .before .before .before .before .before .before .before .before .before .before .before .before .before .before .good)
 
--- src/lines.rt:81:5
 set-word-requires : tie.Need-set-word-requires
 set-word-requires c κs = search needs
 
--- src/lines.rt:82:33
 add-t21 : tie.Need-add-t21
 add-t21 c = omega (arith, c .before .before .before .before .before .before .before .before .before .before .before .before .before .before .before .before .before .before .before .before .before .before .before .pre, c .before .before .before .before .before .before .before .before .before .before .before .before .before .before .before .before .before .before .if2 .left, c .before .before .before .before .before .before .before .before .before .before .before .before .before .before .before .before .before .before .before .before .before .before .before .good)
 
--- src/lines.rt:61:1
 same-length-4 : tie.Need-same-length-4
 same-length-4 c = search needs
 
--- src/lines.rt:61:1
 same-length-5 : tie.Need-same-length-5
 same-length-5 c = search needs
 
--- src/lines.rt:61:1
 same-length-6 : tie.Need-same-length-6
 same-length-6 c = search needs
 
--- src/lines.rt:61:1
 returns-4 : tie.Need-returns-4
 returns-4 c =
     let a = c .before .before .before .before .before .before .before .before .before .before .before .before .before .before .before .before .before .before .before .before .before .before .before .args in

@@ -1,7 +1,7 @@
-use Prim.Native.Nat.{ℕ, _+_, _-_, _/_, _≤_}
-use mathlib.Core.Path.{_≡_, refl, _∙_}
+-- `gather` meets its contract: what the rows to come still store leaves what all of them leave.
+use Prim.Native.Nat.{_+_, _-_, _/_, _≤_}
 use mathlib.Core.Logic.{⊎-elim}
-use mathlib.Core.List.{List, []}
+use mathlib.Core.List.{[]}
 use native.Mathlib.Omega.{arith}
 use lib.ListN.{length}
 use borrow.Author.Needs.{needs}
@@ -9,10 +9,6 @@ use Rattle.rows.specs.Columns.{columns}
 use Rattle.writer.proofs.ScratchLaws.{Gathers, gathers-begin, gathers-stop, gathers-end, gathers-pass, gathers-push, gathers-room, lines-fit}
 use Rattle.writer.proofs.scratch.gather.Statement.{statement}
 use Rattle.writer.proofs.scratch.gather.Tie as tie
-use Rattle.writer.proofs.scratch.gather.Reads as reads
-use Rattle.writer.proofs.scratch.gather.Lts as lts
-use Rattle.rows.proofs.function_row.Reads as function-row-reads
-use Rattle.writer.proofs.scratch.push_lines.Reads as push-lines-reads
 
 abbrev Inv-loop : tie.InvT-loop
 Inv-loop s₀ at functions64 functions32 lines64 lines32 i first depth rows r₀ line₀ n₀ s r line n =
@@ -22,40 +18,32 @@ abbrev μ-loop : tie.MeasureT-loop
 μ-loop s₀ at functions64 functions32 lines64 lines32 i first depth rows r₀ line₀ n₀ s r line n =
     length functions64 / 2 - r
 
--- src/scratch.rt:90:5
 loop-holds : tie.Need-loop-holds Inv-loop μ-loop
 loop-holds c =
     let a = c .before .before .before .before .before .args in
     gathers-begin (columns (a .functions64 .now) (a .functions32 .now) (a .lines64 .now) (a .lines32 .now) []) (a .depth) (a .at) (a .i) (a .first) (a .s .now) (c .before .before .before .before .before .pre .1) (c .before .before .before .before .before .pre .3)
 
--- src/scratch.rt:91:13
 function-row-requires : tie.Need-function-row-requires Inv-loop μ-loop
 function-row-requires c κs = search needs
 
--- src/scratch.rt:95:13
 same-length : tie.Need-same-length Inv-loop μ-loop
 same-length c = c .before .before .before .loop .inv .len
 
--- src/scratch.rt:95:13
 returns : tie.Need-returns Inv-loop μ-loop
 returns c =
     let a = c .before .before .before .before .before .before .before .before .before .args in
     let l = c .before .before .before .loop in
     gathers-stop (columns (a .functions64 .now) (a .functions32 .now) (a .lines64 .now) (a .lines32 .now) []) (a .depth) (a .at) (a .i) (a .first) (a .s .now) (l .s) (l .r) (l .line) (l .n) (l .inv) _ (c .before .function-row .ensures) (c .before .before .loop-test .taken) (c .if1 .taken)
 
--- src/scratch.rt:97:17
 add-if2 : tie.Need-add-if2 Inv-loop μ-loop
 add-if2 c = omega arith
 
--- src/scratch.rt:98:38
 mul-push-lines : tie.Need-mul-push-lines Inv-loop μ-loop
 mul-push-lines c = omega (arith, c .before .before .before .before .before .loop .inv .going .count, c .before .before .before .before .before .before .before .before .before .before .before .pre .0)
 
--- src/scratch.rt:98:33
 add-push-lines : tie.Need-add-push-lines Inv-loop μ-loop
 add-push-lines c = omega (arith, c .before .before .before .before .before .loop .inv .going .count, c .before .before .before .before .before .before .before .before .before .before .before .pre .0)
 
--- src/scratch.rt:98:13
 push-lines-requires : tie.Need-push-lines-requires Inv-loop μ-loop
 push-lines-requires c κs =
     let a = c .before .before .before .before .before .before .before .before .before .before .before .args in
@@ -67,19 +55,15 @@ push-lines-requires c κs =
     let f = c .before .before .before .before .before .before .before .before .before .before .before .pre .4 (l .r) h in
     (omega (arith, r, l .inv .len, c .before .before .before .before .before .before .before .before .before .before .before .pre .0), lines-fit (columns (a .functions64 .now) (a .functions32 .now) (a .lines64 .now) (a .lines32 .now) []) (l .r) (l .line) (q .result) e (l .inv .line-is) f)
 
--- src/scratch.rt:99:18
 cast-n : tie.Need-cast-n Inv-loop μ-loop
 cast-n c = omega arith
 
--- src/scratch.rt:99:13
 add-n : tie.Need-add-n Inv-loop μ-loop
 add-n c = omega (arith, c .before .before .before .before .before .before .before .before .loop .inv .going .count, c .before .before .before .before .before .before .before .before .before .before .before .before .before .before .pre .0)
 
--- src/scratch.rt:101:17
 cast-line : tie.Need-cast-line Inv-loop μ-loop
 cast-line c = omega arith
 
--- src/scratch.rt:101:9
 add-line : tie.Need-add-line Inv-loop μ-loop
 add-line c =
     let a = c .before .before .before .before .before .before .before .before .before .before .args in
@@ -88,15 +72,12 @@ add-line c =
     let f : l .line + q .result .lines ≤ length (a .lines64 .now) / 3 = lines-fit (columns (a .functions64 .now) (a .functions32 .now) (a .lines64 .now) (a .lines32 .now) []) (l .r) (l .line) (q .result) (q .ensures) (l .inv .line-is) (c .before .before .before .before .before .before .before .before .before .before .pre .4 (l .r) (c .before .before .before .loop-test .taken)) in
     omega (arith, f, c .before .before .before .before .before .before .before .before .before .before .good)
 
--- src/scratch.rt:102:9
 add-r : tie.Need-add-r Inv-loop μ-loop
 add-r c = omega arith
 
--- src/scratch.rt:90:5
 loop-less : tie.Need-loop-less Inv-loop μ-loop
 loop-less c = omega arith
 
--- src/scratch.rt:90:5
 loop-again : tie.Need-loop-again Inv-loop μ-loop
 loop-again c =
     let a = c .before .before .before .before .before .before .before .before .before .before .args in
@@ -109,11 +90,9 @@ loop-again c =
     (λ w. rw (w .1, w .2) (gathers-pass (columns (a .functions64 .now) (a .functions32 .now) (a .lines64 .now) (a .lines32 .now) []) (a .depth) (a .at) (a .i) (a .first) (a .s .now) (l .s) (l .r) (l .line) (l .n) (l .inv) (q .result) (q .ensures) h (c .before .if1 .left) (w .0 .left)))
     (c .if2 .came)
 
--- src/scratch.rt:82:1
 same-length-2 : tie.Need-same-length-2 Inv-loop μ-loop
 same-length-2 c = c .before .loop .inv .len
 
--- src/scratch.rt:82:1
 returns-2 : tie.Need-returns-2 Inv-loop μ-loop
 returns-2 c =
     let a = c .before .before .before .before .before .before .before .args in

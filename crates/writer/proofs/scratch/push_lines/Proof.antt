@@ -1,19 +1,15 @@
-use Prim.Native.Nat.{ℕ, _+_, _-_, _≤_}
+-- `push_lines` meets its contract: what is still to be stored leaves what all lines leave.
+use Prim.Native.Nat.{ℕ, _-_, _≤_}
 use mathlib.Core.Path.{_≡_, refl, _∙_}
 use mathlib.Core.List.{List}
 use native.Mathlib.Omega.{arith}
-use lib.ListN.{length, length-set}
+use lib.ListN.{length}
 use borrow.Author.Needs.{needs}
 use Rattle.rows.specs.Columns.{columns}
 use Rattle.loops.proofs.Gathered.{Pushed, pushed-none, pushed-all}
 use Rattle.writer.proofs.ScratchLaws.{line-pushed}
 use Rattle.writer.proofs.scratch.push_lines.Statement.{statement}
 use Rattle.writer.proofs.scratch.push_lines.Tie as tie
-use Rattle.writer.proofs.scratch.push_lines.Reads as reads
-use Rattle.writer.proofs.scratch.push_lines.Lts as lts
-use Rattle.rows.proofs.line_boundaries.Reads as line-boundaries-reads
-use Rattle.rows.proofs.line_row.Reads as line-row-reads
-use Rattle.writer.proofs.scratch.set_word.Reads as set-word-reads
 
 abbrev Inv-loop : tie.InvT-loop
 Inv-loop s₀ at lines64 lines32 first count i₀ s i =
@@ -22,64 +18,49 @@ Inv-loop s₀ at lines64 lines32 first count i₀ s i =
 abbrev μ-loop : tie.MeasureT-loop
 μ-loop s₀ at lines64 lines32 first count i₀ s i = count - i
 
--- src/scratch.rt:71:5
 loop-holds : tie.Need-loop-holds Inv-loop μ-loop
 loop-holds c =
     let a = c .before .before .before .args in (omega arith, refl, λ f g t. pushed-none (columns f g (a .lines64 .now) (a .lines32 .now) t) (a .first) (a .count) (a .at) (a .s .now))
 
--- src/scratch.rt:72:17
 cast-k : tie.Need-cast-k Inv-loop μ-loop
 cast-k c = omega arith
 
--- src/scratch.rt:73:53
 add-line-row : tie.Need-add-line-row Inv-loop μ-loop
 add-line-row c = omega arith
 
--- src/scratch.rt:73:13
 line-row-requires : tie.Need-line-row-requires Inv-loop μ-loop
 line-row-requires c κs = search needs
 
--- src/scratch.rt:74:13
 line-boundaries-requires : tie.Need-line-boundaries-requires Inv-loop μ-loop
 line-boundaries-requires c κs = search needs
 
--- src/scratch.rt:75:32
 mul-set-word : tie.Need-mul-set-word Inv-loop μ-loop
 mul-set-word c = omega arith
 
--- src/scratch.rt:75:27
 add-set-word : tie.Need-add-set-word Inv-loop μ-loop
 add-set-word c = omega arith
 
--- src/scratch.rt:75:9
 set-word-requires : tie.Need-set-word-requires Inv-loop μ-loop
 set-word-requires c κs = search needs
 
--- src/scratch.rt:76:32
 mul-set-word-2 : tie.Need-mul-set-word-2 Inv-loop μ-loop
 mul-set-word-2 c = omega arith
 
--- src/scratch.rt:76:27
 add-set-word-2 : tie.Need-add-set-word-2 Inv-loop μ-loop
 add-set-word-2 c = omega arith
 
--- src/scratch.rt:76:27
 add-set-word-3 : tie.Need-add-set-word-3 Inv-loop μ-loop
 add-set-word-3 c = omega arith
 
--- src/scratch.rt:76:9
 set-word-requires-2 : tie.Need-set-word-requires-2 Inv-loop μ-loop
 set-word-requires-2 c κs = search needs
 
--- src/scratch.rt:77:9
 add-i : tie.Need-add-i Inv-loop μ-loop
 add-i c = omega arith
 
--- src/scratch.rt:71:5
 loop-less : tie.Need-loop-less Inv-loop μ-loop
 loop-less c = omega arith
 
--- src/scratch.rt:71:5
 loop-again : tie.Need-loop-again Inv-loop μ-loop
 loop-again c =
     let a = c .before .before .before .before .before .before .before .before .before .before .before .before .before .before .before .args in
@@ -90,11 +71,9 @@ loop-again c =
       λ f g t. line-pushed (columns f g (a .lines64 .now) (a .lines32 .now) t) (a .first) (a .count) (a .at) (a .s .now) (l .s) _ _ (l .i) _ _ (c .before .before .before .before .before .before .before .before .before .line-row .ensures) (c .before .before .before .before .before .before .before .before .line-boundaries .ensures) (c .before .before .before .before .before .before .set-word .ensures) (c .before .before .set-word2 .ensures) h (l .inv .2 f g t),
     )
 
--- src/scratch.rt:66:1
 same-length : tie.Need-same-length Inv-loop μ-loop
 same-length c = c .before .loop .inv .1
 
--- src/scratch.rt:66:1
 returns : tie.Need-returns Inv-loop μ-loop
 returns c =
     let a = c .before .before .before .before .before .args in

@@ -1,64 +1,48 @@
+-- `set_calls` meets its contract: four words one after the other are `setCalls`.
 use Rattle.writer.proofs.ScratchLaws.{calls-stored}
 use borrow.Author.Needs.{needs}
 use Rattle.writer.proofs.scratch.set_calls.Statement.{statement}
 use Rattle.writer.proofs.scratch.set_calls.Tie as tie
-use Rattle.writer.proofs.scratch.set_calls.Reads as reads
-use Rattle.writer.proofs.scratch.set_calls.Lts as lts
-use Rattle.writer.proofs.scratch.set_word.Reads as set-word-reads
 
--- src/scratch.rt:58:13
 mul-k : tie.Need-mul-k
 mul-k c = search needs
 
--- src/scratch.rt:59:26
 cast-set-word : tie.Need-cast-set-word
 cast-set-word c = search needs
 
--- src/scratch.rt:59:5
 set-word-requires : tie.Need-set-word-requires
 set-word-requires c κs = search needs
 
--- src/scratch.rt:60:23
 add-set-word : tie.Need-add-set-word
 add-set-word c = search needs
 
--- src/scratch.rt:60:30
 cast-set-word-2 : tie.Need-cast-set-word-2
 cast-set-word-2 c = search needs
 
--- src/scratch.rt:60:5
 set-word-requires-2 : tie.Need-set-word-requires-2
 set-word-requires-2 c κs = search needs
 
--- src/scratch.rt:61:23
 add-set-word-2 : tie.Need-add-set-word-2
 add-set-word-2 c = search needs
 
--- src/scratch.rt:61:30
 cast-set-word-3 : tie.Need-cast-set-word-3
 cast-set-word-3 c = search needs
 
--- src/scratch.rt:61:5
 set-word-requires-3 : tie.Need-set-word-requires-3
 set-word-requires-3 c κs = search needs
 
--- src/scratch.rt:62:23
 add-set-word-3 : tie.Need-add-set-word-3
 add-set-word-3 c = search needs
 
--- src/scratch.rt:62:30
 cast-set-word-4 : tie.Need-cast-set-word-4
 cast-set-word-4 c = search needs
 
--- src/scratch.rt:62:5
 set-word-requires-4 : tie.Need-set-word-requires-4
 set-word-requires-4 c κs = search needs
 
--- src/scratch.rt:55:1
 same-length : tie.Need-same-length
 same-length c = search needs
 
--- src/scratch.rt:55:1
 returns : tie.Need-returns
 returns c =
     let a = c .before .before .before .before .before .before .before .before .before .before .before .before .before .before .before .before .before .args in

@@ -1,28 +1,22 @@
+-- `set_word` meets its contract: past the end `set` changes nothing.
 use mathlib.Core.Path.{sym}
 use lib.Seq.{set-out}
 use borrow.Author.Needs.{needs}
 use Rattle.writer.proofs.scratch.set_word.Statement.{statement}
 use Rattle.writer.proofs.scratch.set_word.Tie as tie
-use Rattle.writer.proofs.scratch.set_word.Reads as reads
-use Rattle.writer.proofs.scratch.set_word.Lts as lts
 
--- src/scratch.rt:29:9
 mul-s : tie.Need-mul-s
 mul-s c = search needs
 
--- src/scratch.rt:29:9
 slice-write-s : tie.Need-slice-write-s
 slice-write-s c = search needs
 
--- src/scratch.rt:25:1
 same-length : tie.Need-same-length
 same-length c = search needs
 
--- src/scratch.rt:25:1
 returns : tie.Need-returns
 returns c = search needs
 
--- src/scratch.rt:25:1
 returns-2 : tie.Need-returns-2
 returns-2 c = sym (set-out _ _ _ (c .if1 .left))
 

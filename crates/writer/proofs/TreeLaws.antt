@@ -1,0 +1,250 @@
+-- What the code of tree.rt does, step by step, as the definitions have it.
+use mathlib.Core.Path.{_≡_, refl, sym, ap, _∙_}
+use mathlib.Core.Bool.{Bool, true, false, cond, true≢false, false≢true}
+use mathlib.Core.List.{List, [], _∷_, _++_, map}
+use Prim.Native.Nat.{ℕ, suc, _+_, _*_, _-_, _/_, _%_, _≤_, _<_}
+use native.Mathlib.Omega.{arith}
+use lib.Dec.{eqb, ltb}
+use lib.ListN.{length, getD, take, drop}
+use lib.Seq.{sets, drop-drop}
+use borrow.Author.Tests.{eq-eqb, ne-eqb}
+use Rattle.names.specs.Names.{undecorated}
+use Rattle.model.specs.Basics.{Span, sort}
+use Rattle.model.specs.Rows.{MAX, Text, LineRow, FunctionRow, SymbolRow, skipped, function-end}
+use Rattle.model.specs.Machine.{Machine, LoopedM, unless-held, put-end, loopM, entryM, closingM, rowM}
+use Rattle.model.specs.Converter.{Setup, input}
+use Rattle.sorting.specs.Pairs.{pairWords, sortedOf}
+use Rattle.rows.specs.declared.FunctionRow.{FunctionRow as FunctionStruct}
+use Rattle.rows.specs.Columns.{Columns, columns, functionRows, lineRows, functionRow, functionStruct, functionAt, linesFrom, textOf}
+use Rattle.rows.specs.Refusals.{firstLine}
+use Rattle.rows.proofs.RowLaws.{functionAt-lines, functionAt-skipped}
+use Rattle.rows.proofs.Accepted.{Accepted}
+use Rattle.steps.specs.Words.{Words, put-range, location, begin-named, over-words}
+use Rattle.steps.proofs.RowTexts.{begin-is}
+use Rattle.loops.specs.Scratch.{pairsAt, ref-of, refsAt, startAt, lenAt, setCalls, callsOf, topOf, kid-spans, LinesWithin, Lined, RowDone}
+use Rattle.loops.proofs.Pairs.{pairs-kept}
+use Rattle.loops.proofs.Rows.{first-line}
+use Rattle.loops.proofs.Visits.{row-empty, row-skipped, row-visited, calls-root, calls-none, calls-some, visited, passed-over}
+use Rattle.loops.proofs.Gathered.{spans-text, sorted-pairs, sorted-kept}
+use Rattle.loops.proofs.Tree.{Rowing, depth-low, room-fits, next}
+use Rattle.writer.specs.Walk.{OwnCalls, Sorted, row-spans, RowReady, RowLeft, ref}
+
+-- ── What is read of a row ──
+
+pub size-none : (z : ℕ) (b : Bool) → z ≡ 0 → true ≡ cond (eqb z 0) true b
+size-none z b e = rw (eq-eqb z 0 e)
+
+pub size-some : (z : ℕ) (b : Bool) → (z ≡ 0 → ⊥) → b ≡ cond (eqb z 0) true b
+size-some z b e = rw (ne-eqb z 0 e)
+
+pub passed-test : (some b : Bool) {r : Bool} → some ≡ true → r ≡ b → r ≡ cond some b true
+passed-test some b e f = rw e f
+
+pub no-call : (some b : Bool) → some ≡ false → true ≡ cond some b true
+no-call some b e = rw e
+
+pub begun : (u : Bool) (lang : ℕ) (w : Words) {name name′ : Text} {e e′ : ℕ} {z : ℕ × Words} → name ≡ name′ → e ≡ e′
+    → z ≡ begin-named (cond u (undecorated name) name) e lang w → z ≡ begin-named (cond u (undecorated name′) name′) e′ lang w
+begun u lang w {name} {name′} {e} {e′} {z} f g h = rw (f, g) at h
+
+-- ── The entry and the end ──
+
+module _ (X : Setup) (p : FunctionRow) (fi : ℕ) (w : Words) where
+  pub entry-inline : p .inline ≡ true → w ≡ entryM input (over-words X) p fi w
+  unfolding entryM
+  entry-inline h = rw (h, entryM)
+
+  pub entry-own : (a : ℕ) (w₁ : Words) → p .inline ≡ false → a ≡ p .address → w₁ ≡ unless-held input (over-words X) a (put-range a (location MAX 0 fi MAX) w) w → w₁ ≡ entryM input (over-words X) p fi w
+  unfolding entryM
+  entry-own a w₁ h e f = rw (h, entryM) (rw e at f)
+
+  pub closing : (a : ℕ) (w₁ w₂ w₃ : Words) → w₁ ≡ entryM input (over-words X) p fi w → a ≡ function-end p → w₂ ≡ over-words X .mark-end a w₁ → w₃ ≡ put-end input (over-words X) a w₂
+      → w₃ ≡ closingM input (over-words X) p fi w
+  unfolding closingM
+  closing a w₁ w₂ w₃ e₁ e₂ e₃ e₄ = e₄ ∙ ap (put-end input (over-words X) a) (e₃ ∙ ap (over-words X .mark-end a) e₁) ∙ ap (λ (x : ℕ). put-end input (over-words X) x (over-words X .mark-end x (entryM input (over-words X) p fi w))) e₂
+
+cut-same : (a b c d : ℕ) → a ≡ c → b ≡ d → (c + d) % 4294967296 ≡ (a + b) % 4294967296
+cut-same a b c d e f = rw (e, f)
+
+pub end-is : (p : FunctionRow) (q : FunctionStruct) {r : ℕ} → r ≡ (q .address + q .size) % 4294967296 → p .address ≡ q .address → p .size ≡ q .size → r ≡ function-end p
+end-is p q e f g = e ∙ cut-same (p .address) (p .size) (q .address) (q .size) f g
+
+pub address-is : (p : FunctionRow) (q : FunctionStruct) → p .address ≡ q .address → q .address ≤ MAX → q .address % 4294967296 ≡ p .address
+address-is p q e h = omega arith
+
+-- ── The call locations of a depth ──
+
+module _ (s : List ℕ) (base : ℕ) where
+  pub own-root : (d : ℕ) → d ≡ 0 → OwnCalls s base d 0 true 4294967295 0 0
+  unfolding topOf
+  own-root d e = rw e (record { top-is = refl; none = λ x. absurd (true≢false x); first = λ x. (0, calls-root s base 0); below = omega arith })
+
+  below-one : (d : ℕ) → (d ≡ 0 → ⊥) → d ≡ suc (d - 1)
+  below-one d h = omega arith
+
+  module _ (d start len : ℕ) (h : d ≡ 0 → ⊥) (e : start ≡ startAt s (d - 1)) (f : len ≡ lenAt s (d - 1)) where
+    pub own-top : start + len ≡ topOf s d
+    unfolding topOf
+    own-top = rw (below-one d h, e, f)
+
+    pub own-none : len ≡ 0 → OwnCalls s base d (start + len) false 0 0 0
+    own-none z = record {
+      top-is = own-top;
+      none = λ x. ap (callsOf s base) (below-one d h) ∙ calls-none s base (d - 1) (sym f ∙ z);
+      first = λ x. absurd (false≢true x);
+      below = omega arith;
+    }
+
+    pub own-some : (current : ℕ) → (len ≡ 0 → ⊥) → current ≡ getD s (base + start * 2 + 1) 0 → OwnCalls s base d (start + len) true current (base + start * 2 + 2) (len - 1)
+    own-some current z g = record {
+      top-is = own-top;
+      none = λ x. absurd (true≢false x);
+      first = λ x. (
+        getD s (base + start * 2) 0,
+        ap (callsOf s base) (below-one d h) ∙ rw (g, e, f) (calls-some s base (d - 1) (omega (arith, f, z))),
+      );
+      below = omega (arith, z);
+    }
+
+-- ── The inlinee ranges of a row ──
+
+pub ranges-sorted : (s s₁ ys : List ℕ) (b n : ℕ) (ss : List Span) → n ≡ length ss → s₁ ≡ sets s b (pairWords ss) → b + length ss * 2 ≤ length s
+    → ys ≡ sortedOf (take (b + n * 2 - b) (drop b s₁)) → Sorted b ss n s (take b s₁ ++ (ys ++ drop (b + n * 2 - b) (drop b s₁)))
+ranges-sorted s s₁ ys b n ss e f h g =
+    let z : b + (b + n * 2 - b) ≡ b + n * 2 = omega arith in
+    let d : drop (b + n * 2 - b) (drop b s₁) ≡ drop (b + n * 2) s₁ = drop-drop (b + n * 2 - b) b s₁ ∙ ap (λ (x : ℕ). drop x s₁) z in
+    let x : take b s₁ ++ (ys ++ drop (b + n * 2 - b) (drop b s₁)) ≡ take b s₁ ++ (sortedOf (take (b + n * 2 - b) (drop b s₁)) ++ drop (b + n * 2) s₁) = rw (d, g) refl in
+    record {
+      count = e;
+      sorted = sorted-pairs s s₁ _ b (b + n * 2) ss (omega arith) (omega arith) f x;
+      kept = sorted-kept s s₁ _ b (b + n * 2) ss (omega arith) (omega arith) f x;
+    }
+
+-- ── A row ──
+
+module _ {R P L S : Type 0} (M : Machine FunctionRow LineRow SymbolRow R P L ℕ S) (q : FunctionRow) (ss : List Span) (base d top calls count current : ℕ) (s s₂ s₃ : List ℕ) (w w₁ w₃ : S) (fi : R) (m : ℕ) where
+  abbrev walked : LoopedM ℕ S
+  walked = loopM input M q fi (q .lines) current (refsAt s₂ calls count) (pairsAt s₂ (base + top * 2) (length ss)) 0 w₁
+
+  -- its inlinee ranges were gathered and sorted (s₂), it was begun (w₁), its lines were walked (s₃, w₃), and it was closed
+  pub row-done : (n : ℕ) → Sorted (base + top * 2) ss n s s₂ → skipped q ≡ false → calls + count * 2 ≤ base + top * 2 → d * 4 + 4 ≤ base → base ≤ length s₃
+      → M .begin q w ≡ (fi, w₁) → Lined (base + top * 2) (length ss) walked s₂ s₃ w₃ m
+      → (a : ℕ) → RowDone base d top (length ss) (rowM input M q ss (ref a current ∷ refsAt s calls count) w) s (setCalls s₃ d top m) (closingM input M q fi w₃)
+  row-done n o k h low room b l a =
+      let x : refsAt s₂ calls count ≡ refsAt s calls count = ap (map ref-of) (pairs-kept s s₂ calls count (base + top * 2) (o .kept) h) in
+      let e : walked ≡ loopM input M q fi (q .lines) current (refsAt s calls count) (sort ss) 0 w₁ = rw (x, o .sorted) refl in
+      let p : rowM input M q ss (ref a current ∷ refsAt s calls count) w ≡ record { state = closingM input M q fi (walked .state); calls = walked .calls } =
+      row-visited input M q ss w (ref a current) (refsAt s calls count) k ∙ rw (b, e) refl in
+      visited base d top (length ss) low s s₂ s₃ walked w₃ m (rowM input M q ss (ref a current ∷ refsAt s calls count) w) (closingM input M q fi w₃) room (o .kept) l
+      (ap (closingM input M q fi) (l .state) ∙ sym (ap (λ (y : LoopedM ℕ S). y .state) p)) (sym (ap (λ (y : LoopedM ℕ S). y .calls) p))
+
+module _ (f64 f32 l64 l32 t : List ℕ) (base i first : ℕ) where
+  abbrev k : Columns
+  k = columns f64 f32 l64 l32 t
+
+  abbrev k₀ : Columns
+  k₀ = columns f64 f32 l64 l32 []
+
+  -- ── A row that is visited ──
+
+  module _ (size top : ℕ) (ready : RowReady k size base i first top) (q : FunctionStruct) (e : q ≡ functionRow f64 f32 i) where
+    same-spans : kid-spans k₀ (q .depth) (i + 1) (first + q .lines) ≡ row-spans k i first
+    same-spans = rw e (sym (spans-text f64 f32 l64 l32 t (functionRow f64 f32 i .depth) (i + 1) (first + functionRow f64 f32 i .lines)))
+
+    pub gather-ready : (base + top * 2 + length (kid-spans k₀ (q .depth) (i + 1) (first + q .lines)) * 2 ≤ size)
+        × (i + 1 ≤ length f64 / 2) × (q .depth < 65536) × (first + q .lines ≡ firstLine k₀ (i + 1)) × LinesWithin f64 f32 l64
+    gather-ready = (
+      rw same-spans (omega (arith, ready .room)),
+      omega (arith, ready .inside),
+      rw e (ready .shallow),
+      rw e (ap (λ (x : ℕ). x + functionRow f64 f32 i .lines) (ready .first-is) ∙ sym (first-line k i)),
+      ready .within,
+    )
+
+    pub lines-room : first + q .lines ≤ length l64 / 3
+    lines-room = rw (e, ready .first-is) (ready .within i (ready .inside))
+
+    pub lines-ready : (calls count n : ℕ) (s₁ s₂ : List ℕ) → length s₂ ≡ size → calls + count * 2 ≤ base + top * 2 → Sorted (base + top * 2) (kid-spans k₀ (q .depth) (i + 1) (first + q .lines)) n s₁ s₂
+        → (base + top * 2 + n * 2 ≤ length s₂) × (calls + count * 2 ≤ base + top * 2) × (first + functionRow f64 f32 i .lines ≤ length l64 / 3)
+    lines-ready calls count n s₁ s₂ l h o =
+        let z : length (kid-spans k₀ (q .depth) (i + 1) (first + q .lines)) ≡ length (row-spans k i first) = ap length same-spans in
+        (omega (arith, ready .room, o .count), h, rw e at lines-room)
+
+    pub row-walked : (X : Setup) (calls count current n fi m : ℕ) (s s₂ s₃ s₄ : List ℕ) (w w₁ w₃ w₄ : Words)
+        → calls + count * 2 ≤ base + top * 2 → skipped (functionAt k i first) ≡ false
+        → Sorted (base + top * 2) (kid-spans k₀ (q .depth) (i + 1) (first + q .lines)) n s s₂ → length s₃ ≡ size
+        → (fi, w₁) ≡ begin-named (cond (X .functions-on) (undecorated (textOf t (q .name))) (textOf t (q .name))) (cond (q .inline) MAX (q .address % 4294967296)) (q .language) w
+        → Lined (base + top * 2) n (loopM input (over-words X) (functionAt k i first) fi (linesFrom k first (functionRow f64 f32 i .lines)) current (refsAt s₂ calls count) (pairsAt s₂ (base + top * 2) n) 0 w₁) s₂ s₃ w₃ m
+        → w₄ ≡ closingM input (over-words X) (functionAt k i first) fi w₃ → s₄ ≡ setCalls s₃ (q .depth) top m
+        → (a : ℕ) → RowLeft X k base i first top (ref a current ∷ refsAt s calls count) s s₄ w w₄
+    unfolding functionAt
+    row-walked X calls count current n fi m s s₂ s₃ s₄ w w₁ w₃ w₄ h z o l b d c y a =
+        let o′ : Sorted (base + top * 2) (row-spans k i first) n s s₂ = rw same-spans at o in
+        let b′ : over-words X .begin (functionAt k i first) w ≡ (fi, w₁) = begin-is k i first X w z ∙ sym (rw e at b) in
+        let d′ : Lined (base + top * 2) (length (row-spans k i first)) (loopM input (over-words X) (functionAt k i first) fi (functionAt k i first .lines) current (refsAt s₂ calls count) (pairsAt s₂ (base + top * 2) (length (row-spans k i first))) 0 w₁) s₂ s₃ w₃ m =
+        rw (functionAt-lines k i first) (rw (o′ .count) at d) in
+        rw (c, y, e)
+        (row-done (over-words X) (functionAt k i first) (row-spans k i first) base (functionRow f64 f32 i .depth) top calls count current s s₂ s₃ w w₁ w₃ fi m n o′ z h (ready .low) (omega (arith, ready .room)) b′ d′ a)
+
+  -- ── A row, visited or not ──
+
+  module _ (s : List ℕ) (ready : RowReady k (length s) base i first (topOf s (functionRow f64 f32 i .depth))) (q : FunctionStruct) (e : q ≡ functionRow f64 f32 i) where
+    pub own-ready : base + topOf s (q .depth) * 2 ≤ length s
+    own-ready = rw e (omega (arith, ready .room))
+
+    module _ (top : ℕ) (some : Bool) (current calls count : ℕ) (own : OwnCalls s base (q .depth) top some current calls count)
+        (flag : Bool) (f : flag ≡ cond some (cond (eqb (q .size) 0) true (ltb MAX (q .address))) true) where
+      own′ : OwnCalls s base (functionRow f64 f32 i .depth) top some current calls count
+      own′ = rw e at own
+
+      skip-is : skipped (functionAt k i first) ≡ cond (eqb (q .size) 0) true (ltb MAX (q .address))
+      skip-is = functionAt-skipped k i first ∙ rw e refl
+
+      -- "No call location made", or skipped
+      pub row-passed : (X : Setup) (w : Words) (s′ : List ℕ) → flag ≡ true → s′ ≡ setCalls s (q .depth) top 0
+          → RowLeft X k base i first (topOf s (functionRow f64 f32 i .depth)) (callsOf s base (functionRow f64 f32 i .depth)) s s′ w w
+      row-passed X w s′ z y =
+          rw (y, e, own′ .top-is)
+          (passed-over base (functionRow f64 f32 i .depth) (topOf s (functionRow f64 f32 i .depth)) (length (row-spans k i first)) (ready .low) s _ w (omega (arith, ready .room)) (go some refl (sym f ∙ z)))
+        where
+          go : (b : Bool) → some ≡ b → cond b (cond (eqb (q .size) 0) true (ltb MAX (q .address))) true ≡ true
+              → rowM input (over-words X) (functionAt k i first) (row-spans k i first) (callsOf s base (functionRow f64 f32 i .depth)) w ≡ record { state = w; calls = [] }
+          go true x g = row-skipped input (over-words X) (functionAt k i first) (row-spans k i first) w (callsOf s base (functionRow f64 f32 i .depth)) (skip-is ∙ g)
+          go false x g = rw (own′ .none x) (row-empty input (over-words X) (functionAt k i first) (row-spans k i first) w)
+
+      module _ (z : flag ≡ false) where
+        both : (b : Bool) → some ≡ b → cond b (cond (eqb (q .size) 0) true (ltb MAX (q .address))) true ≡ false → (some ≡ true) × (skipped (functionAt k i first) ≡ false)
+        both true x g = (x, skip-is ∙ g)
+        both false x g = absurd (true≢false g)
+
+        pub visit-ready : RowReady k (length s) base i first top × (calls + count * 2 ≤ base + top * 2) × (skipped (functionAt k i first) ≡ false)
+        visit-ready = (rw (own′ .top-is) ready, own′ .below, both some refl (sym f ∙ z) .1)
+
+        pub row-visits : (X : Setup) (w w′ : Words) (s′ : List ℕ) → ((a : ℕ) → RowLeft X k base i first top (ref a current ∷ refsAt s calls count) s s′ w w′)
+            → RowLeft X k base i first (topOf s (functionRow f64 f32 i .depth)) (callsOf s base (functionRow f64 f32 i .depth)) s s′ w w′
+        row-visits X w w′ s′ g =
+            let x = own′ .first (both some refl (sym f ∙ z) .0) in
+            rw (← own′ .top-is, x .1) (g (x .0))
+
+-- ── The rows ──
+
+module _ (k : Columns) (size : ℕ) (X : Setup) (w₀ : Words) (ok : Accepted k size) (s : List ℕ) (i first : ℕ) (w : Words) (r : Rowing (over-words X) k size w₀ s i first w) (h : i < functionRows k) where
+  pub row-ready : RowReady k (length s) (functionRows k * 4) i first (topOf s (functionStruct k i .depth))
+  row-ready =
+      let d : functionStruct k i .depth < functionRows k = depth-low (over-words X) k size w₀ ok s i first w r h in
+      record {
+        inside = h;
+        first-is = r .first-is;
+        within = ok .within;
+        shallow = omega (arith, ok .few);
+        low = omega arith;
+        room = room-fits (over-words X) k size w₀ ok s i first w r h;
+      }
+
+  module _ (q : FunctionStruct) (e : q ≡ functionStruct k i) where
+    pub first-low : first + q .lines ≤ lineRows k
+    first-low = rw (e, r .first-is) (ok .within i h)
+
+    pub row-after : (s′ : List ℕ) (w′ : Words) → RowLeft X k (functionRows k * 4) i first (topOf s (functionStruct k i .depth)) (callsOf s (functionRows k * 4) (functionStruct k i .depth)) s s′ w w′
+        → length s′ ≡ length s → Rowing (over-words X) k size w₀ s′ (i + 1) (first + q .lines) w′
+    row-after s′ w′ d l = rw e (next (over-words X) k size w₀ ok s i first w r h s′ w′ d l)
