@@ -1,0 +1,211 @@
+//! The reasons for which a file or a call is refused.
+
+use std::fmt;
+
+/// Why a file or a call is refused.
+///
+/// Each variant has a number, [`Error::number`]. Where several reasons hold, the one given is the
+/// first in the order that the function names. No refusal changes anything, except that
+/// [`Error::TableFull`] empties and closes the converter.
+#[derive(Clone, Copy, Debug, PartialEq, Eq, Hash)]
+#[non_exhaustive]
+pub enum Error {
+    /// 1: the file has under 8 bytes.
+    TooShort,
+    /// 2: the file was written by a system of the other endianness.
+    WrongEndianness,
+    /// 3: the file's magic does not match.
+    WrongFormat,
+    /// 4: the file's version is not 9.
+    WrongVersion,
+    /// 5: the header is cut off.
+    InvalidHeader,
+    /// 6: the files are cut off.
+    InvalidFiles,
+    /// 7: the functions are cut off.
+    InvalidFunctions,
+    /// 8: the source locations are cut off.
+    InvalidSourceLocations,
+    /// 9: the ranges are cut off, or more than the source locations.
+    InvalidRanges,
+    /// 10: the texts, or the padding before them, are cut off.
+    UnexpectedStringBytes {
+        /// How many text bytes the header tells of.
+        expected: u64,
+        /// How many there are; 0 where the padding is cut off.
+        found: u64,
+    },
+    /// 11: the file has variables, which are left out here.
+    InvalidVariableHeader,
+    /// 12: the starts of the ranges do not ascend strictly.
+    UnorderedRanges,
+    /// 13: no function rows, over 65,536 of them, depths that are not a tree's in preorder, line
+    /// counts that don't sum to the line rows, or columns whose lengths disagree.
+    InvalidRows,
+    /// 14: a text lies outside the lent text, or one other than a compilation directory isn't
+    /// UTF-8.
+    InvalidText,
+    /// 15: the address plus the size of a function is above 2^64 - 1.
+    AddressOverflow,
+    /// 16: the scratch memory has under four words for each function and line row.
+    ScratchTooSmall,
+    /// 17: a table would need more rows or bytes than its capacity. The converter is closed now,
+    /// and empty.
+    TableFull,
+    /// 18: the output is shorter than the file.
+    OutputTooShort,
+    /// 19: the converter is closed.
+    Closed,
+    /// A number that this version of the crate does not know.
+    Other(u32),
+}
+
+impl Error {
+    /// The number of this reason, 1 to 19.
+    pub fn number(&self) -> u32 {
+        match *self {
+            Error::TooShort => 1,
+            Error::WrongEndianness => 2,
+            Error::WrongFormat => 3,
+            Error::WrongVersion => 4,
+            Error::InvalidHeader => 5,
+            Error::InvalidFiles => 6,
+            Error::InvalidFunctions => 7,
+            Error::InvalidSourceLocations => 8,
+            Error::InvalidRanges => 9,
+            Error::UnexpectedStringBytes { .. } => 10,
+            Error::InvalidVariableHeader => 11,
+            Error::UnorderedRanges => 12,
+            Error::InvalidRows => 13,
+            Error::InvalidText => 14,
+            Error::AddressOverflow => 15,
+            Error::ScratchTooSmall => 16,
+            Error::TableFull => 17,
+            Error::OutputTooShort => 18,
+            Error::Closed => 19,
+            Error::Other(number) => number,
+        }
+    }
+
+    /// What a number other than 0 means. 10 comes with its counts.
+    fn of(number: u32, expected: u64, found: u64) -> Error {
+        match number {
+            1 => Error::TooShort,
+            2 => Error::WrongEndianness,
+            3 => Error::WrongFormat,
+            4 => Error::WrongVersion,
+            5 => Error::InvalidHeader,
+            6 => Error::InvalidFiles,
+            7 => Error::InvalidFunctions,
+            8 => Error::InvalidSourceLocations,
+            9 => Error::InvalidRanges,
+            10 => Error::UnexpectedStringBytes { expected, found },
+            11 => Error::InvalidVariableHeader,
+            12 => Error::UnorderedRanges,
+            13 => Error::InvalidRows,
+            14 => Error::InvalidText,
+            15 => Error::AddressOverflow,
+            16 => Error::ScratchTooSmall,
+            17 => Error::TableFull,
+            18 => Error::OutputTooShort,
+            19 => Error::Closed,
+            other => Error::Other(other),
+        }
+    }
+
+    /// What a call of the converter answered.
+    pub(crate) fn check(number: u32) -> Result<(), Error> {
+        Error::check_file(number, 0, 0)
+    }
+
+    /// What a call of the reader answered.
+    pub(crate) fn check_file(number: u32, expected: u64, found: u64) -> Result<(), Error> {
+        match number {
+            0 => Ok(()),
+            _ => Err(Error::of(number, expected, found)),
+        }
+    }
+}
+
+impl fmt::Display for Error {
+    fn fmt(&self, f: &mut fmt::Formatter<'_>) -> fmt::Result {
+        match *self {
+            Error::TooShort => f.write_str("the file has under 8 bytes"),
+            Error::WrongEndianness => {
+                f.write_str("the file was written by a system of the other endianness")
+            }
+            Error::WrongFormat => f.write_str("the file is not a SymCache"),
+            Error::WrongVersion => f.write_str("the file's version is not 9"),
+            Error::InvalidHeader => f.write_str("the file's header is cut off"),
+            Error::InvalidFiles => f.write_str("the file's table of source files is cut off"),
+            Error::InvalidFunctions => f.write_str("the file's table of functions is cut off"),
+            Error::InvalidSourceLocations => {
+                f.write_str("the file's table of source locations is cut off")
+            }
+            Error::InvalidRanges => {
+                f.write_str("the file's ranges are cut off or more than its source locations")
+            }
+            Error::UnexpectedStringBytes { expected, found } => {
+                write!(
+                    f,
+                    "the file's texts are cut off: expected {expected} bytes, found {found}"
+                )
+            }
+            Error::InvalidVariableHeader => {
+                f.write_str("the file has variables, which are not read here")
+            }
+            Error::UnorderedRanges => f.write_str("the starts of the file's ranges do not ascend"),
+            Error::InvalidRows => {
+                f.write_str("the rows are not those of a function tree in preorder")
+            }
+            Error::InvalidText => f.write_str("a text lies outside the lent text or is not UTF-8"),
+            Error::AddressOverflow => f.write_str("a function ends above 2^64 - 1"),
+            Error::ScratchTooSmall => {
+                f.write_str("the scratch memory has under four words for each row")
+            }
+            Error::TableFull => {
+                f.write_str("a table of the converter is full; the converter is closed")
+            }
+            Error::OutputTooShort => f.write_str("the output is shorter than the file"),
+            Error::Closed => f.write_str("the converter is closed"),
+            Error::Other(number) => write!(f, "refused with the unknown number {number}"),
+        }
+    }
+}
+
+impl std::error::Error for Error {}
+
+#[cfg(test)]
+mod tests {
+    use super::Error;
+
+    #[test]
+    fn every_number_has_its_own_reason_and_sentence() {
+        let mut sentences = std::collections::HashSet::new();
+        for number in 1..=19 {
+            let error = Error::check_file(number, 25, 24).unwrap_err();
+            assert_eq!(error.number(), number);
+            assert!(!matches!(error, Error::Other(_)), "{number}");
+            assert!(sentences.insert(error.to_string()), "{number}");
+        }
+        assert_eq!(Error::check(0), Ok(()));
+        assert_eq!(Error::check(20), Err(Error::Other(20)));
+        assert_eq!(Error::Other(20).number(), 20);
+    }
+
+    #[test]
+    fn ten_names_its_counts() {
+        let error = Error::check_file(10, 25, 24).unwrap_err();
+        assert_eq!(
+            error,
+            Error::UnexpectedStringBytes {
+                expected: 25,
+                found: 24
+            }
+        );
+        assert_eq!(
+            error.to_string(),
+            "the file's texts are cut off: expected 25 bytes, found 24"
+        );
+    }
+}

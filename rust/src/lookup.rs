@@ -1,0 +1,441 @@
+//! Reading a file, and looking addresses up in it. The names are those of the crate
+//! `symbolic_symcache`.
+
+use std::fmt;
+use std::iter::FusedIterator;
+
+use crate::{ffi, Error};
+
+/// Where a table of a file lies.
+#[derive(Clone, Copy, Debug, PartialEq, Eq)]
+pub struct Section {
+    /// The offset of its first byte in the file.
+    pub offset: u64,
+    /// How many rows it has; for texts, how many bytes.
+    pub count: u64,
+}
+
+/// Where the tables of a file lie, as its header tells.
+#[derive(Clone, Copy, Debug, PartialEq, Eq)]
+pub struct Layout {
+    /// The source files.
+    pub files: Section,
+    /// The functions.
+    pub functions: Section,
+    /// The source locations.
+    pub source_locations: Section,
+    /// The starts of the ranges.
+    pub ranges: Section,
+    /// The texts.
+    pub strings: Section,
+}
+
+impl Layout {
+    /// Reads the header alone, in constant time. Unlike [`SymCache::parse`] it takes files whose
+    /// ranges are unordered.
+    ///
+    /// Refused with 1 to 11, in that order.
+    pub fn parse(bytes: &[u8]) -> Result<Self, Error> {
+        let mut cache = [0; ffi::CACHE_WORDS];
+        let number = ffi::parse(bytes, &mut cache);
+        Error::check_file(number, cache[0], cache[1])?;
+        Ok(Layout::of(&cache))
+    }
+
+    fn of(cache: &[u64; ffi::CACHE_WORDS]) -> Self {
+        let section = |i: usize| Section {
+            offset: cache[2 * i],
+            count: cache[2 * i + 1],
+        };
+        Layout {
+            files: section(0),
+            functions: section(1),
+            source_locations: section(2),
+            ranges: section(3),
+            strings: section(4),
+        }
+    }
+}
+
+/// A SymCache file, read in place.
+///
+/// It is tested once, when it is parsed; a lookup then is a binary search.
+///
+/// ```
+/// # use symcache::debuginfo::{FileInfo, Function, LineInfo};
+/// # let mut converter = symcache::Converter::builder().build();
+/// # converter.process_symbolic_function(&Function {
+/// #     address: 0x1000, size: 16, name: "main".into(), language: 2,
+/// #     lines: vec![LineInfo { address: 0x1000, size: Some(16), line: 10, file: FileInfo::new("a.c", "src") }],
+/// #     ..Function::default()
+/// # })?;
+/// # let bytes = converter.serialize()?;
+/// use symcache::SymCache;
+///
+/// let cache = SymCache::parse(&bytes)?;
+/// for location in cache.lookup(0x1008) {
+///     println!("{} {}", location.function().name(), location.line());
+/// }
+/// assert_eq!(cache.lookup(0x1008).count(), 1);
+/// assert_eq!(cache.lookup(0x1010).count(), 0);
+/// # Ok::<(), symcache::Error>(())
+/// ```
+#[derive(Clone, Copy)]
+pub struct SymCache<'data> {
+    bytes: &'data [u8],
+    cache: [u64; ffi::CACHE_WORDS],
+}
+
+impl<'data> SymCache<'data> {
+    /// Reads a file and tests that its ranges are in order. Bytes after its texts are ignored, and
+    /// the bytes may begin at any address.
+    ///
+    /// Refused with 1 to 12, in that order.
+    pub fn parse(bytes: &'data [u8]) -> Result<Self, Error> {
+        let mut cache = [0; ffi::CACHE_WORDS];
+        let number = ffi::open(bytes, &mut cache);
+        Error::check_file(number, cache[0], cache[1])?;
+        Ok(SymCache { bytes, cache })
+    }
+
+    /// The version of the file format: 9, the only one that is read.
+    pub fn version(&self) -> u32 {
+        self.header_word(4)
+    }
+
+    /// The debug identifier in the header.
+    pub fn debug_id(&self) -> [u8; 32] {
+        std::array::from_fn(|i| self.bytes[8 + i])
+    }
+
+    /// The number of the architecture in the header, as stored.
+    pub fn arch(&self) -> u32 {
+        self.header_word(40)
+    }
+
+    /// Where the tables lie.
+    pub fn layout(&self) -> Layout {
+        Layout::of(&self.cache)
+    }
+
+    /// Looks an instruction address up: the source locations at it, innermost first, each inlined
+    /// into the next.
+    ///
+    /// There are none above `u32::MAX`, below the first range, and where a function or symbol has
+    /// ended.
+    pub fn lookup(&self, addr: u64) -> SourceLocations<'data> {
+        let mut cursor = [0; 3];
+        ffi::walk(self.bytes, &self.cache, addr, &mut cursor);
+        SourceLocations {
+            bytes: self.bytes,
+            cursor,
+        }
+    }
+
+    /// The index of the source location whose range holds an address. It may be that of the end of
+    /// a function, which [`SymCache::lookup`] gives no frame for.
+    pub fn find(&self, addr: u64) -> Option<u32> {
+        present(ffi::find(self.bytes, &self.cache, addr))
+    }
+
+    /// The function at an index.
+    pub fn get_function(&self, function_idx: u32) -> Option<Function<'data>> {
+        let mut row = [0; 5];
+        read(ffi::get_function(self.bytes, function_idx, &mut row));
+        (row[0] != 0).then(|| Function {
+            name: function_name(self.bytes, function_idx),
+            entry_pc: row[3],
+            language: row[4],
+        })
+    }
+
+    /// The file at an index.
+    pub fn get_file(&self, file_idx: u32) -> Option<File<'data>> {
+        let mut row = [0; 7];
+        read(ffi::get_file(self.bytes, file_idx, &mut row));
+        (row[0] != 0).then(|| File::new(self.bytes, &row[1..]))
+    }
+
+    /// The text at an offset of the string section. Absent where there is none, or it is cut off or
+    /// not UTF-8.
+    pub fn get_string(&self, offset: u32) -> Option<&'data str> {
+        string(self.bytes, offset)
+    }
+
+    /// The functions that have an entry, that is, weren't only inlined, in the order in which they
+    /// were added.
+    pub fn functions(&self) -> Functions<'data> {
+        Functions {
+            bytes: self.bytes,
+            cursor: [0],
+        }
+    }
+
+    /// The source files, in the order in which they were added.
+    pub fn files(&self) -> Files<'data> {
+        Files {
+            bytes: self.bytes,
+            cursor: [0],
+        }
+    }
+
+    /// A 32-bit word of the first 80 bytes, which every file that was read has.
+    fn header_word(&self, at: usize) -> u32 {
+        u32::from_le_bytes(std::array::from_fn(|i| self.bytes[at + i]))
+    }
+}
+
+impl fmt::Debug for SymCache<'_> {
+    fn fmt(&self, f: &mut fmt::Formatter<'_>) -> fmt::Result {
+        let layout = self.layout();
+        f.debug_struct("SymCache")
+            .field("version", &self.version())
+            .field("debug_id", &self.debug_id())
+            .field("arch", &self.arch())
+            .field("files", &layout.files.count)
+            .field("functions", &layout.functions.count)
+            .field("source_locations", &layout.source_locations.count)
+            .field("ranges", &layout.ranges.count)
+            .field("string_bytes", &layout.strings.count)
+            .finish()
+    }
+}
+
+/// A line of a function, at an address or at a call on the way to it.
+#[derive(Clone, Copy)]
+pub struct SourceLocation<'data> {
+    bytes: &'data [u8],
+    frame: [u32; 13],
+}
+
+impl<'data> SourceLocation<'data> {
+    /// The line. 0 where it isn't known.
+    pub fn line(&self) -> u32 {
+        self.frame[3]
+    }
+
+    /// The source file, if there is one.
+    pub fn file(&self) -> Option<File<'data>> {
+        (self.frame[0] == 2).then(|| File::new(self.bytes, &self.frame[7..]))
+    }
+
+    /// The function. Where the file has none of this index, it has no name, entry `u32::MAX` and
+    /// language `u32::MAX`.
+    pub fn function(&self) -> Function<'data> {
+        Function {
+            name: function_name(self.bytes, self.function_idx()),
+            entry_pc: self.frame[5],
+            language: self.frame[6],
+        }
+    }
+
+    /// The index of this source location.
+    pub fn location_idx(&self) -> u32 {
+        self.frame[1]
+    }
+
+    /// The index of its function, as stored.
+    pub fn function_idx(&self) -> u32 {
+        self.frame[2]
+    }
+
+    /// The index of its file, as stored; `u32::MAX` where there is none.
+    pub fn file_idx(&self) -> u32 {
+        self.frame[4]
+    }
+}
+
+impl fmt::Debug for SourceLocation<'_> {
+    fn fmt(&self, f: &mut fmt::Formatter<'_>) -> fmt::Result {
+        f.debug_struct("SourceLocation")
+            .field("location_idx", &self.location_idx())
+            .field("function", &self.function())
+            .field("line", &self.line())
+            .field("file", &self.file())
+            .finish()
+    }
+}
+
+/// The source locations at an address; from [`SymCache::lookup`].
+#[derive(Clone, Copy, Debug)]
+pub struct SourceLocations<'data> {
+    bytes: &'data [u8],
+    cursor: [u32; 3],
+}
+
+impl<'data> Iterator for SourceLocations<'data> {
+    type Item = SourceLocation<'data>;
+
+    fn next(&mut self) -> Option<Self::Item> {
+        let mut frame = [0; 13];
+        read(ffi::next(self.bytes, &mut self.cursor, &mut frame));
+        (frame[0] != 0).then_some(SourceLocation {
+            bytes: self.bytes,
+            frame,
+        })
+    }
+}
+
+impl FusedIterator for SourceLocations<'_> {}
+
+/// A function of a file.
+#[derive(Clone, Copy, Debug, PartialEq, Eq)]
+pub struct Function<'data> {
+    name: Option<&'data str>,
+    entry_pc: u32,
+    language: u32,
+}
+
+impl<'data> Function<'data> {
+    /// The name, possibly mangled; `"?"` where there is none.
+    pub fn name(&self) -> &'data str {
+        self.name.unwrap_or("?")
+    }
+
+    /// The name, if there is one.
+    pub fn stored_name(&self) -> Option<&'data str> {
+        self.name
+    }
+
+    /// The first address; `u32::MAX` for one that is only inlined.
+    pub fn entry_pc(&self) -> u32 {
+        self.entry_pc
+    }
+
+    /// The number of the language, as stored; `u32::MAX` for a symbol.
+    pub fn language(&self) -> u32 {
+        self.language
+    }
+}
+
+/// A source file of a file, with its six texts.
+#[derive(Clone, Copy, Debug, PartialEq, Eq)]
+pub struct File<'data> {
+    comp_dir: Option<&'data str>,
+    directory: Option<&'data str>,
+    name: &'data str,
+    srcsrv_name: Option<&'data str>,
+    srcsrv_dir: Option<&'data str>,
+    srcsrv_revision: Option<&'data str>,
+}
+
+impl<'data> File<'data> {
+    /// The file whose texts are at six offsets.
+    fn new(bytes: &'data [u8], offsets: &[u32]) -> Self {
+        File {
+            comp_dir: string(bytes, offsets[0]),
+            directory: string(bytes, offsets[1]),
+            name: string(bytes, offsets[2]).unwrap_or_default(),
+            srcsrv_name: string(bytes, offsets[3]),
+            srcsrv_dir: string(bytes, offsets[4]),
+            srcsrv_revision: string(bytes, offsets[5]),
+        }
+    }
+
+    /// The directory in which it was compiled.
+    pub fn comp_dir(&self) -> Option<&'data str> {
+        self.comp_dir
+    }
+
+    /// Its directory.
+    pub fn directory(&self) -> Option<&'data str> {
+        self.directory
+    }
+
+    /// Its name; empty where there is none.
+    pub fn name(&self) -> &'data str {
+        self.name
+    }
+
+    /// Its name on the source server.
+    pub fn srcsrv_name(&self) -> Option<&'data str> {
+        self.srcsrv_name
+    }
+
+    /// Its directory on the source server.
+    pub fn srcsrv_dir(&self) -> Option<&'data str> {
+        self.srcsrv_dir
+    }
+
+    /// Its revision on the source server.
+    pub fn srcsrv_revision(&self) -> Option<&'data str> {
+        self.srcsrv_revision
+    }
+}
+
+/// The functions of a file that have an entry; from [`SymCache::functions`].
+#[derive(Clone, Copy, Debug)]
+pub struct Functions<'data> {
+    bytes: &'data [u8],
+    cursor: [u32; 1],
+}
+
+impl<'data> Iterator for Functions<'data> {
+    type Item = Function<'data>;
+
+    fn next(&mut self) -> Option<Self::Item> {
+        let mut row = [0; 6];
+        read(ffi::functions_next(self.bytes, &mut self.cursor, &mut row));
+        (row[0] != 0).then(|| Function {
+            name: function_name(self.bytes, row[1]),
+            entry_pc: row[4],
+            language: row[5],
+        })
+    }
+}
+
+impl FusedIterator for Functions<'_> {}
+
+/// The source files of a file; from [`SymCache::files`].
+#[derive(Clone, Copy, Debug)]
+pub struct Files<'data> {
+    bytes: &'data [u8],
+    cursor: [u32; 1],
+}
+
+impl<'data> Iterator for Files<'data> {
+    type Item = File<'data>;
+
+    fn next(&mut self) -> Option<Self::Item> {
+        let mut row = [0; 8];
+        read(ffi::files_next(self.bytes, &mut self.cursor, &mut row));
+        (row[0] != 0).then(|| File::new(self.bytes, &row[2..]))
+    }
+}
+
+impl FusedIterator for Files<'_> {}
+
+/// A call on bytes that were parsed: they are borrowed, so they are the same still, and nothing
+/// refuses them now.
+fn read(number: u32) {
+    debug_assert_eq!(number, 0);
+}
+
+fn present(index: u32) -> Option<u32> {
+    (index != u32::MAX).then_some(index)
+}
+
+/// A function's name, if it has one.
+fn function_name(bytes: &[u8], function_idx: u32) -> Option<&str> {
+    let mut part = [0; 3];
+    read(ffi::function_name(bytes, function_idx, &mut part));
+    text(bytes, part)
+}
+
+/// The text at an offset.
+fn string(bytes: &[u8], offset: u32) -> Option<&str> {
+    let mut part = [0; 3];
+    read(ffi::read_string(bytes, offset, &mut part));
+    text(bytes, part)
+}
+
+/// A part of the file, if there is one. The library gives UTF-8 only; `from_utf8` tests it once
+/// more, so that this needs no unsafe code.
+fn text(bytes: &[u8], part: [u64; 3]) -> Option<&str> {
+    let [present, start, len] = part;
+    if present == 0 {
+        return None;
+    }
+    let (start, len) = (start as usize, len as usize);
+    std::str::from_utf8(&bytes[start..start + len]).ok()
+}
