@@ -6,8 +6,8 @@
  *
  * runs two passes of LISTS lists of random calls each. In the first every slice ends where a page
  * without access begins, in the second it begins where one ends. Slices that a function only reads
- * can't be written, either. It prints how many calls of each function were made and what they
- * answered; a stray access ends it by SIGSEGV.
+ * can't be written, either, and a refusal must leave what it should. It prints how many calls of
+ * each function were made and what they answered; a stray access ends it by SIGSEGV.
  *
  *   guard --bite LISTS SEED
  *
@@ -52,7 +52,8 @@ enum function {
 
 #define BIT(s) (1u << (s))
 #define TABLE_BITS                                                                                 \
-    (BIT(STRING_BYTES) | BIT(STRINGS) | BIT(FILES) | BIT(FUNCTIONS) | BIT(CALL_LOCATIONS) | BIT(RANGES))
+    (BIT(STRING_BYTES) | BIT(STRINGS) | BIT(FILES) | BIT(FUNCTIONS) | BIT(CALL_LOCATIONS)          \
+        | BIT(RANGES))
 #define COLUMN_BITS (BIT(FUNCTIONS64) | BIT(FUNCTIONS32) | BIT(LINES64) | BIT(LINES32) | BIT(TEXT))
 
 /*
@@ -108,7 +109,8 @@ static void map_regions(void)
 {
     page = (size_t)sysconf(_SC_PAGESIZE);
     for (int s = 0; s < SLOTS; s++) {
-        unsigned char *p = mmap(NULL, REGION + 2 * page, PROT_NONE, MAP_PRIVATE | MAP_ANONYMOUS, -1, 0);
+        int flags = MAP_PRIVATE | MAP_ANONYMOUS;
+        unsigned char *p = mmap(NULL, REGION + 2 * page, PROT_NONE, flags, -1, 0);
         if (p == MAP_FAILED || mprotect(p + page, REGION, PROT_READ | PROT_WRITE) != 0) {
             perror("mmap");
             exit(2);
@@ -173,10 +175,74 @@ static void protect(enum function f, int access)
             mprotect(low[s], REGION, access);
 }
 
+/* ---- What a call leaves ---- */
+
+static unsigned char before[SLOTS][REGION]; /* what the written slices held before the call */
+
+static void remember(enum function f)
+{
+    for (int s = 0; s < SLOTS; s++)
+        if (interface[f].written & BIT(s))
+            memcpy(before[s], at[s], len[s] * element[s]);
+}
+
+static void demand(int holds, const char *what, int s, uint32_t answer)
+{
+    if (holds)
+        return;
+    fprintf(stderr, "%s answered %" PRIu32 ", and %s %s, list %lu\n", interface[calling].name, answer,
+        slot_names[s], what, list_number);
+    exit(1);
+}
+
+static int is_zero(int s)
+{
+    unsigned char *p = at[s];
+    for (size_t i = 0; i < len[s] * element[s]; i++)
+        if (p[i] != 0)
+            return 0;
+    return 1;
+}
+
+/*
+ * A refusal leaves a written slice as it was; but 17 leaves zeros and a closed converter, and 10
+ * has its counts. An accepted tree leaves zeros in scratch, a write what lies beyond the file.
+ */
+static void check_slice(int s, uint32_t answer)
+{
+    unsigned char *p = at[s];
+    size_t from = 0, bytes = len[s] * element[s];
+    if (answer == SYMCACHE_TABLE_FULL && s == RECORD) {
+        demand(((uint32_t *)at[s])[SYMCACHE_RECORD_OPEN] == 0, "is open", s, answer);
+        return;
+    }
+    if (answer == SYMCACHE_TABLE_FULL || (answer == 0 && s == SCRATCH)) {
+        demand(is_zero(s), "is not zero", s, answer);
+        return;
+    }
+    if (answer == 0) {
+        if (s != OUT || len[LENGTH] == 0)
+            return;
+        from = (size_t)((uint64_t *)at[LENGTH])[0];
+    }
+    if (answer == SYMCACHE_UNEXPECTED_STRING_BYTES && s == CACHE)
+        from = 2 * element[s];
+    if (from < bytes)
+        demand(memcmp(before[s] + from, p + from, bytes - from) == 0, "changed", s, answer);
+}
+
+static void check_left(uint32_t answer)
+{
+    for (int s = 0; s < SLOTS; s++)
+        if (interface[calling].written & BIT(s))
+            check_slice(s, answer);
+}
+
 /* Around each call: `calling` names it, and what it only reads can't be written. */
 static void enter(enum function f)
 {
     calling = f;
+    remember(f);
     if (bitten(bite_slot))
         shift(bite_slot, 1);
     protect(f, PROT_READ);
@@ -190,9 +256,10 @@ static uint32_t leave(uint32_t answer)
     calls[calling]++;
     if (calling == FIND || calling == WALK)
         answers[calling][answer == SYMCACHE_MAX]++;
-    else if (answer < 20)
+    else if (answer < 20) {
         answers[calling][answer]++;
-    else {
+        check_left(answer);
+    } else {
         fprintf(stderr, "%s answered %" PRIu32 "\n", interface[calling].name, answer);
         exit(1);
     }
@@ -221,7 +288,8 @@ static void on_fault(int sig, siginfo_t *info, void *context)
             _exit(3);
         return;
     }
-    n = snprintf(say, sizeof say, "stray access in %s: %s%s, list %lu\n", who, where, side, list_number);
+    n = snprintf(say, sizeof say, "stray access in %s: %s%s, list %lu\n", who, where, side,
+        list_number);
     if (write(2, say, (size_t)n) < 0)
         _exit(2);
     /* The handler is gone now: the access is made again, and ends the program. */
@@ -781,7 +849,9 @@ static void print_calls(void)
 static int dies(enum function f, enum slot s, unsigned long lists, uint64_t seed)
 {
     int status;
-    pid_t child = fork();
+    pid_t child;
+    fflush(stdout);
+    child = fork();
     if (child < 0) {
         perror("fork");
         exit(2);

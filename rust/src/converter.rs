@@ -212,7 +212,7 @@ struct Setup {
 }
 
 /// The memory of the tables.
-#[derive(Clone, Default, PartialEq, Eq)]
+#[derive(Clone, Debug, Default, PartialEq, Eq)]
 struct Tables {
     string_bytes: Vec<u8>,
     strings: Vec<u32>,
@@ -616,5 +616,110 @@ impl fmt::Debug for Converter {
             .field("used", &self.used())
             .field("capacity", &self.capacity)
             .finish_non_exhaustive()
+    }
+}
+
+#[cfg(test)]
+mod tests {
+    use super::*;
+    use crate::debuginfo::{FileInfo, LineInfo};
+
+    fn tree() -> Function<'static> {
+        Function {
+            address: 0x1000,
+            size: 16,
+            name: "trk".into(),
+            lines: vec![LineInfo {
+                address: 0x1000,
+                size: Some(8),
+                line: 10,
+                file: FileInfo::new("a.rs", "src"),
+            }],
+            ..Function::default()
+        }
+    }
+
+    /// All that a converter lends between calls.
+    fn memory(converter: &Converter) -> ([u32; ffi::RECORD_WORDS], Tables) {
+        (converter.record, converter.tables.clone())
+    }
+
+    #[test]
+    fn a_refusal_leaves_every_word() {
+        let mut converter = Converter::builder().arch(3).build();
+        converter.process_symbolic_function(&tree()).unwrap();
+        let before = memory(&converter);
+
+        let mut overflow = tree();
+        overflow.address = u64::MAX;
+        let result = converter.process_symbolic_function(&overflow);
+        assert_eq!(result, Err(Error::AddressOverflow));
+        assert_eq!(memory(&converter), before);
+
+        let mut rows = Rows::new();
+        rows.push_tree(&tree()).unwrap();
+        let text = &rows.columns().text[1..];
+        let cut = Columns {
+            text,
+            ..rows.columns()
+        };
+        assert_eq!(converter.process_rows(&cut), Err(Error::InvalidText));
+        let none = Columns::default();
+        assert_eq!(converter.process_rows(&none), Err(Error::InvalidRows));
+        let result = converter.process_rows_with(&rows.columns(), &mut [1]);
+        assert_eq!(result, Err(Error::ScratchTooSmall));
+        let result = converter.process_symbol_bytes(Some(b"\xff"), 1, 1);
+        assert_eq!(result, Err(Error::InvalidText));
+        let result = converter.serialize_into(&mut [0; 80]);
+        assert_eq!(result, Err(Error::OutputTooShort));
+        assert_eq!(memory(&converter), before);
+    }
+
+    #[test]
+    fn a_full_table_leaves_zeros() {
+        let mut converter = Converter::builder().arch(3).ranges(1).build();
+        let zeros = converter.tables.clone();
+        let result = converter.process_symbolic_function(&tree());
+        assert_eq!(result, Err(Error::TableFull));
+        assert!(!converter.is_open());
+        assert!(converter.tables == zeros);
+        assert!(zeros.ranges.iter().all(|word| *word == 0));
+        let closed = memory(&converter);
+        let result = converter.process_symbolic_function(&tree());
+        assert_eq!(result, Err(Error::Closed));
+        assert_eq!(memory(&converter), closed);
+    }
+
+    #[test]
+    fn a_name_that_no_length_holds_is_refused() {
+        // What `call` lends in its place: nothing, with a length of u32::MAX.
+        let mut converter = Converter::builder().build();
+        let tables = converter.tables.lent_mut();
+        let name = Some((0, u32::MAX));
+        let number = ffi::process_symbolic_symbol(&mut converter.record, tables, &[], 1, 1, name);
+        assert_eq!(number, 14);
+    }
+
+    #[test]
+    fn capacities_end_at_the_ceilings() {
+        let most = Capacity {
+            string_bytes: MAX_STRING_BYTES,
+            strings: MAX_ROWS,
+            files: MAX_ROWS,
+            functions: MAX_ROWS,
+            call_locations: MAX_ROWS,
+            ranges: MAX_ROWS,
+        };
+        let n = usize::MAX;
+        assert_eq!(Capacity::for_input(n, n, n, n), most);
+        assert_eq!(most.doubled(), most);
+        let mut capacity = Capacity::for_input(0, 0, 0, 0);
+        assert_eq!(capacity.strings, 0);
+        // From 16 to 2^28 bytes.
+        for _ in 0..25 {
+            assert_ne!(capacity, most);
+            capacity = capacity.doubled();
+        }
+        assert_eq!(capacity, most);
     }
 }

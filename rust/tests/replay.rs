@@ -138,13 +138,3 @@ fn capacities_from_the_input() {
         SymCache::parse(&file).unwrap();
     }
 }
-
-/// More than a ceiling counts as the ceiling.
-#[test]
-fn ceilings() {
-    let capacity = Capacity::for_input(usize::MAX, usize::MAX, usize::MAX, usize::MAX);
-    assert_eq!(capacity.string_bytes, symcache::MAX_STRING_BYTES);
-    assert_eq!(capacity.ranges, symcache::MAX_ROWS);
-    let converter = without_room().files(usize::MAX).build();
-    assert_eq!(converter.capacity().files, symcache::MAX_ROWS);
-}
