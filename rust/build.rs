@@ -7,6 +7,11 @@ use std::process::exit;
 
 fn main() {
     println!("cargo:rerun-if-env-changed=SYMCACHE_LIB_DIR");
+    let target = env::var("TARGET").unwrap();
+    if !(target.starts_with("x86_64") && target.contains("linux")) {
+        eprintln!("libexports.a is made for x86-64 Linux only, not for {target}.");
+        exit(1);
+    }
     let dir = match env::var_os("SYMCACHE_LIB_DIR") {
         Some(dir) => PathBuf::from(dir),
         None => {

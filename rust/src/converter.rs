@@ -140,16 +140,21 @@ impl ConverterBuilder {
         self
     }
 
-    /// Room in all tables at once.
+    /// Room in all tables at once. [`Capacity::default`] if nothing is set.
     pub fn capacity(mut self, capacity: Capacity) -> Self {
         self.capacity = capacity;
         self
     }
 
-    /// Room for so many bytes of texts, and for an index of them that never is what lacks.
+    /// Room for so many bytes of texts.
     pub fn string_bytes(mut self, bytes: usize) -> Self {
         self.capacity.string_bytes = bytes;
-        self.capacity.strings = bytes / 2;
+        self
+    }
+
+    /// Room for so many texts.
+    pub fn strings(mut self, rows: usize) -> Self {
+        self.capacity.strings = rows;
         self
     }
 

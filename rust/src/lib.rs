@@ -48,6 +48,15 @@
 //! # Ok::<(), symcache::Error>(())
 //! ```
 //!
+//! # What is proved
+//!
+//! Of the library: each function takes every input, always ends, and gives one answer, by an
+//! equation; and over whole lists of calls, that a written file gives back the frames that were put
+//! in. The repository's docs/CLAIMS.md says it all. Not proved, but tested: this crate, which lays a
+//! tree out as rows ([`Rows`]), lends the memory, makes calls again in larger tables
+//! ([`ConverterBuilder::keep_calls`]) and reads the version, debug identifier and architecture from
+//! the header.
+//!
 //! # Linking
 //!
 //! `rt staticlib exports`, at the top of the repository, proves the library and writes it to

@@ -281,3 +281,19 @@ fn any_alignment() {
         assert_eq!(cache.lookup(0x1003).count(), 2);
     }
 }
+
+#[test]
+fn threads() {
+    fn shared<T: Send + Sync + 'static>() {}
+    shared::<Converter>();
+    shared::<SymCache<'static>>();
+    std::thread::scope(|scope| {
+        for _ in 0..4 {
+            scope.spawn(|| {
+                for _ in 0..50 {
+                    assert_eq!(worked_file(), STORED);
+                }
+            });
+        }
+    });
+}
