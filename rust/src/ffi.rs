@@ -497,3 +497,181 @@ pub fn files_next(bytes: &[u8], cursor: &mut [u32; 1], row: &mut [u32; 8]) -> u3
         )
     }
 }
+
+/// What the header says of single words, on document 01's worked file.
+#[cfg(test)]
+mod tests {
+    use super::*;
+
+    const FILE: &[u8] = include_bytes!("../../crates/lister/data/cache.sym");
+
+    /// A file with one symbol, `s` at 16, whose location has no file.
+    fn symbol_file() -> Vec<u8> {
+        let mut converter = crate::Converter::builder().build();
+        converter.process_symbol_bytes(Some(b"s"), 16, 4).unwrap();
+        converter.serialize().unwrap()
+    }
+
+    struct Memory {
+        texts: Vec<u8>,
+        words: [Vec<u32>; 5],
+    }
+
+    impl Memory {
+        fn lent(&mut self) -> TablesMut<'_> {
+            let [strings, files, functions, call_locations, ranges] = &mut self.words;
+            TablesMut {
+                string_bytes: &mut self.texts,
+                strings,
+                files,
+                functions,
+                call_locations,
+                ranges,
+            }
+        }
+    }
+
+    #[test]
+    fn the_record() {
+        let mut memory = Memory {
+            texts: vec![7; 100],
+            words: std::array::from_fn(|_| vec![7; 80]),
+        };
+
+        // One of 19 words is a closed converter, and stays.
+        let mut short = [7; 19];
+        assert_eq!(begin(&mut short, &[1], 2, true, false, memory.lent()), 19);
+        assert_eq!(short, [7; 19]);
+        assert!(memory.words[0].iter().all(|word| *word == 7));
+
+        // Bytes that the debug id lacks are 0, and words past the 20th stay.
+        let mut record = [7; 22];
+        let id: Vec<u8> = (1..=6).collect();
+        assert_eq!(begin(&mut record, &id, 2, true, false, memory.lent()), 0);
+        let mut wanted = [0; 22];
+        wanted[..2].copy_from_slice(&[0x04030201, 0x0605]);
+        wanted[8..11].copy_from_slice(&[2, 1, 0]);
+        wanted[RECORD_OPEN..].copy_from_slice(&[1, 7, 7]);
+        assert_eq!(record, wanted);
+        assert!(memory.words[0].iter().all(|word| *word == 0));
+
+        let mut rows = crate::Rows::new();
+        rows.push_function(0, 0x1000, 16, false, 2, "trk", b"/b")
+            .unwrap();
+        let mut scratch = [7; 5];
+        let columns = rows.columns();
+        assert_eq!(
+            process_symbolic_function(&mut record, memory.lent(), &mut scratch, &columns),
+            0
+        );
+        assert_eq!(scratch, [0; 5]);
+        // Four text bytes, one text, one function, its start and its end; the last end.
+        wanted[RECORD_STRING_BYTES..RECORD_OPEN].copy_from_slice(&[4, 1, 0, 1, 0, 2, 1, 0x1010]);
+        assert_eq!(record, wanted);
+
+        let name = Some((1, 2));
+        assert_eq!(
+            process_symbolic_symbol(&mut record, memory.lent(), b"xsy", 0x2000, 0, name),
+            0
+        );
+        // A symbol above the last end clears it.
+        wanted[RECORD_STRING_BYTES..RECORD_OPEN].copy_from_slice(&[7, 2, 0, 2, 0, 3, 0, 0]);
+        assert_eq!(record, wanted);
+    }
+
+    #[test]
+    fn ten_stores_its_counts_and_other_refusals_nothing() {
+        for read in [parse, open] {
+            let mut cache = [7; CACHE_WORDS];
+            assert_eq!(read(&FILE[..304], &mut cache), 10);
+            assert_eq!(cache, [25, 24, 7, 7, 7, 7, 7, 7, 7, 7]);
+            let mut cache = [7; CACHE_WORDS];
+            assert_eq!(read(&FILE[..100], &mut cache), 6);
+            assert_eq!(cache, [7; CACHE_WORDS]);
+            assert_eq!(read(FILE, &mut cache), 0);
+            assert_eq!(cache, [80, 2, 128, 2, 160, 6, 256, 5, 280, 25]);
+        }
+    }
+
+    #[test]
+    fn a_walk() {
+        let mut cache = [0; CACHE_WORDS];
+        open(FILE, &mut cache);
+        let mut cursor = [7; 3];
+        assert_eq!(find(FILE, &cache, 0x1010), 5);
+        assert_eq!(walk(FILE, &cache, 0x1010, &mut cursor), u32::MAX);
+        let mut frame = [7; 13];
+        assert_eq!(next(FILE, &mut cursor, &mut frame), 0);
+        assert_eq!((frame[0], &frame[1..]), (0, &[7; 12][..]));
+
+        assert_eq!(walk(FILE, &cache, 0x1003, &mut cursor), 2);
+        assert_eq!(cursor, [2, 2, 0]);
+        assert_eq!(next(FILE, &mut cursor, &mut frame), 0);
+        let max = u32::MAX;
+        assert_eq!(frame, [2, 2, 1, 50, 1, max, 2, 13, 9, 20, max, max, max]);
+        assert_eq!(next(FILE, &mut cursor, &mut frame), 0);
+        assert_eq!(frame, [2, 0, 0, 10, 0, 0x1000, 2, 13, 9, 4, max, max, max]);
+        let last = cursor;
+        assert_eq!(next(FILE, &mut cursor, &mut frame), 0);
+        assert_eq!((frame[0], frame[3], cursor), (0, 10, last));
+        assert_eq!(next(&FILE[..79], &mut cursor, &mut frame), 5);
+        assert_eq!((frame[0], frame[3], cursor), (0, 10, last));
+    }
+
+    #[test]
+    fn a_frame_without_a_file_leaves_the_text_offsets() {
+        let file = symbol_file();
+        let mut cache = [0; CACHE_WORDS];
+        assert_eq!(open(&file, &mut cache), 0);
+        let mut cursor = [7; 3];
+        assert_eq!(walk(&file, &cache, 18, &mut cursor), 0);
+        let mut frame = [7; 13];
+        assert_eq!(next(&file, &mut cursor, &mut frame), 0);
+        let max = u32::MAX;
+        assert_eq!(frame, [1, 0, 0, 0, max, 16, max, 7, 7, 7, 7, 7, 7]);
+    }
+
+    #[test]
+    fn texts_and_rows() {
+        let mut part = [7; 3];
+        assert_eq!(read_string(FILE, u32::MAX, &mut part), 0);
+        assert_eq!(part, [0, 7, 7]);
+        assert_eq!(read_string(FILE, 4, &mut part), 0);
+        assert_eq!(part, [1, 285, 4]);
+        let mut part = [7; 3];
+        assert_eq!(function_name(FILE, 2, &mut part), 0);
+        assert_eq!(part, [0, 7, 7]);
+        assert_eq!(function_name(FILE, 1, &mut part), 0);
+        assert_eq!(part, [1, 297, 3]);
+        assert_eq!(function_name(&FILE[..7], 1, &mut part), 1);
+        assert_eq!(part, [1, 297, 3]);
+
+        let max = u32::MAX;
+        let mut row = [7; 5];
+        assert_eq!(get_function(FILE, 2, &mut row), 0);
+        assert_eq!(row, [0, 7, 7, 7, 7]);
+        assert_eq!(get_function(FILE, 0, &mut row), 0);
+        assert_eq!(row, [1, 0, max, 0x1000, 2]);
+        let mut row = [7; 7];
+        assert_eq!(get_file(FILE, 2, &mut row), 0);
+        assert_eq!(row, [0, 7, 7, 7, 7, 7, 7]);
+        assert_eq!(get_file(FILE, 1, &mut row), 0);
+        assert_eq!(row, [1, 13, 9, 20, max, max, max]);
+    }
+
+    #[test]
+    fn lists() {
+        let max = u32::MAX;
+        let (mut cursor, mut row) = ([0], [7; 6]);
+        assert_eq!(functions_next(FILE, &mut cursor, &mut row), 0);
+        assert_eq!((cursor, row), ([1], [1, 0, 0, max, 0x1000, 2]));
+        // The second has no entry.
+        assert_eq!(functions_next(FILE, &mut cursor, &mut row), 0);
+        assert_eq!((cursor, row), ([1], [0, 0, 0, max, 0x1000, 2]));
+        let (mut cursor, mut row) = ([1], [7; 8]);
+        assert_eq!(files_next(FILE, &mut cursor, &mut row), 0);
+        assert_eq!((cursor, row), ([2], [1, 1, 13, 9, 20, max, max, max]));
+        assert_eq!(files_next(FILE, &mut cursor, &mut row), 0);
+        assert_eq!((cursor, row[0], row[1]), ([2], 0, 1));
+    }
+}
