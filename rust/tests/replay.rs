@@ -3,7 +3,8 @@
 
 mod common;
 
-use common::{totals, without_room, worked_file, worked_tree, Random};
+use common::{totals, without_room, worked_file, worked_tree, Call, Random};
+use symcache::debuginfo::{FileInfo, Function, LineInfo, Symbol};
 use symcache::{Capacity, Converter, Error, Rows, SymCache};
 
 fn large() -> Converter {
@@ -137,4 +138,48 @@ fn capacities_from_the_input() {
         assert_eq!(file.len(), converter.serialized_len());
         SymCache::parse(&file).unwrap();
     }
+}
+
+/// And no row too many: these lists need all of their texts, or all of their ranges.
+#[test]
+fn capacities_that_are_all_used() {
+    let symbol = Symbol {
+        name: Some("s".into()),
+        address: 1,
+        size: 1,
+    };
+    let tree = Function {
+        size: 9,
+        name: "f".into(),
+        compilation_dir: b"comp"[..].into(),
+        lines: vec![LineInfo {
+            address: 2,
+            size: Some(1),
+            line: 1,
+            file: FileInfo {
+                name: "name".into(),
+                dir: "dir".into(),
+                srcsrv_name: Some("sname".into()),
+                srcsrv_dir: Some("sdir".into()),
+                srcsrv_revision: Some("rev".into()),
+            },
+        }],
+        ..Function::default()
+    };
+    let uses = |call: Call| {
+        let (functions, lines, symbols, text_bytes) = totals(std::slice::from_ref(&call));
+        let capacity = Capacity::for_input(functions, lines, symbols, text_bytes);
+        let mut converter = Converter::builder().capacity(capacity).build();
+        call.make(&mut converter).unwrap();
+        (converter.used(), capacity)
+    };
+    let (used, capacity) = uses(Call::Symbol(symbol));
+    assert_eq!((used.ranges, used.functions, used.strings), (2, 1, 1));
+    assert_eq!(
+        (used.ranges, used.functions, used.strings),
+        (capacity.ranges, 1, 1)
+    );
+    let (used, capacity) = uses(Call::Tree(tree));
+    assert_eq!((used.strings, used.files), (7, 1));
+    assert_eq!((capacity.strings, capacity.files), (7, 1));
 }

@@ -117,6 +117,8 @@ fn tables() {
     let cache = SymCache::parse(STORED).unwrap();
     let names: Vec<&str> = cache.functions().map(|function| function.name()).collect();
     assert_eq!(names, ["trk"], "pos has no entry");
+    assert_eq!(cache.functions().next(), cache.get_function(0));
+    assert_eq!(cache.files().nth(1), cache.get_file(1));
     let files: Vec<&str> = cache.files().map(|file| file.name()).collect();
     assert_eq!(files, ["a.rs", "p.rs"]);
     let layout = Layout::parse(STORED).unwrap();
