@@ -88,7 +88,7 @@ static const struct {
 
 #define REGION (16u * 4096u)
 static size_t page;
-static unsigned char *low[SLOTS]; /* where the regions begin; beside each lie pages without access */
+static unsigned char *low[SLOTS]; /* where the regions begin, between pages without access */
 static void *at[SLOTS];           /* the slices that are lent now */
 static size_t len[SLOTS];
 static int at_front; /* the second pass */
@@ -190,8 +190,8 @@ static void demand(int holds, const char *what, int s, uint32_t answer)
 {
     if (holds)
         return;
-    fprintf(stderr, "%s answered %" PRIu32 ", and %s %s, list %lu\n", interface[calling].name, answer,
-        slot_names[s], what, list_number);
+    fprintf(stderr, "%s answered %" PRIu32 ", and %s %s, list %lu\n", interface[calling].name,
+        answer, slot_names[s], what, list_number);
     exit(1);
 }
 
@@ -280,7 +280,9 @@ static void on_fault(int sig, siginfo_t *info, void *context)
             slot = s;
     if (slot < SLOTS) {
         where = slot_names[slot];
-        side = a < low[slot] ? ", before it" : a >= low[slot] + REGION ? ", after it" : ", only read";
+        side = a < low[slot] ? ", before it" : ", after it";
+        if (a >= low[slot] && a < low[slot] + REGION)
+            side = ", which is only read";
     }
     if (bite_function < NUM_FUNCTIONS) {
         /* Where this access isn't the one that was asked for, the child does not die by it. */
@@ -653,7 +655,7 @@ static uint64_t looked_up(void)
     if (len[BYTES] >= 80 && !one_in(4)) {
         size_t words = (len[BYTES] - 80) / 4;
         if (words > 0)
-            return (uint64_t)get32((unsigned char *)at[BYTES] + 80 + 4 * below(words)) + below(3) - 1;
+            return get32((unsigned char *)at[BYTES] + 80 + 4 * below(words)) + below(3) - 1;
     }
     return any_address();
 }
@@ -913,7 +915,7 @@ int main(int argc, char **argv)
     for (at_front = 0; at_front < 2; at_front++)
         run(lists, seed);
     print_calls();
-    printf("%lu lists with slices before, and %lu with slices after a page without access: no fault\n",
+    printf("%lu lists with slices before a page without access, %lu with slices after one: no fault\n",
         lists, lists);
     return 0;
 }
