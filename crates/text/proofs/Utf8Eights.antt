@@ -3,21 +3,14 @@ use Prim.Native.Nat.{ℕ, zero, suc, _+_, _/_, _<_, _≤_}
 use mathlib.Core.Path.{_≡_, refl, sym, _∙_, ap}
 use mathlib.Core.Bool.{Bool, true, false, cond, false≢true, and-false}
 use mathlib.Core.List.{List, [], _∷_}
-use mathlib.Core.Logic.{_⊎_, inl, inr, ⊎-elim}
+use mathlib.Core.Logic.{⊎-elim}
 use native.Mathlib.Omega.{arith}
-use lib.Dec.{leb, ltb, eqb}
+use lib.Dec.{leb, eqb}
 use lib.ListN.{length, getD, drop}
 use lib.Seq.{drop-drop}
-use borrow.Author.Tests.{le-leb, lt-leb, ne-eqb, ltb-true, ltb-false}
+use borrow.Author.Tests.{le-leb, lt-leb, ne-eqb}
 use Rattle.text.specs.Utf8.{Range, _to_, UTF8-char, within, fits, charLen, eights, runLen, utf8}
-use Rattle.text.proofs.Utf8Steps.{and-left, and-right, fits-le, charLen-le, utf8-none, utf8-char}
-
-below : (a b : ℕ) → a < b ⊎ b ≤ a
-below a b = go (ltb a b) refl
-  where
-    go : (t : Bool) → ltb a b ≡ t → a < b ⊎ b ≤ a
-    go true e = inl (ltb-true a b e)
-    go false e = inr (ltb-false a b e)
+use Rattle.text.proofs.Utf8Steps.{below, and-left, and-right, fits-le, charLen-le, utf8-none, utf8-char}
 
 -- One octet more: its quotient by 128 is 0 where it is UTF8-1.
 one-more : (b a n : ℕ) (rs : List Range) (s : List ℕ) → a ≡ b / 128 → eqb n 0 ≡ fits rs s → eqb (a + n) 0 ≡ fits (0x00 to 0x7F ∷ rs) (b ∷ s)
