@@ -2,13 +2,14 @@
 //!
 //! Conversion and writing are timed at TREES and at ten times TREES (trees of 16 line rows), in address order and shuffled; lookups on the
 //! larger file. What both are given is made before the clock starts; the library's memory is lent by the driver and zeroed by `begin`, inside
-//! the time. The original's output keeps its room from run to run, as the library's does.
+//! the time. The original's output keeps its room from run to run, as the library's does. Times are those that the thread ran (CPU time), medians of five runs in turn.
 
+mod clock;
 mod library;
 
 use std::hint::black_box;
-use std::time::Instant;
 
+use clock::Moment;
 use library::{Cache, Capacities, Library, Packed};
 use oracle::random::Random;
 use oracle::trees::{Kind, tree};
@@ -41,29 +42,28 @@ fn convert(what: &str, rows: &[Vec<Row>]) -> Made {
     let (mut theirs, mut ours) = (Vec::new(), Vec::new());
     for _ in 0..RUNS {
         let built: Vec<_> = rows.iter().map(|t| build(t)).collect();
-        let begun = Instant::now();
+        let begun = Moment::now();
         let mut converter = SymCacheConverter::new();
         for function in &built {
             converter.process_symbolic_function(function);
         }
-        tc.push(begun.elapsed().as_secs_f64());
+        tc.push(begun.seconds());
         theirs.clear();
-        let begun = Instant::now();
+        let begun = Moment::now();
         converter.serialize(&mut theirs).unwrap();
-        tw.push(begun.elapsed().as_secs_f64());
-        drop(converter);
+        tw.push(begun.seconds());
 
-        let begun = Instant::now();
+        let begun = Moment::now();
         library.begin();
         for tree in &packed {
             let number = library.tree(tree);
             assert_eq!(number, 0);
         }
-        oc.push(begun.elapsed().as_secs_f64());
+        oc.push(begun.seconds());
         ours.resize(theirs.len(), 0);
-        let begun = Instant::now();
+        let begun = Moment::now();
         let len = library.serialize(&mut ours).expect("a file");
-        ow.push(begun.elapsed().as_secs_f64());
+        ow.push(begun.seconds());
         assert_eq!(len, theirs.len());
     }
     assert!(ours == theirs, "{what}: the files differ");
@@ -86,12 +86,12 @@ fn sum(t: [f64; 2]) -> f64 {
 /// Times of both on one list of addresses: the search alone, whole walks, whole walks with all texts.
 fn lookups(what: &str, theirs: &SymCache, ours: &Cache, list: &[u64]) -> [[f64; 2]; 3] {
     let time = |f: &mut dyn FnMut(u64) -> u64| {
-        let begun = Instant::now();
+        let begun = Moment::now();
         let mut sum = 0u64;
         for a in list {
             sum = sum.wrapping_add(f(*a));
         }
-        (begun.elapsed().as_secs_f64(), black_box(sum))
+        (begun.seconds(), black_box(sum))
     };
     let mut result = [[0.0; 2]; 3];
     for (i, name) in ["first location", "walk", "walk with texts"].into_iter().enumerate() {
