@@ -10,16 +10,9 @@ use native.Mathlib.Numerals.{add-one}
 use lib.Dec.{leb, ltb}
 use lib.ListN.{length, getD, take, drop, length-drop, drop-of-length-le}
 use lib.Seq.{take-all, drop-append-le, drop-cons, split-at}
-use borrow.Author.Tests.{le-leb, lt-leb, leb-true, ltb-true, ltb-false}
+use borrow.Author.Tests.{le-leb, lt-leb, leb-true, ltb-true}
 use Rattle.text.specs.Utf8.{Range, _to_, UTF8-tail, UTF8-char, within, fits, charLen, utf8, scalar, encode, encodeAll, allScalar}
-use Rattle.text.proofs.Utf8Steps.{and-left, and-right, charLen-le, utf8-nil, utf8-none, utf8-char}
-
-below : (a b : ℕ) → a < b ⊎ b ≤ a
-below a b = go (ltb a b) refl
-  where
-    go : (t : Bool) → ltb a b ≡ t → a < b ⊎ b ≤ a
-    go true e = inl (ltb-true a b e)
-    go false e = inr (ltb-false a b e)
+use Rattle.text.proofs.Utf8Steps.{below, and-left, and-right, charLen-le, utf8-nil, utf8-none, utf8-char}
 
 -- A cut at an ASCII octet b. In every alternative the ranges after the first lie above ASCII, so b is no part of a char that began before it.
 high : List Range → Bool

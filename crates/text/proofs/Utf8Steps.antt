@@ -3,11 +3,20 @@ use Prim.Native.Nat.{ℕ, zero, suc, _<_, _≤_}
 use mathlib.Core.Path.{_≡_, refl, sym, _∙_}
 use mathlib.Core.Bool.{Bool, true, false, cond, _&&_, false≢true, and-true, and-assoc}
 use mathlib.Core.List.{List, [], _∷_, _++_}
+use mathlib.Core.Logic.{_⊎_, inl, inr}
 use native.Mathlib.Omega.{arith}
-use lib.Dec.{leb·suc-suc, eqb·suc-zero}
+use lib.Dec.{ltb, leb·suc-suc, eqb·suc-zero}
 use lib.ListN.{length, drop, length-drop}
-use borrow.Author.Tests.{lt-ltb}
+use borrow.Author.Tests.{lt-ltb, ltb-true, ltb-false}
 use Rattle.text.specs.Utf8.{Range, UTF8-char, within, octetIn, fits, charLen, chars, utf8}
+
+-- Every two numbers compare.
+pub below : (a b : ℕ) → a < b ⊎ b ≤ a
+below a b = go (ltb a b) refl
+  where
+    go : (t : Bool) → ltb a b ≡ t → a < b ⊎ b ≤ a
+    go true e = inl (ltb-true a b e)
+    go false e = inr (ltb-false a b e)
 
 -- One octet more. An alternative with a range r at its end fits where the ranges before r fit and the octet after theirs lies in r.
 octet-suc : (b : ℕ) (s : List ℕ) (k : ℕ) (r : Range) → octetIn (b ∷ s) (suc k) r ≡ octetIn s k r

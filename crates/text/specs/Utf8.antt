@@ -55,6 +55,13 @@ unfoldable pub charLen : List (List Range) → List ℕ → ℕ
 charLen [] s = 0
 charLen (r ∷ rs) s = cond (fits r s) (length r) (charLen rs s)
 
+-- eight times UTF8-1, which private contracts take at once: the length of the chars that the list begins with
+unfoldable pub eights : List Range
+eights = 0x00 to 0x7F ∷ 0x00 to 0x7F ∷ 0x00 to 0x7F ∷ 0x00 to 0x7F ∷ 0x00 to 0x7F ∷ 0x00 to 0x7F ∷ 0x00 to 0x7F ∷ 0x00 to 0x7F ∷ []
+
+unfoldable pub runLen : List ℕ → ℕ
+runLen s = cond (fits eights s) 8 (charLen UTF8-char s)
+
 -- UTF8-octets = *( UTF8-char ), of n chars at most
 unfoldable pub chars : ℕ → List ℕ → Bool
 chars zero [] = true

@@ -1,7 +1,8 @@
 // UTF-8 as RFC 3629, section 4, has it.
 ghost use mathlib.Core.Path.{_≡_};
 ghost use mathlib.Core.List.{[], _∷_};
-ghost use Rattle.text.specs.Utf8.{_to_, UTF8-tail, UTF8-char, octetIn, fits, charLen, utf8};
+ghost use Rattle.text.specs.Utf8.{_to_, UTF8-tail, UTF8-char, octetIn, fits, charLen, eights, runLen, utf8};
+ghost use Prim.Native.Nat.{_/_, _≤_};
 
 // The octet at k is there and lies in the range.
 fn octet(s: &[u8], k: usize, lo: u8, hi: u8) -> bool
@@ -91,13 +92,48 @@ fn char_len(s: &[u8]) -> usize
     0
 }
 
+// 1 for an octet above %x7F, else 0.
+fn above(b: u8) -> u8
+    ensures { λ r. ⌜ (r ≡ b / 128) × (r ≤ 1) ⌝ }
+{
+    b / 128
+}
+
+// s begins with eight times UTF8-1.
+fn eight(s: &[u8]) -> bool
+    ensures { λ r. ⌜ r ≡ fits eights (now (s .entry)) ⌝ }
+{
+    if s.len() < 8 {
+        return false;
+    }
+    let high = above(s[0])
+        + above(s[1])
+        + above(s[2])
+        + above(s[3])
+        + above(s[4])
+        + above(s[5])
+        + above(s[6])
+        + above(s[7]);
+    high == 0
+}
+
+// The length of the chars that s begins with: eight times UTF8-1 at once, or one char; 0 where none fits.
+fn run_len(s: &[u8]) -> usize
+    ensures { λ r. ⌜ r ≡ runLen (now (s .entry)) ⌝ }
+{
+    if eight(s) {
+        return 8;
+    }
+    char_len(s)
+}
+
 // UTF8-octets = *( UTF8-char )
 pub fn is_utf8(s: &[u8]) -> bool
     ensures { λ r. ⌜ r ≡ utf8 (now (s .entry)) ⌝ }
 {
     let mut i = 0;
     while i < s.len() {
-        let n = char_len(&s[i..]);
+        let n = run_len(&s[i..]);
         if n == 0 {
             return false;
         }
