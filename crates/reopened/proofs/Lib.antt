@@ -8,3 +8,5 @@ pub mod EveryList
 pub mod WrittenFile
 pub mod Claim
 pub mod Marked
+pub mod Computed
+pub mod Worked
