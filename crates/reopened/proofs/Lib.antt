@@ -10,3 +10,4 @@ pub mod Claim
 pub mod Marked
 pub mod Computed
 pub mod Worked
+pub mod Instance
