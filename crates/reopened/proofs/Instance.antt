@@ -1,8 +1,8 @@
--- A LIST OF TWENTY-ONE CALLS IS AN INSTANCE of demand 3, over words, with both switches on: three roots, two of which touch; inlinees one and two deep; symbols that start or end at a root's first address, at its
+-- A LIST OF TWENTY-TWO CALLS IS AN INSTANCE of demand 3, over words, with both switches on: three roots, two of which touch; inlinees one and two deep; symbols that start or end at a root's first address, at its
 -- end, and between roots; refused calls of every number from 13 to 19, some of them across a root that counts; two writes that answer 0, the second after more calls. By computation alone (the contracts'
--- own definitions, run by the checker): the number of every call, which calls count at each write, the length of both files, and the premises. By `demand3`: the frames that each file shows.
+-- own definitions, run by the checker): the number of every call, which calls count at each write, and the premises. By `demand3`: the frames that each file shows.
 use Prim.Native.Nat.{ℕ, _+_, _≤_}
-use mathlib.Core.Path.{_≡_, refl, ap, subst}
+use mathlib.Core.Path.{_≡_, refl, sym, ap, _∙_, subst}
 use mathlib.Core.Bool.{true, false}
 use mathlib.Core.Option.{Option, none, some}
 use mathlib.Core.Logic.{⊎-elim}
@@ -36,7 +36,7 @@ use Rattle.reads.specs.Shown.{Shown, with-stand-in, Found}
 use Rattle.reopened.specs.Lists.{Call, tree, symbol, write, Standing, givenTree, next, run, begun}
 use Rattle.reopened.specs.Demand3.{Premises, Reopened, file-of}
 use Rattle.reopened.proofs.Claim.{demand3}
-use Rattle.reopened.proofs.Computed.{every?, some?, numbers, typed?, typed, asc?, row-well?, last-at?, holds?, inlinee-well?, disjoint?, apart?, rows-well?, nested?, not-in?, symbol-clear?, separate?, all-separate?, premises?, premises}
+use Rattle.reopened.proofs.Tests.{every?, some?, numbers, number-in, typed?, typed, asc?, row-well?, last-at?, holds?, inlinee-well?, disjoint?, apart?, rows-well?, nested?, not-in?, symbol-clear?, separate?, all-separate?, premises?, premises}
 
 -- ── The rows ──
 
@@ -122,16 +122,19 @@ abbrev first-output : List ℕ
 first-output = replicate 493 7
 
 abbrev more-calls : List Call
-more-calls = tree third-tree (replicate 24 7) ∷ named 0x1034 4 22 4 ∷ []
+more-calls =
+    tree third-tree (replicate 24 7)
+    ∷ named 0x1034 4 22 4  -- at its end
+    ∷ write (replicate 718 7)  -- 18: a byte less than it needs
+    ∷ []
 
--- a byte longer than the file
 abbrev second-output : List ℕ
-second-output = replicate 720 7
+second-output = replicate 719 7
 
 abbrev last-calls : List Call
 last-calls =
     named 0x2000 0 10 2  -- 17: a ninth text
-    ∷ write (replicate 720 7)  -- 19
+    ∷ write second-output  -- 19
     ∷ tree (first-tree 1) (replicate 20 7)  -- 19
     ∷ named 0x2000 0 22 4  -- 19
     ∷ []
@@ -215,14 +218,10 @@ second-counted = first-counted ++ (tree-rows third-root (inner ∷ innermost ∷
 
 pub record Computed : Type 0 where
   pub words-typed : every? typed? calls ≡ true
-  pub answers : numbers calls start ≡ 0 ∷ 0 ∷ 13 ∷ 14 ∷ 15 ∷ 16 ∷ 14 ∷ 18 ∷ 0 ∷ 0 ∷ 0 ∷ 0 ∷ 0 ∷ 0 ∷ 0 ∷ 0 ∷ 0 ∷ 17 ∷ 19 ∷ 19 ∷ 19 ∷ []
+  pub answers : numbers calls start ≡ 0 ∷ 0 ∷ 13 ∷ 14 ∷ 15 ∷ 16 ∷ 14 ∷ 18 ∷ 0 ∷ 0 ∷ 0 ∷ 0 ∷ 0 ∷ 0 ∷ 0 ∷ 0 ∷ 18 ∷ 0 ∷ 17 ∷ 19 ∷ 19 ∷ 19 ∷ []
   pub first-counts : first-stand .counted ≡ first-counted
-  pub first-zero : first-written .code ≡ 0
-  pub first-size : first-written .len ≡ 493
   pub first-met : premises? first-counted ≡ true
   pub second-counts : second-stand .counted ≡ second-counted
-  pub second-zero : second-written .code ≡ 0
-  pub second-size : second-written .len ≡ 719
   pub second-met : premises? second-counted ≡ true
 
 pub computed : Computed
@@ -231,12 +230,8 @@ computed = record {
   words-typed = refl;
   answers = refl;
   first-counts = refl;
-  first-zero = refl;
-  first-size = refl;
   first-met = refl;
   second-counts = refl;
-  second-zero = refl;
-  second-size = refl;
   second-met = refl;
 }
 
@@ -262,15 +257,22 @@ first-file = file-of first-written
 abbrev second-file : List ℕ
 second-file = file-of second-written
 
+-- both writes answer 0
+pub first-zero : first-written .code ≡ 0
+first-zero = sym (number-in first-calls (more-calls ++ (write second-output ∷ last-calls)) (write first-output) start) ∙ ap (λ (l : List ℕ). getD l 13 0) (computed .answers)
+
+pub second-zero : second-written .code ≡ 0
+second-zero = sym (number-in before-second last-calls (write second-output) start) ∙ ap (λ (l : List ℕ). getD l 17 0) (computed .answers)
+
 pub first-reopened : Reopened switches first-counted first-file
 first-reopened =
     subst (λ (gs : List Given). Reopened switches gs first-file) (computed .first-counts)
-    (demand3 id 5 true true lent calls refl (omega arith) (typed calls (computed .words-typed)) first-calls (more-calls ++ (write second-output ∷ last-calls)) first-output refl (computed .first-zero))
+    (demand3 id 5 true true lent calls refl (omega arith) (typed calls (computed .words-typed)) first-calls (more-calls ++ (write second-output ∷ last-calls)) first-output refl first-zero)
 
 pub second-reopened : Reopened switches second-counted second-file
 second-reopened =
     subst (λ (gs : List Given). Reopened switches gs second-file) (computed .second-counts)
-    (demand3 id 5 true true lent calls refl (omega arith) (typed calls (computed .words-typed)) before-second last-calls second-output refl (computed .second-zero))
+    (demand3 id 5 true true lent calls refl (omega arith) (typed calls (computed .words-typed)) before-second last-calls second-output refl second-zero)
 
 pub first-premises : Premises first-counted
 first-premises = premises first-counted (computed .first-met)

@@ -8,6 +8,6 @@ pub mod EveryList
 pub mod WrittenFile
 pub mod Claim
 pub mod Marked
-pub mod Computed
+pub mod Tests
 pub mod Worked
 pub mod Instance

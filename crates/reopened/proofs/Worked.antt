@@ -1,12 +1,12 @@
 -- THE WORKED FILE'S CALLS ARE AN INSTANCE of demand 3, over words: a beginning, one tree, one write. By computation alone (the contracts' own definitions, run by the checker): the numbers of the two
--- calls, what counts, the 305 bytes that are written, and the premises. By `demand3`: the two frames that these bytes show at 0x1003.
+-- calls, what counts, the 305 bytes that are written, and the premises. By `demand3`: the two frames that these bytes show at 0x1003, and none at 0x1010 and 0x0FFF.
 use Prim.Native.Nat.{ℕ}
 use mathlib.Core.Path.{_≡_, refl, ap, subst}
 use mathlib.Core.Bool.{true, false}
 use mathlib.Core.Option.{none, some}
-use mathlib.Core.List.{List, [], _∷_, _++_}
+use mathlib.Core.List.{List, [], _∷_, _++_, map}
 use native.Mathlib.Omega.{arith}
-use lib.ListN.{replicate}
+use lib.ListN.{replicate, getD}
 use Rattle.text.specs.Leb128.{encoded-in, encoded}
 use Rattle.text.specs.Utf8.{utf8, chars, charLen, UTF8-char, fits, within}
 use Rattle.raw.specs.Bytes as bytes
@@ -14,8 +14,9 @@ use Rattle.raw.specs.Rows.{versionInfoBytes, headerBytes, fileBytes, functionBy
 use Rattle.model.specs.Basics.{_∈_, here, before, place, sort}
 use Rattle.model.specs.Rows.{MAX, Text, LineRow, Given, tree-rows}
 use Rattle.model.specs.Machine.{advanceM, set-atM, kid-spansM, unless-held, put-end, walkM, loopM, entryM, closingM, rowM, convertM, startM}
+use Rattle.model.specs.Frames.{Frame}
 use Rattle.model.specs.Premises.{inlinees, line-at, nested-at}
-use Rattle.model.proofs.Worked.{plain-setup, trk, pos, ars, prs, src, b, line, root-row, inlinee-row, worked}
+use Rattle.model.proofs.Worked.{plain-setup, trk, pos, ars, prs, src, b, line, root-row, inlinee-row, worked, worked-file}
 use Rattle.rows.specs.Columns.{Columns, functionRow, lineRow, partOf, lineAt, linesFrom, functionAt, rowsFrom}
 use Rattle.rows.specs.Refusals.{each, total, lengths?, count?, depth?, shaped?, inside?, readable?, optional?, functionTexts?, lineTexts?, texts?, end?, ends?, room?, refusalOf}
 use Rattle.tables.specs.Table.{rowAt, linkAt, headAt, setRow, appendOf, overOf, bucketOf, walk, keyOf, sameRow, hashOf, hitAt, lookupOf, insertAt, insertOf, capacityOf}
@@ -27,11 +28,11 @@ use Rattle.writer.specs.Calls.{usable?, finished, beginOf, treeOf}
 use Rattle.serialize.specs.Sections.{file-row, function-row, call-row, entries, in-order, entry-location, location-row, start-row, padding}
 use Rattle.serialize.specs.File.{Wrote, wrote, written-file, serializeOf}
 use Rattle.symcache.proofs.Worked as original
-use Rattle.reads.specs.Shown.{Shown, Found}
+use Rattle.reads.specs.Shown.{Shown, with-stand-in, Found}
 use Rattle.reopened.specs.Lists.{Call, tree, write, Standing, next, run, begun}
 use Rattle.reopened.specs.Demand3.{Premises, Reopened, file-of}
 use Rattle.reopened.proofs.Claim.{demand3}
-use Rattle.reopened.proofs.Computed.{every?, some?, numbers, typed?, typed, asc?, row-well?, last-at?, holds?, inlinee-well?, disjoint?, apart?, rows-well?, nested?, separate?, all-separate?, premises?, premises}
+use Rattle.reopened.proofs.Tests.{every?, some?, numbers, typed?, typed, asc?, row-well?, last-at?, holds?, inlinee-well?, disjoint?, apart?, rows-well?, nested?, separate?, all-separate?, premises?, premises}
 
 -- ── The list ──
 
@@ -111,3 +112,10 @@ frame name entry number file = record {
 pub frames-1003 : (d : List ℕ) → Found original.worked d 0x1003 (frame pos MAX 50 prs ∷ frame trk 0x1000 10 ars ∷ [])
 unfolding nested-at line-at utf8 chars charLen UTF8-char fits within
 frames-1003 d = reopened .demanded worked-premises root-row (inlinee-row ∷ []) here (line 0x1000 (some 8) 10 ars) here 0x1003 (omega arith, omega arith) .frames d
+
+-- M2 and M3: none at 0x1010, none at 0x0FFF
+pub frames-1010 : (d : List ℕ) → Found original.worked d 0x1010 []
+frames-1010 d = subst (λ (l : List Frame). Found original.worked d 0x1010 (map (with-stand-in d) l)) (ap (λ (l : List (List Frame)). getD l 5 []) (worked-file .frames)) (reopened .every-address d 0x1010)
+
+pub frames-0fff : (d : List ℕ) → Found original.worked d 0x0FFF []
+frames-0fff d = subst (λ (l : List Frame). Found original.worked d 0x0FFF (map (with-stand-in d) l)) (ap (λ (l : List (List Frame)). getD l 0 []) (worked-file .frames)) (reopened .every-address d 0x0FFF)

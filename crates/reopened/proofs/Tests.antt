@@ -1,14 +1,14 @@
 -- WHAT IS COMPUTED OF A LIST OF CALLS that stands there as numbers (Worked, Instance): the number of every call; a test of 32-bit words, for `Typed`; and a test of the premises. A test that is
 -- true gives what demand 3 asks for.
-use mathlib.Core.Path.{_≡_}
+use mathlib.Core.Path.{_≡_, refl}
 use mathlib.Core.Bool.{Bool, true, false, cond, not, _&&_, _||_}
 use mathlib.Core.Option.{Option, none, some}
 use mathlib.Core.Logic.{_⊎_, inl, inr, ⊎-elim}
-use mathlib.Core.List.{List, [], _∷_}
+use mathlib.Core.List.{List, [], _∷_, _++_}
 use Prim.Native.Nat.{ℕ, zero, suc, _+_, _≤_, _<_}
 use native.Mathlib.Omega.{arith}
 use lib.Dec.{leb, ltb, eqb}
-use lib.ListN.{getD}
+use lib.ListN.{length, getD}
 use borrow.Author.Tests.{leb-true, ltb-true, eqb-true, not-true, le-leb, lt-ltb}
 use Rattle.model.specs.Basics.{_∈_, here, there, Span, Asc, Disjoint, Apart}
 use Rattle.model.specs.Rows.{MAX, Text, LineRow, FunctionRow, SymbolRow, Given, tree-rows, symbol-row, line-size, symbol-skipped}
@@ -17,7 +17,7 @@ use Rattle.model.proofs.Spans.{∈-elim}
 use Rattle.model.proofs.Chains.{false-true, both-true}
 use Rattle.writer.specs.Calls.{treeOf, symbolOf}
 use Rattle.serialize.specs.File.{serializeOf}
-use Rattle.reopened.specs.Lists.{Call, tree, symbol, write, Standing, next, Typed}
+use Rattle.reopened.specs.Lists.{Call, tree, symbol, write, Standing, next, run, Typed}
 use Rattle.reopened.specs.Demand3.{Nested, Premises}
 
 -- ── Tests of a list ──
@@ -55,7 +55,7 @@ module _ {A : Type 0} (p : A → Bool) where
 
 -- ── The number of every call ──
 
-abbrev number-of : Call → Standing → ℕ
+abbrev pub number-of : Call → Standing → ℕ
 number-of (tree k s) r = treeOf (r .converter) (r .memory) s k .code
 number-of (symbol t address size name) r = symbolOf (r .converter) (r .memory) t address size name .code
 number-of (write output) r = serializeOf (r .converter) (r .memory) output .code
@@ -63,6 +63,12 @@ number-of (write output) r = serializeOf (r .converter) (r .memory) output .code
 unfoldable pub numbers : List Call → Standing → List ℕ
 numbers [] r = []
 numbers (k ∷ ks) r = number-of k r ∷ numbers ks (next k r)
+
+-- the number of a call in the list
+pub number-in : (before after : List Call) (k : Call) (r : Standing) → getD (numbers (before ++ (k ∷ after)) r) (length before) 0 ≡ number-of k (run before r)
+unfolding numbers run
+number-in [] after k r = refl
+number-in (c ∷ before) after k r = number-in before after k (next c r)
 
 -- ── 32-bit words ──
 
