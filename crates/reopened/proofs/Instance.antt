@@ -13,6 +13,7 @@ use Rattle.text.specs.Leb128.{encoded-in, encoded}
 use Rattle.text.specs.Utf8.{utf8, chars, charLen, UTF8-char, fits, within}
 use Rattle.names.specs.Names as names
 use Rattle.raw.specs.Bytes as bytes
+use Rattle.raw.specs.Head.{padding}
 use Rattle.raw.specs.Rows.{versionInfoBytes, headerBytes, fileBytes, functionBytes, locationBytes, rangeBytes, isNoSourceLocation}
 use Rattle.model.specs.Basics.{_∈_, here, there, before, place, sort, intern}
 use Rattle.model.specs.Rows.{MAX, Text, LineRow, FunctionRow, Given, tree-rows, symbol-row}
@@ -30,7 +31,7 @@ use Rattle.tables.specs.Strings.{textCapacityOf, storedText, textSize, hashFrom
 use Rattle.tables.specs.Plain as plain
 use Rattle.steps.specs.Words.{Memory, fits?, store, add-function, add-file-row, add-call, put-range, store-six, locate-six, begin-named}
 use Rattle.writer.specs.Calls.{usable?, finished, beginOf, treeOf, symbolOf}
-use Rattle.serialize.specs.Sections.{file-row, function-row, call-row, entries, in-order, entry-location, location-row, start-row, padding}
+use Rattle.serialize.specs.Sections.{file-row, function-row, call-row, entries, in-order, entry-location, location-row, start-row}
 use Rattle.serialize.specs.File.{Wrote, written-file, serializeOf}
 use Rattle.reads.specs.Shown.{Shown, with-stand-in, Found}
 use Rattle.reopened.specs.Lists.{Call, tree, symbol, write, Standing, givenTree, next, run, begun}

@@ -10,6 +10,7 @@ use lib.ListN.{replicate, getD}
 use Rattle.text.specs.Leb128.{encoded-in, encoded}
 use Rattle.text.specs.Utf8.{utf8, chars, charLen, UTF8-char, fits, within}
 use Rattle.raw.specs.Bytes as bytes
+use Rattle.raw.specs.Head.{padding}
 use Rattle.raw.specs.Rows.{versionInfoBytes, headerBytes, fileBytes, functionBytes, locationBytes, rangeBytes, isNoSourceLocation}
 use Rattle.model.specs.Basics.{_∈_, here, before, place, sort}
 use Rattle.model.specs.Rows.{MAX, Text, LineRow, Given, tree-rows}
@@ -17,15 +18,16 @@ use Rattle.model.specs.Machine.{advanceM, set-atM, kid-spansM, unless-held, put
 use Rattle.model.specs.Frames.{Frame}
 use Rattle.model.specs.Premises.{inlinees, line-at, nested-at}
 use Rattle.model.proofs.Worked.{plain-setup, trk, pos, ars, prs, src, b, line, root-row, inlinee-row, worked, worked-file}
-use Rattle.rows.specs.Columns.{Columns, functionRow, lineRow, partOf, lineAt, linesFrom, functionAt, rowsFrom}
+use Rattle.rows.specs.Columns.{functionRow, lineRow, partOf, lineAt, linesFrom, functionAt, rowsFrom}
 use Rattle.rows.specs.Refusals.{each, total, lengths?, count?, depth?, shaped?, inside?, readable?, optional?, functionTexts?, lineTexts?, texts?, end?, ends?, room?, refusalOf}
+use Rattle.rows.proofs.Examples.{worked-columns}
 use Rattle.tables.specs.Table.{rowAt, linkAt, headAt, setRow, appendOf, overOf, bucketOf, walk, keyOf, sameRow, hashOf, hitAt, lookupOf, insertAt, insertOf, capacityOf}
 use Rattle.tables.specs.Ranges.{getOf, replaceOf, putAt, putOf}
 use Rattle.tables.specs.Strings.{textCapacityOf, storedText, textSize, hashFrom, textHash, textRow, isText, textAt, findText, indexOf, fullOf, storeOf, insertTextAt, insertTextOf}
 use Rattle.tables.specs.Plain as plain
 use Rattle.steps.specs.Words.{Memory, fits?, store, add-function, add-file-row, add-call, put-range, store-six, locate-six, begin-named}
 use Rattle.writer.specs.Calls.{usable?, finished, beginOf, treeOf}
-use Rattle.serialize.specs.Sections.{file-row, function-row, call-row, entries, in-order, entry-location, location-row, start-row, padding}
+use Rattle.serialize.specs.Sections.{file-row, function-row, call-row, entries, in-order, entry-location, location-row, start-row}
 use Rattle.serialize.specs.File.{Wrote, wrote, written-file, serializeOf}
 use Rattle.symcache.proofs.Worked as original
 use Rattle.reads.specs.Shown.{Shown, with-stand-in, Found}
@@ -36,20 +38,7 @@ use Rattle.reopened.proofs.Tests.{every?, some?, numbers, typed?, typed
 
 -- ── The list ──
 
--- trk, /b, a.rs, src, pos, p.rs
-abbrev words : List ℕ
-words = 116 ∷ 114 ∷ 107 ∷ 47 ∷ 98 ∷ 97 ∷ 46 ∷ 114 ∷ 115 ∷ 115 ∷ 114 ∷ 99 ∷ 112 ∷ 111 ∷ 115 ∷ 112 ∷ 46 ∷ 114 ∷ 115 ∷ []
-
-abbrev rows : Columns
-rows = record {
-  functions64 = 0x1000 ∷ 16 ∷ 0x1002 ∷ 4 ∷ [];
-  functions32 = 0 ∷ 0 ∷ 2 ∷ 0 ∷ 3 ∷ 3 ∷ 2 ∷ 2 ∷ 1 ∷ 1 ∷ 2 ∷ 12 ∷ 3 ∷ 3 ∷ 2 ∷ 1 ∷ [];
-  lines64 = 0x1000 ∷ 8 ∷ 10 ∷ 0x1008 ∷ 8 ∷ 11 ∷ 0x1002 ∷ 4 ∷ 50 ∷ [];
-  lines32 = 1 ∷ 5 ∷ 4 ∷ 9 ∷ 3 ∷ 0 ∷ 0 ∷ 0 ∷ 0 ∷ 0 ∷ 0 ∷ 0 ∷ 0 ∷ 0 ∷ 1 ∷ 5 ∷ 4 ∷ 9 ∷ 3 ∷ 0 ∷ 0 ∷ 0 ∷ 0 ∷ 0 ∷ 0 ∷ 0 ∷ 0 ∷ 0 ∷ 1 ∷ 15 ∷ 4 ∷ 9 ∷ 3 ∷ 0 ∷ 0 ∷ 0 ∷ 0 ∷ 0 ∷ 0 ∷ 0 ∷ 0 ∷ 0 ∷ [];
-  text = words;
-}
-
--- the lent tables have just the room that is needed, and any content: sevens
+-- the tree's rows are in rows/proofs/Examples. The lent tables have just the room that is needed, and any content: sevens
 abbrev lent : Memory
 lent = record { text = replicate 25 7; strings = replicate 48 7; files = replicate 16 7; functions = replicate 16 7; calls = replicate 8 7; ranges = replicate 40 7 }
 
@@ -57,7 +46,7 @@ abbrev start : Standing
 start = begun (replicate 32 0) 0 false false lent
 
 abbrev one-tree : List Call
-one-tree = tree rows (replicate 20 7) ∷ []
+one-tree = tree worked-columns (replicate 20 7) ∷ []
 
 -- the output is a byte longer than the file
 abbrev output : List ℕ
