@@ -294,9 +294,13 @@ frame name entry language number file comp-dir srcsrv-name revision = record {
 abbrev low-at : ℕ → Shown
 low-at entry = record { name = 108 ∷ 111 ∷ 119 ∷ []; entry = entry; language = MAX; number = 0; file = none }
 
--- at 0x1003: pos, inlined into the first root, whose name is undecorated. At 0x1023: the second root alone. At 0x1029: the third root's three, the innermost with the stand-in for its name
+-- at 0x1003: pos, inlined into the first root, whose name is undecorated. At 0x1009: the first root's second line, and nothing of the refused trees, whose line 12 covers it too. At 0x1023: the second root
+-- alone. At 0x1029: the third root's three, the innermost with the stand-in for its name
 abbrev at-1003 : List Shown
 at-1003 = frame pos MAX 2 50 prs (some b) none none ∷ frame trk 0x1000 2 10 ars (some b) none none ∷ []
+
+abbrev at-1009 : List Shown
+at-1009 = frame trk 0x1000 2 11 ars (some b) none none ∷ []
 
 abbrev at-1023 : List Shown
 at-1023 = frame pos 0x1020 3 8 prs none none none ∷ []
@@ -306,8 +310,10 @@ at-1029 d = frame d MAX 2 52 prs (some b) (some src) (some (98 ∷ [])) ∷ fram
 
 pub record Frames : Type 0 where
   pub first-1003 : (d : List ℕ) → Found first-file d 0x1003 at-1003
+  pub first-1009 : (d : List ℕ) → Found first-file d 0x1009 at-1009
   pub first-1023 : (d : List ℕ) → Found first-file d 0x1023 at-1023
   pub second-1003 : (d : List ℕ) → Found second-file d 0x1003 at-1003
+  pub second-1009 : (d : List ℕ) → Found second-file d 0x1009 at-1009
   pub second-1023 : (d : List ℕ) → Found second-file d 0x1023 at-1023
   pub second-1029 : (d : List ℕ) → Found second-file d 0x1029 (at-1029 d)
 
@@ -315,8 +321,10 @@ pub frames : Frames
 unfolding nested-at line-at utf8 chars charLen UTF8-char fits within names.starts-with names.special names.contains names.rfind names.digit names.digits names.value names.number names.parses names.sized names.cut names.prefixed names.undecorated
 frames = record {
   first-1003 = λ d. first-reopened .demanded first-premises first-root (inlinee-row ∷ []) (there here) (line 0x1000 (some 8) 10 ars) here 0x1003 (omega arith, omega arith) .frames d;
+  first-1009 = λ d. first-reopened .demanded first-premises first-root (inlinee-row ∷ []) (there here) (line 0x1008 (some 8) 11 ars) (there here) 0x1009 (omega arith, omega arith) .frames d;
   first-1023 = λ d. first-reopened .demanded first-premises second-root [] (there (there here)) (line 0x1022 (some 2) 8 prs) (there here) 0x1023 (omega arith, omega arith) .frames d;
   second-1003 = λ d. second-reopened .demanded second-premises first-root (inlinee-row ∷ []) (there here) (line 0x1000 (some 8) 10 ars) here 0x1003 (omega arith, omega arith) .frames d;
+  second-1009 = λ d. second-reopened .demanded second-premises first-root (inlinee-row ∷ []) (there here) (line 0x1008 (some 8) 11 ars) (there here) 0x1009 (omega arith, omega arith) .frames d;
   second-1023 = λ d. second-reopened .demanded second-premises second-root [] (there (there here)) (line 0x1022 (some 2) 8 prs) (there here) 0x1023 (omega arith, omega arith) .frames d;
   second-1029 = λ d. second-reopened .demanded second-premises third-root (inner ∷ innermost ∷ []) (there (there (there (there (there (there (there here))))))) (line 0x1024 (some 16) 20 ars) here 0x1029 (omega arith, omega arith) .frames d;
 }
