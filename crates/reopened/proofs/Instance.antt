@@ -1,12 +1,12 @@
 -- A LIST OF TWENTY-TWO CALLS IS AN INSTANCE of demand 3, over words, with both switches on: three roots, two of which touch; inlinees one and two deep; symbols that start or end at a root's first address, at its
 -- end, and between roots; refused calls of every number from 13 to 19, some of them across a root that counts; two writes that answer 0, the second after more calls. By computation alone (the contracts'
 -- own definitions, run by the checker): the number of every call, which calls count at each write, and the premises. By `demand3`: the frames that each file shows.
-use Prim.Native.Nat.{ℕ, _+_, _≤_}
+use Prim.Native.Nat.{ℕ, _≤_}
 use mathlib.Core.Path.{_≡_, refl, sym, ap, _∙_, subst}
 use mathlib.Core.Bool.{true, false}
 use mathlib.Core.Option.{Option, none, some}
 use mathlib.Core.Logic.{⊎-elim}
-use mathlib.Core.List.{List, [], _∷_, _++_, map}
+use mathlib.Core.List.{List, [], _∷_, _++_}
 use native.Mathlib.Omega.{arith}
 use lib.ListN.{replicate, getD}
 use Rattle.text.specs.Leb128.{encoded-in, encoded}
@@ -15,12 +15,12 @@ use Rattle.names.specs.Names as names
 use Rattle.raw.specs.Bytes as bytes
 use Rattle.raw.specs.Head.{padding}
 use Rattle.raw.specs.Rows.{versionInfoBytes, headerBytes, fileBytes, functionBytes, locationBytes, rangeBytes, isNoSourceLocation}
-use Rattle.model.specs.Basics.{_∈_, here, there, before, place, sort, intern}
-use Rattle.model.specs.Rows.{MAX, Text, LineRow, FunctionRow, Given, tree-rows, symbol-row}
+use Rattle.model.specs.Basics.{here, there, before, place, sort, intern}
+use Rattle.model.specs.Rows.{MAX, Text, FunctionRow, Given, tree-rows, symbol-row}
 use Rattle.model.specs.Machine.{advanceM, set-atM, kid-spansM, unless-held, put-end, walkM, loopM, entryM, closingM, rowM, convertM, startM, named-symbolM, convert-symbolM, convert-opM, runM}
-use Rattle.model.specs.Converter.{Setup, converted}
+use Rattle.model.specs.Converter.{Setup}
 use Rattle.model.specs.Converter as model
-use Rattle.model.specs.Frames.{Frame, callers, frames-of, better, best, frames-at}
+use Rattle.model.specs.Frames.{callers, frames-of, better, best, frames-at}
 use Rattle.model.specs.Premises.{inlinees, line-at, nested-at}
 use Rattle.model.proofs.Worked.{trk, pos, ars, prs, src, b, line, inlinee-row}
 use Rattle.rows.specs.Columns.{Columns, functionRow, lineRow, partOf, lineAt, linesFrom, functionAt, rowsFrom}
@@ -33,7 +33,7 @@ use Rattle.steps.specs.Words.{Memory, fits?, store, add-function, add-file-row,
 use Rattle.writer.specs.Calls.{usable?, finished, beginOf, treeOf, symbolOf}
 use Rattle.serialize.specs.Sections.{file-row, function-row, call-row, entries, in-order, entry-location, location-row, start-row}
 use Rattle.serialize.specs.File.{Wrote, written-file, serializeOf}
-use Rattle.reads.specs.Shown.{Shown, with-stand-in, Found}
+use Rattle.reads.specs.Shown.{Shown, Found}
 use Rattle.reopened.specs.Lists.{Call, tree, symbol, write, Standing, givenTree, next, run, begun}
 use Rattle.reopened.specs.Demand3.{Premises, Reopened, file-of}
 use Rattle.reopened.proofs.Claim.{demand3}

@@ -1,7 +1,7 @@
 -- WHAT IS COMPUTED OF A LIST OF CALLS that stands there as numbers (Worked, Instance): the number of every call; a test of 32-bit words, for `Typed`; and a test of the premises. A test that is
 -- true gives what demand 3 asks for.
 use mathlib.Core.Path.{_≡_, refl}
-use mathlib.Core.Bool.{Bool, true, false, cond, not, _&&_, _||_}
+use mathlib.Core.Bool.{Bool, true, false, not, _&&_, _||_}
 use mathlib.Core.Option.{Option, none, some}
 use mathlib.Core.Logic.{_⊎_, inl, inr, ⊎-elim}
 use mathlib.Core.List.{List, [], _∷_, _++_}
@@ -9,10 +9,10 @@ use Prim.Native.Nat.{ℕ, zero, suc, _+_, _≤_, _<_}
 use native.Mathlib.Omega.{arith}
 use lib.Dec.{leb, ltb, eqb}
 use lib.ListN.{length, getD}
-use borrow.Author.Tests.{leb-true, ltb-true, eqb-true, not-true, le-leb, lt-ltb}
+use borrow.Author.Tests.{leb-true, ltb-true, eqb-true, not-true}
 use Rattle.model.specs.Basics.{_∈_, here, there, Span, Asc, Disjoint, Apart}
 use Rattle.model.specs.Rows.{MAX, Text, LineRow, FunctionRow, SymbolRow, Given, tree-rows, symbol-row, line-size, symbol-skipped}
-use Rattle.model.specs.Premises.{reaches, all-reaches, inlinees, RowWell, LastAt, InlineeWell, RowsWell, Named, Counted, NotIn, SymbolClear, RootsClear, Separate, AllSeparate}
+use Rattle.model.specs.Premises.{reaches, all-reaches, inlinees, RowWell, LastAt, InlineeWell, RowsWell, Named, Counted, NotIn, SymbolClear, Separate, AllSeparate}
 use Rattle.model.proofs.Spans.{∈-elim}
 use Rattle.model.proofs.Chains.{false-true, both-true}
 use Rattle.writer.specs.Calls.{treeOf, symbolOf}

@@ -12,8 +12,8 @@ use Rattle.text.specs.Utf8.{utf8, chars, charLen, UTF8-char, fits, within}
 use Rattle.raw.specs.Bytes as bytes
 use Rattle.raw.specs.Head.{padding}
 use Rattle.raw.specs.Rows.{versionInfoBytes, headerBytes, fileBytes, functionBytes, locationBytes, rangeBytes, isNoSourceLocation}
-use Rattle.model.specs.Basics.{_∈_, here, before, place, sort}
-use Rattle.model.specs.Rows.{MAX, Text, LineRow, Given, tree-rows}
+use Rattle.model.specs.Basics.{here, before, place, sort}
+use Rattle.model.specs.Rows.{MAX, Text, Given}
 use Rattle.model.specs.Machine.{advanceM, set-atM, kid-spansM, unless-held, put-end, walkM, loopM, entryM, closingM, rowM, convertM, startM}
 use Rattle.model.specs.Frames.{Frame}
 use Rattle.model.specs.Premises.{inlinees, line-at, nested-at}
