@@ -11,6 +11,7 @@ use lib.Seq.{take-at, drop-at, drop-drop, take-append-le, drop-append-le}
 use borrow.Author.Tests.{lt-ltb, le-ltb}
 use Rattle.raw.specs.Bytes.{words, Stands, tableBytes}
 use Rattle.raw.specs.Rows.{versionInfoBytes, versionInfoAt, headerBytes, headerAt, HeaderFits, rangeAt}
+use Rattle.raw.specs.Head.{version-info, padding}
 use Rattle.raw.specs.declared.Header.{Header}
 use Rattle.raw.proofs.Bytes.{length-words, stands-left, stands-right, stands-between, word-back}
 use Rattle.raw.proofs.Rows.{length-version-info, length-header, version-info-back, header-back}
@@ -22,7 +23,7 @@ use Rattle.symcache.specs.Strings.{sectionOf}
 use Rattle.symcache.proofs.ReaderLaws.{then-tables, opened-accepted}
 use Rattle.model.proofs.FileRows.{ascending-next}
 use Rattle.model.proofs.Sections.{Sections, function-read}
-use Rattle.reads.specs.Bytes.{version-info, header-of, padding, file-bytes, Readable}
+use Rattle.reads.specs.Bytes.{header-of, file-bytes, Readable}
 use Rattle.reads.proofs.RowsOfWords.{table-size, row-there, file-of, function-of, location-of, file-row, function-row, location-row}
 
 -- ── Multiples of 8 ──

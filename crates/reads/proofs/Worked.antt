@@ -1,4 +1,4 @@
--- Document 01's small worked file, by computation: the bytes of its calls are the 305 bytes that the original wrote; its calls meet what is asked of a list; so these bytes show M2's two frames.
+-- Document 01's small worked file, by computation: the bytes of its calls are the 305 bytes that the original wrote; its calls meet what is asked of a list; so these bytes show M1's two frames.
 use Prim.Native.Nat.{ℕ}
 use mathlib.Core.Path.{_≡_, refl, ap, _∙_, subst}
 use mathlib.Core.Bool.{true}
@@ -10,6 +10,7 @@ use Rattle.text.specs.Leb128.{encoded-in, encoded}
 use Rattle.text.specs.Utf8.{utf8, chars, charLen, UTF8-char, fits, within}
 use Rattle.raw.specs.Bytes.{le, words, tableBytes}
 use Rattle.raw.specs.Rows.{versionInfoBytes, headerBytes}
+use Rattle.raw.specs.Head.{padding}
 use Rattle.symcache.proofs.Worked as original
 use Rattle.model.specs.Basics.{_∈_}
 use Rattle.model.specs.Rows.{MAX, Text, Given}
@@ -23,7 +24,7 @@ use Rattle.model.proofs.Spans.{∈-elim}
 use Rattle.model.proofs.Compact.{LineFits, RowFits, GivenFits}
 use Rattle.model.proofs.Worked.{plain-setup, trk, pos, ars, prs, line, root-row, inlinee-row, worked, frame, worked-file}
 use Rattle.model.proofs.Sections.{sections}
-use Rattle.reads.specs.Bytes.{padding, file-bytes}
+use Rattle.reads.specs.Bytes.{file-bytes}
 use Rattle.reads.specs.Shown.{with-stand-in, Found}
 use Rattle.reads.proofs.Written.{file-shows}
 
@@ -75,7 +76,7 @@ alone : (l : List ℕ) → l ++ [] ≡ l
 alone [] = refl
 alone (x ∷ l) = ap (λ (t : List ℕ). x ∷ t) (alone l)
 
--- M2: the inlinee's frame, then the root's
+-- M1: the inlinee's frame, then the root's
 pub worked-shown : (d : List ℕ) → Found original.worked d 0x1003 (map (with-stand-in d) (frame pos MAX 50 prs ∷ frame trk 0x1000 10 ars ∷ []))
 worked-shown d =
     let e : frames-at (converted plain-setup worked) 0x1003 ≡ frame pos MAX 50 prs ∷ frame trk 0x1000 10 ars ∷ [] = ap (λ (l : List (List plain.Frame)). getD l 2 []) (worked-file .frames) in

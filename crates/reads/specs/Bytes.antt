@@ -1,36 +1,18 @@
 -- THE BYTES OF A FILE whose rows are given as words: document 01 "Writer", "Rows"; writer.rs, `serialize`.
-use Prim.Native.Nat.{ℕ, _*_, _-_, _%_, _≤_}
+use Prim.Native.Nat.{ℕ, _*_, _≤_}
 use mathlib.Core.Path.{_≡_}
 use mathlib.Core.List.{List, [], _∷_, _++_}
-use lib.ListN.{length, replicate}
+use lib.ListN.{length}
 use Rattle.raw.specs.Bytes.{words, Words, tableBytes}
 use Rattle.raw.specs.Rows.{versionInfoBytes, headerWords, headerBytes}
-use Rattle.raw.specs.declared.VersionInfo.{VersionInfo}
+use Rattle.raw.specs.Head.{version-info, header, padding}
 use Rattle.raw.specs.declared.Header.{Header}
 use Rattle.model.proofs.FileRows.{Ascending}
 use Rattle.model.proofs.Sections.{Sections}
 
--- "bytes 53 59 4D 43, version 9"
-abbrev pub version-info : VersionInfo
-version-info = record { magic = 0x434d_5953; version = 9 }
-
 -- the header that tells of the sections
 abbrev pub header-of : List ℕ → ℕ → Sections → Header
-header-of id a z = record {
-  «debug_id» = id;
-  arch = a;
-  «num_files» = length (z .files);
-  «num_functions» = length (z .functions);
-  «num_source_locations» = length (z .locations);
-  «num_ranges» = length (z .starts);
-  «string_bytes» = length (z .strings);
-  «variable_header» = 0;
-  reserved = replicate 14 0;
-}
-
--- zeros from n bytes up to a multiple of 8
-unfoldable pub padding : ℕ → List ℕ
-padding n = replicate ((8 - n % 8) % 8) 0
+header-of id a z = header id a (length (z .files)) (length (z .functions)) (length (z .locations)) (length (z .starts)) (length (z .strings))
 
 -- "bytes 53 59 4D 43, version 9, header, then files, functions, call locations followed by range locations, range starts, texts, each on a multiple of 8.
 -- Nothing follows the texts." Only the range starts can end off a multiple of 8

@@ -8,3 +8,6 @@ pub mod EveryList
 pub mod WrittenFile
 pub mod Claim
 pub mod Marked
+pub mod Tests
+pub mod Worked
+pub mod Instance

@@ -9,7 +9,7 @@ use Prim.Native.Nat.{ℕ, zero, suc, _+_, _*_, _≤_, _<_}
 use native.Mathlib.Nat.{zero-add, add-zero, add-suc, suc-add}
 use native.Mathlib.Omega.{arith}
 use lib.Dec.{ltb, leb, eqb}
-use lib.ListN.{length, getD, take, drop, replicate, length-map, length-append, List·getD-map}
+use lib.ListN.{length, getD, take, drop, length-map, length-append, List·getD-map}
 use borrow.Author.Tests.{ltb-true, ltb-false, eqb-true, eqb-false}
 use Rattle.text.specs.Leb128.{encoded}
 use Rattle.model.specs.Basics.{Span, Entry, before, place, sort}
@@ -24,8 +24,8 @@ use Rattle.model.proofs.FileRows.{section-length}
 use Rattle.model.proofs.Sections.{Sections, sections}
 use Rattle.raw.specs.Bytes.{le, words, tableBytes}
 use Rattle.raw.specs.Rows.{versionInfoBytes, headerBytes, fileBytes, functionBytes, locationBytes, rangeBytes}
+use Rattle.raw.specs.Head.{version-info, header, padding}
 use Rattle.raw.specs.declared.SourceLocation.{SourceLocation}
-use Rattle.raw.specs.declared.Header.{Header}
 use Rattle.tables.specs.Table.{rowAt}
 use Rattle.tables.specs.Ranges.{getOf, locationOf}
 use Rattle.tables.specs.Strings.{storedText}
@@ -40,8 +40,8 @@ use Rattle.steps.specs.declared.LastAddr.{LastAddr}
 use Rattle.steps.specs.declared.LastAddr.the-variants.{Unset, Set}
 use Rattle.steps.specs.declared.Converter.{Converter}
 use Rattle.steps.proofs.Lengths.{Lens}
-use Rattle.serialize.specs.Sections.{file-row, function-row, call-row, entries, if-vacant, vacant-end, in-order, entry-location, location-row, start-row, padding}
-use Rattle.serialize.specs.File.{ranges-of, version-info, header-of, written-file, wrote, serializeOf}
+use Rattle.serialize.specs.Sections.{file-row, function-row, call-row, entries, if-vacant, vacant-end, in-order, entry-location, location-row, start-row}
+use Rattle.serialize.specs.File.{ranges-of, header-of, written-file, wrote, serializeOf}
 use Rattle.serialize.proofs.Rows.{table-append}
 use Rattle.reads.specs.Bytes.{file-bytes}
 use Rattle.reads.specs.Bytes as reads
@@ -208,19 +208,13 @@ module _ (t : List ℕ) (n : ℕ) (rs : List (Entry Location)) (h : Holds 1 t n 
 
 -- ── The file ──
 
-pad-is : (k : ℕ) → padding k ≡ reads.padding k
-unfolding padding reads.padding
-pad-is k = refl
-
 whole : (v h h′ f f′ g g′ k l kl b b′ p p′ x x′ : List ℕ) → h ≡ h′ → f ≡ f′ → g ≡ g′ → k ++ l ≡ kl → b ≡ b′ → p ≡ p′ → x ≡ x′
     → v ++ (h ++ (f ++ (g ++ (k ++ (l ++ (b ++ (p ++ x))))))) ≡ v ++ (h′ ++ (f′ ++ (g′ ++ (kl ++ (b′ ++ (p′ ++ x′))))))
 whole v h h′ f f′ g g′ k l kl b b′ p p′ x x′ eh ef eg el eb ep ex = let a = append-assoc k l (b ++ (p ++ x)) in cc
 
 header-path : (id : List ℕ) (a f f′ g g′ l l′ r r′ b b′ : ℕ) → f ≡ f′ → g ≡ g′ → l ≡ l′ → r ≡ r′ → b ≡ b′
-    → _≡_ {A = Header} (record { «debug_id» = id; arch = a; «num_files» = f; «num_functions» = g; «num_source_locations» = l; «num_ranges» = r; «string_bytes» = b; «variable_header» = 0; reserved = replicate 14 0 })
-    (record { «debug_id» = id; arch = a; «num_files» = f′; «num_functions» = g′; «num_source_locations» = l′; «num_ranges» = r′; «string_bytes» = b′; «variable_header» = 0; reserved = replicate 14 0 })
-header-path id a f f′ g g′ l l′ r r′ b b′ ef eg el er eb =
-    λ i. record { «debug_id» = id; arch = a; «num_files» = ef i; «num_functions» = eg i; «num_source_locations» = el i; «num_ranges» = er i; «string_bytes» = eb i; «variable_header» = 0; reserved = replicate 14 0 }
+    → header id a f g l r b ≡ header id a f′ g′ l′ r′ b′
+header-path id a f f′ g g′ l l′ r r′ b b′ ef eg el er eb = λ i. header id a (ef i) (eg i) (el i) (er i) (eb i)
 
 module _ (n : Lens) (s : Tables) (c : Converter) (m : Memory) (h : Enc n s (words-of c m)) where
   pub files-written : tableBytes file-row (rowsOf (m .files) (c .state .files)) ≡ tableBytes words (map (file-words (s .texts)) (s .files))
@@ -296,7 +290,7 @@ module _ (n : Lens) (s : Tables) (c : Converter) (m : Memory) (h : Enc n s (word
         functions-written
         all-locations
         starts-written
-        (ap (λ (k : ℕ). padding (k * 4)) starts-count ∙ pad-is (length (z .starts) * 4))
+        (ap (λ (k : ℕ). padding (k * 4)) starts-count)
         strings-written
 
 -- WHAT IS WRITTEN, after every list: the file of the plain tables

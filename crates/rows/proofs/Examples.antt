@@ -30,8 +30,11 @@ l32 =
 abbrev with : List ℕ → List ℕ → List ℕ → Columns
 with a b d = record { functions64 = a; functions32 = b; lines64 = l64; lines32 = d; text = words }
 
+abbrev pub worked-columns : Columns
+worked-columns = with f64 f32 l32
+
 pub record Examples : Type 0 where
-  pub rows : treeRows (with f64 f32 l32) ≡ root-row ∷ inlinee-row ∷ []
+  pub rows : treeRows worked-columns ≡ root-row ∷ inlinee-row ∷ []
   pub taken : refusalOf (with f64 f32 l32) 20 ≡ 0
   pub scratch-short : refusalOf (with f64 f32 l32) 19 ≡ 16
   pub no-rows : refusalOf (record { functions64 = []; functions32 = []; lines64 = []; lines32 = []; text = [] }) 20 ≡ 13

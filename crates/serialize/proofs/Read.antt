@@ -10,6 +10,7 @@ use lib.ListN.{length, getD}
 use Rattle.model.specs.Basics.{Span}
 use Rattle.raw.specs.Bytes.{Words, Stands, tableBytes}
 use Rattle.raw.specs.Rows.{versionInfoAt, headerAt, HeaderFits, fileAt, functionAt, locationWords, locationAt, rangeAt, noSourceLocation}
+use Rattle.raw.specs.Head.{version-info}
 use Rattle.raw.proofs.Bytes.{row-stands}
 use Rattle.raw.proofs.Rows.{version-info-back, header-back, file-back, function-back, location-back, range-back}
 use Rattle.tables.specs.Table.{rowAt}
@@ -20,7 +21,7 @@ use Rattle.tables.proofs.Rows.{rows-length, rows-getD}
 use Rattle.steps.specs.Words.{Memory}
 use Rattle.steps.specs.declared.Converter.{Converter}
 use Rattle.serialize.specs.Sections.{file-of, function-of, call-of, file-row, function-row, call-row, entry-location, location-row, start-row}
-use Rattle.serialize.specs.File.{ranges-of, version-info, header-of}
+use Rattle.serialize.specs.File.{ranges-of, header-of}
 use Rattle.serialize.specs.declared.Layout.{Layout}
 use Rattle.serialize.proofs.Rows.{length-file-row, length-function-row, length-call-row, length-location-row, length-start-row}
 use Rattle.serialize.proofs.Whole.{Standing}

@@ -9,6 +9,7 @@ use lib.Seq.{sets, length-take-le}
 use Rattle.model.specs.Basics.{sort}
 use Rattle.raw.specs.Bytes.{Stands, tableBytes}
 use Rattle.raw.specs.Rows.{versionInfoBytes, headerBytes}
+use Rattle.raw.specs.Head.{version-info, padding}
 use Rattle.raw.proofs.Bytes.{sets-join, length-table, stands-left, stands-right, stands-between}
 use Rattle.raw.proofs.Rows.{length-version-info, length-header, length-range}
 use Rattle.tables.specs.Plain.{rowsOf}
@@ -19,8 +20,8 @@ use Rattle.steps.specs.Words.{Memory}
 use Rattle.steps.specs.declared.LastAddr.{LastAddr}
 use Rattle.steps.specs.declared.State.{State}
 use Rattle.steps.specs.declared.Converter.{Converter}
-use Rattle.serialize.specs.Sections.{file-row, function-row, call-row, entries, vacant-end, sentinel, in-order, location-row, start-row, range-sections, padding}
-use Rattle.serialize.specs.File.{ranges-of, version-info, header-of, written-file, layout-of, Ready}
+use Rattle.serialize.specs.Sections.{file-row, function-row, call-row, entries, vacant-end, sentinel, in-order, location-row, start-row, range-sections}
+use Rattle.serialize.specs.File.{ranges-of, header-of, written-file, layout-of, Ready}
 use Rattle.serialize.specs.declared.Layout.{Layout}
 use Rattle.serialize.proofs.Rows.{length-file-row, length-function-row, length-call-row, length-location-row, length-start-row, length-entries, padding-odd, padding-even}
 

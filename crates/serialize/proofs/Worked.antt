@@ -7,16 +7,17 @@ use lib.ListN.{replicate}
 use Rattle.model.specs.Basics.{before, place, sort}
 use Rattle.raw.specs.Bytes.{le, words, tableBytes}
 use Rattle.raw.specs.Rows.{max32, versionInfoBytes, headerBytes, fileBytes, functionBytes, locationBytes, rangeBytes}
+use Rattle.raw.specs.Head.{padding}
 use Rattle.raw.specs.declared.SourceLocation.{SourceLocation}
 use Rattle.tables.specs.Table.{rowAt, linkAt, headAt, setRow, appendOf, bucketOf, walk, keyOf, sameRow, hashOf, hitAt, lookupOf, insertAt, insertOf, capacityOf}
 use Rattle.tables.specs.Ranges.{rangeRow, getOf, putAt, putOf}
 use Rattle.tables.specs.Plain.{rowsFrom}
 use Rattle.tables.specs.Strings.{textCapacityOf}
-use Rattle.steps.specs.Words.{Memory, fits?}
+use Rattle.steps.specs.Words.{Memory, memory, fits?}
 use Rattle.steps.specs.declared.Converter.{Converter}
 use Rattle.steps.specs.declared.LastAddr.the-variants.{Set}
-use Rattle.serialize.specs.Sections.{file-row, function-row, call-row, entries, in-order, entry-location, location-row, start-row, padding}
-use Rattle.serialize.specs.File.{memory, written-file, wrote, serializeOf}
+use Rattle.serialize.specs.Sections.{file-row, function-row, call-row, entries, in-order, entry-location, location-row, start-row}
+use Rattle.serialize.specs.File.{written-file, wrote, serializeOf}
 
 location : ℕ → ℕ → ℕ → ℕ → SourceLocation
 location file line function into = record { «file_idx» = file; line = line; «function_idx» = function; «inlined_into_idx» = into }

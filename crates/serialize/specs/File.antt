@@ -4,44 +4,27 @@ use mathlib.Core.Bool.{cond, _&&_}
 use mathlib.Core.Path.{_≡_}
 use mathlib.Core.List.{List, _++_}
 use lib.Dec.{leb}
-use lib.ListN.{length, take, drop, replicate}
+use lib.ListN.{length, take, drop}
 use Rattle.model.specs.Basics.{Span}
 use Rattle.raw.specs.Bytes.{tableBytes}
 use Rattle.raw.specs.Rows.{versionInfoBytes, headerBytes}
-use Rattle.raw.specs.declared.VersionInfo.{VersionInfo}
+use Rattle.raw.specs.Head.{version-info, header, padding}
 use Rattle.raw.specs.declared.Header.{Header}
 use Rattle.tables.specs.Plain.{rowsOf}
 use Rattle.steps.specs.Words.{Memory, fits?}
 use Rattle.steps.specs.declared.LastAddr.{LastAddr}
 use Rattle.steps.specs.declared.State.{State}
 use Rattle.steps.specs.declared.Converter.{Converter}
-use Rattle.serialize.specs.Sections.{file-row, function-row, call-row, vacant-end, sentinel, in-order, location-row, start-row, padding}
+use Rattle.serialize.specs.Sections.{file-row, function-row, call-row, vacant-end, sentinel, in-order, location-row, start-row}
 use Rattle.serialize.specs.declared.Layout.{Layout}
-
--- the six lent tables
-abbrev pub memory : List ℕ → List ℕ → List ℕ → List ℕ → List ℕ → List ℕ → Memory
-memory x i f g c r = record { text = x; strings = i; files = f; functions = g; calls = c; ranges = r }
 
 -- the ranges of the file, ascending, the sentinel with them
 abbrev pub ranges-of : Converter → Memory → List Span
 ranges-of c m = in-order (c .state .«last_addr») (m .ranges) (c .state .ranges)
 
--- magic and version; the header of a file with n ranges
-abbrev pub version-info : VersionInfo
-version-info = record { magic = 0x434d_5953; version = 9 }
-
+-- the header of a file with n ranges
 abbrev pub header-of : Converter → ℕ → Header
-header-of c n = record {
-  «debug_id» = c .«debug_id»;
-  arch = c .arch;
-  «num_files» = c .state .files;
-  «num_functions» = c .state .functions;
-  «num_source_locations» = c .state .«call_locations» + n;
-  «num_ranges» = n;
-  «string_bytes» = c .state .«string_bytes»;
-  «variable_header» = 0;
-  reserved = replicate 14 0;
-}
+header-of c n = header (c .«debug_id») (c .arch) (c .state .files) (c .state .functions) (c .state .«call_locations» + n) n (c .state .«string_bytes»)
 
 -- "bytes 53 59 4D 43, version 9, header, then files, functions, call locations followed by range locations, range starts, texts, each on a multiple of 8.
 -- Nothing follows the texts." Only the range starts can end off a multiple of 8

@@ -1,9 +1,8 @@
 -- The sections of the written file: rows of the lent tables as rows of the file. Document 01 "Rows" and "Writer"; writer.rs, `serialize`. For any content of the tables.
-use Prim.Native.Nat.{ℕ, zero, suc, _+_, _-_, _%_}
+use Prim.Native.Nat.{ℕ, zero, suc, _+_}
 use mathlib.Core.Bool.{cond}
 use mathlib.Core.List.{List, [], _∷_, _++_}
 use lib.Dec.{ltb}
-use lib.ListN.{replicate}
 use Rattle.model.specs.Basics.{Span, sort}
 use Rattle.raw.specs.Bytes.{leAt, words, tableBytes}
 use Rattle.raw.specs.Rows.{fileBytes, functionBytes, locationBytes, rangeBytes, noSourceLocation}
@@ -78,10 +77,6 @@ start-row p = rangeBytes (record { 0 = p .from })
 -- the locations, then the starts
 unfoldable pub range-sections : List ℕ → ℕ → List Span → List ℕ
 range-sections t n ps = tableBytes (location-row t n) ps ++ tableBytes start-row ps
-
--- zeros from n bytes up to a multiple of 8
-unfoldable pub padding : ℕ → List ℕ
-padding n = replicate ((8 - n % 8) % 8) 0
 
 -- ── What private functions' contracts cite ─────────────────────────────────────────────────────────────────────────────
 

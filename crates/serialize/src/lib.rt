@@ -18,9 +18,11 @@ ghost use Rattle.model.specs.Basics.{sort};
 ghost use Rattle.raw.specs.Bytes.{Words, tableBytes};
 ghost use Rattle.tables.specs.Plain.{rowsOf};
 ghost use Rattle.sorting.specs.Pairs.{pairWords};
-ghost use Rattle.serialize.specs.Sections.{file-row, function-row, call-row, entries, entry-row, entries-at, entry-location, range-sections, vacant-end, sentinel, padding};
+ghost use Rattle.serialize.specs.Sections.{file-row, function-row, call-row, entries, entry-row, entries-at, entry-location, range-sections, vacant-end, sentinel};
 ghost use Rattle.raw.specs.Rows.{versionInfoBytes, headerBytes};
-ghost use Rattle.serialize.specs.File.{memory, version-info, header-of, layout-of, written-file, Ready, wrote, serializeOf};
+ghost use Rattle.raw.specs.Head.{version-info, padding};
+ghost use Rattle.steps.specs.Words.{memory};
+ghost use Rattle.serialize.specs.File.{header-of, layout-of, written-file, Ready, wrote, serializeOf};
 
 // What writing answers: document 01's number, 0 for success, and the file's length.
 pub struct Written {

@@ -36,13 +36,16 @@ pub record Memory : Type 0 where
   pub calls : List ℕ
   pub ranges : List ℕ
 
+abbrev pub memory : List ℕ → List ℕ → List ℕ → List ℕ → List ℕ → List ℕ → Memory
+memory x i f g c r = record { text = x; strings = i; files = f; functions = g; calls = c; ranges = r }
+
 -- with the counts and the last end, by value
 pub record Words : Type 0 where
   pub st : State
   pub mm : Memory
 
 abbrev pub words : State → List ℕ → List ℕ → List ℕ → List ℕ → List ℕ → List ℕ → Words
-words s x i f g c r = record { st = s; mm = record { text = x; strings = i; files = f; functions = g; calls = c; ranges = r } }
+words s x i f g c r = record { st = s; mm = memory x i f g c r }
 
 -- no count is above its table's capacity: "one of its counts above the table's capacity" (19); "a table would need more rows or bytes after this call than its capacity" (17)
 unfoldable pub fits? : Words → Bool

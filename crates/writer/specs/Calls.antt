@@ -28,9 +28,6 @@ pub record Called : Type 0 where
 abbrev pub called : ℕ → Converter → Memory → List ℕ → Called
 called n c m s = record { code = n; converter = c; memory = m; scratch = s }
 
-abbrev pub memory : List ℕ → List ℕ → List ℕ → List ℕ → List ℕ → List ℕ → Memory
-memory x i f g c n = record { text = x; strings = i; files = f; functions = g; calls = c; ranges = n }
-
 abbrev pub zeros : List ℕ → List ℕ
 zeros s = replicate (length s) 0
 

@@ -1,5 +1,5 @@
 -- `begin` meets its contract: `begin-law`.
-use Rattle.writer.specs.Calls.{memory}
+use Rattle.steps.specs.Words.{memory}
 use Rattle.writer.proofs.CallLaws.{begin-law}
 use borrow.Author.Needs.{needs}
 use Rattle.writer.proofs.calls.begin.Statement.{statement}

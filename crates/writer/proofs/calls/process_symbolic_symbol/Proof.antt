@@ -1,7 +1,7 @@
 -- `process_symbolic_symbol` meets its contract: by its two tests.
 use mathlib.Core.List.{[]}
-use Rattle.steps.specs.Words.{words}
-use Rattle.writer.specs.Calls.{memory, called}
+use Rattle.steps.specs.Words.{memory, words}
+use Rattle.writer.specs.Calls.{called}
 use Rattle.writer.proofs.CallLaws.{symbol-taken, symbol-unreadable, symbol-closed}
 use borrow.Author.Needs.{needs}
 use Rattle.writer.proofs.calls.process_symbolic_symbol.Statement.{statement}

@@ -1,5 +1,5 @@
 -- `zero_tables` meets its contract: each table is zeroed by its call.
-use Rattle.writer.specs.Calls.{memory}
+use Rattle.steps.specs.Words.{memory}
 use borrow.Author.Needs.{needs}
 use Rattle.writer.proofs.calls.zero_tables.Statement.{statement}
 use Rattle.writer.proofs.calls.zero_tables.Tie as tie
