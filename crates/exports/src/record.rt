@@ -1,4 +1,13 @@
 // The converter's record as twenty words: the debug id in eight, four bytes a word, little-endian; arch; the two switches; what is in use of the six tables; the last end; whether it is open.
+ghost use mathlib.Core.Path.{_≡_};
+ghost use mathlib.Core.List.{[], _∷_};
+ghost use Prim.Native.Nat.{_*_, _≤_};
+ghost use lib.ListN.{getD, set};
+ghost use lib.Seq.{sets};
+ghost use Rattle.raw.specs.Bytes.{le, leAt};
+ghost use Rattle.exports.specs.Words.{stored};
+ghost use Rattle.exports.specs.Record.{lastOf, idOf, stateOf, converterOf, lastWords, idWords, countWords, switchWords, wordsOf};
+ghost use Rattle.exports.specs.Writing.{kept};
 use crate::words::flag;
 use crate::words::is_set;
 use crate::words::put;
@@ -11,7 +20,9 @@ use steps::State;
 // Reading it
 
 // Four bytes a word.
-fn debug_id(record: &[u32]) -> [u8; 32] {
+fn debug_id(record: &[u32]) -> [u8; 32]
+    ensures { λ r. ⌜ r ≡ idOf (now («record» .entry)) ⌝ }
+{
     let mut id = [0u8; 32];
     put_word(&mut id, record, 0);
     put_word(&mut id, record, 1);
@@ -25,19 +36,25 @@ fn debug_id(record: &[u32]) -> [u8; 32] {
 }
 
 // Word k of the record, as four bytes.
-fn put_word(id: &mut [u8], record: &[u32], k: u32) {
+fn put_word(id: &mut [u8], record: &[u32], k: u32)
+    ensures { λ _. ⌜ now (id .exit) ≡ sets (now (id .entry)) (4 * k) (le 4 (getD (now («record» .entry)) k 0)) ⌝ }
+{
     let j = k as usize;
     raw::write_range(id, 4 * j, Range(word(record, j)));
 }
 
-fn last_addr(is_some: u32, a: u32) -> LastAddr {
+fn last_addr(is_some: u32, a: u32) -> LastAddr
+    ensures { λ r. ⌜ r ≡ lastOf «is_some» a ⌝ }
+{
     if is_some == 0 {
         return LastAddr::Unset;
     }
     LastAddr::Set(a)
 }
 
-fn state(record: &[u32]) -> State {
+fn state(record: &[u32]) -> State
+    ensures { λ r. ⌜ r ≡ stateOf (now («record» .entry)) ⌝ }
+{
     State {
         string_bytes: word(record, 11),
         strings: word(record, 12),
@@ -50,7 +67,9 @@ fn state(record: &[u32]) -> State {
 }
 
 // A record of fewer than twenty words is closed: its last word is read as 0.
-pub(crate) fn load(record: &[u32]) -> Converter {
+pub(crate) fn load(record: &[u32]) -> Converter
+    ensures { λ r. ⌜ r ≡ converterOf (now («record» .entry)) ⌝ }
+{
     let debug_id = debug_id(record);
     let state = state(record);
     Converter {
@@ -66,13 +85,17 @@ pub(crate) fn load(record: &[u32]) -> Converter {
 // Storing it
 
 // Word k of the debug id.
-fn put_id_word(record: &mut [u32], id: &[u8], k: u32) {
+fn put_id_word(record: &mut [u32], id: &[u8], k: u32)
+    ensures { λ _. ⌜ now («record» .exit) ≡ set (now («record» .entry)) k (leAt 4 (now (id .entry)) (4 * k)) ⌝ }
+{
     let j = k as usize;
     let w = raw::range_at(id, 4 * j);
     put(record, j, w.0);
 }
 
-fn put_id(record: &mut [u32], id: &[u8]) {
+fn put_id(record: &mut [u32], id: &[u8])
+    ensures { λ _. ⌜ now («record» .exit) ≡ stored (idWords (now (id .entry))) (now («record» .entry)) ⌝ }
+{
     put_id_word(record, id, 0);
     put_id_word(record, id, 1);
     put_id_word(record, id, 2);
@@ -83,7 +106,9 @@ fn put_id(record: &mut [u32], id: &[u8]) {
     put_id_word(record, id, 7);
 }
 
-fn put_last_addr(record: &mut [u32], last: LastAddr) {
+fn put_last_addr(record: &mut [u32], last: LastAddr)
+    ensures { λ _. ⌜ now («record» .exit) ≡ sets (now («record» .entry)) 17 (lastWords last) ⌝ }
+{
     let LastAddr::Set(a) = last else {
         put(record, 17, 0);
         put(record, 18, 0);
@@ -93,7 +118,9 @@ fn put_last_addr(record: &mut [u32], last: LastAddr) {
     put(record, 18, a);
 }
 
-fn put_counts(record: &mut [u32], s: State) {
+fn put_counts(record: &mut [u32], s: State)
+    ensures { λ _. ⌜ now («record» .exit) ≡ sets (now («record» .entry)) 11 (countWords s) ⌝ }
+{
     put(record, 11, s.string_bytes);
     put(record, 12, s.strings);
     put(record, 13, s.files);
@@ -102,13 +129,17 @@ fn put_counts(record: &mut [u32], s: State) {
     put(record, 16, s.ranges);
 }
 
-fn put_switches(record: &mut [u32], c: Converter) {
+fn put_switches(record: &mut [u32], c: Converter)
+    ensures { λ _. ⌜ now («record» .exit) ≡ sets (now («record» .entry)) 8 (switchWords c) ⌝ }
+{
     put(record, 8, c.arch);
     put(record, 9, flag(c.undecorate_functions));
     put(record, 10, flag(c.undecorate_symbols));
 }
 
-pub(crate) fn store(record: &mut [u32], c: Converter) {
+pub(crate) fn store(record: &mut [u32], c: Converter)
+    ensures { λ _. ⌜ now («record» .exit) ≡ stored (wordsOf c) (now («record» .entry)) ⌝ }
+{
     let id = c.debug_id;
     let state = c.state;
     let last = state.last_addr;
@@ -120,7 +151,9 @@ pub(crate) fn store(record: &mut [u32], c: Converter) {
 }
 
 // Accepted calls and 17 store it; no other refusal does.
-pub(crate) fn store_answer(record: &mut [u32], code: u32, c: Converter) {
+pub(crate) fn store_answer(record: &mut [u32], code: u32, c: Converter)
+    ensures { λ _. ⌜ now («record» .exit) ≡ kept code c (now («record» .entry)) ⌝ }
+{
     if code == 0 {
         store(record, c);
         return;

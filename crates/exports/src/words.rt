@@ -1,6 +1,7 @@
 // Words of lent slices, read and stored where they are there.
 ghost use mathlib.Core.Path.{_≡_};
 ghost use lib.ListN.{getD, set};
+ghost use Rattle.exports.specs.Words.{yes, flagOf};
 
 // The word at j, 0 past the end.
 pub(crate) fn word(t: &[u32], j: usize) -> u32
@@ -42,13 +43,17 @@ pub(crate) fn put64(t: &mut [u64], j: usize, v: u64)
 
 // A flag as a word, and a word as a flag: 0 is no, anything else yes.
 
-pub(crate) fn flag(b: bool) -> u32 {
+pub(crate) fn flag(b: bool) -> u32
+    ensures { λ r. ⌜ r ≡ flagOf b ⌝ }
+{
     if b {
         return 1;
     }
     0
 }
 
-pub(crate) fn is_set(v: u32) -> bool {
+pub(crate) fn is_set(v: u32) -> bool
+    ensures { λ r. ⌜ r ≡ yes v ⌝ }
+{
     v != 0
 }

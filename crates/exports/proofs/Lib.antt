@@ -1,0 +1,4 @@
+pub mod StoreLaws
+pub mod RecordLaws
+pub mod WriteLaws
+pub mod ReadLaws
