@@ -2,3 +2,4 @@ pub mod StoreLaws
 pub mod RecordLaws
 pub mod WriteLaws
 pub mod ReadLaws
+pub mod Carried

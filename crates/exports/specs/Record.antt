@@ -1,10 +1,11 @@
 -- The converter's record in twenty words: 0 to 7 the debug id, four bytes a word, little-endian; 8 arch; 9 and 10 the two switches; 11 to 16 what is in use of the six tables; 17 whether the last
 -- end is set; 18 the last end, 0 where unset; 19 open.
-use Prim.Native.Nat.{ℕ}
+use Prim.Native.Nat.{ℕ, _<_}
 use mathlib.Core.Bool.{cond}
+use mathlib.Core.Path.{_≡_}
 use mathlib.Core.List.{List, [], _∷_, _++_}
 use lib.Dec.{eqb}
-use lib.ListN.{getD}
+use lib.ListN.{length, getD}
 use Rattle.raw.specs.Bytes.{leAt, bytesAt, words}
 use Rattle.steps.specs.declared.LastAddr.{LastAddr}
 use Rattle.steps.specs.declared.LastAddr.the-variants.{Unset, Set}
@@ -60,3 +61,15 @@ switchWords c = c .arch ∷ flagOf (c .«undecorate_functions») ∷ flagOf (c .
 unfoldable pub wordsOf : Converter → List ℕ
 wordsOf c =
     idWords (c .«debug_id») ++ (switchWords c ++ (countWords (c .state) ++ (lastWords (c .state .«last_addr») ++ (flagOf (c .«open») ∷ []))))
+
+-- ── What survives between two calls ────────────────────────────────────────────────────────────────────────────────────
+
+-- what the type of a slice of bytes says
+abbrev pub Bytes : List ℕ → Type 0
+Bytes [] = Unit {0}
+Bytes (b ∷ bs) = (b < 256) × Bytes bs
+
+-- what the type of the debug id says
+pub record IdFits (id : List ℕ) : Type 0 where
+  pub size : length id ≡ 32
+  pub bytes : Bytes id
