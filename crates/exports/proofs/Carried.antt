@@ -7,8 +7,8 @@ use mathlib.Core.Bool.{Bool, true, false, cond, _&&_, _||_}
 use mathlib.Core.Path.{_≡_, refl, sym, ap, ap₂, _∙_}
 use mathlib.Core.List.{List, [], _∷_, _++_}
 use lib.Dec.{eqb, ltb}
-use lib.ListN.{length, getD, set, length-set, List·getD-eq-default}
-use lib.Seq.{sets, getD-set-same, getD-set-other, ext-getD}
+use lib.ListN.{length, getD, List·getD-eq-default}
+use lib.Seq.{ext-getD}
 use borrow.Author.Tests.{le-ltb, ltb-true, ltb-false}
 use Rattle.raw.specs.Bytes.{le, leAt, bytesAt, words}
 use Rattle.raw.proofs.Bytes.{length-words, length-bytesAt, getD-bytesAt}
@@ -23,6 +23,7 @@ use Rattle.steps.specs.declared.LastAddr.the-variants.{Unset, Set}
 use Rattle.steps.specs.declared.State.{State}
 use Rattle.steps.specs.declared.Converter.{Converter}
 use Rattle.writer.specs.Calls.{Called, called, setup, words-of, symbolRow, usable?, finished, beginOf, rows-converted, treeOf, symbolOf}
+use Rattle.exports.proofs.StoreLaws.{sets-at}
 use Rattle.exports.specs.Words.{stored, yes, flagOf}
 use Rattle.exports.specs.Record.{lastOf, idOf, stateOf, converterOf, lastWords, idWords, countWords, switchWords, wordsOf, Bytes, IdFits}
 use Rattle.exports.specs.Writing.{kept, leaves, beginCall, treeCall, symbolCall}
@@ -105,16 +106,6 @@ words-back c h =
     (c .state .«call_locations») (c .state .ranges) h (c .state .«last_addr»)
 
 -- ── In a slice ─────────────────────────────────────────────────────────────────────────────────────────────────────────
-
-sets-low : (ws r : List ℕ) (k i : ℕ) → i < k → getD (sets r k ws) i 0 ≡ getD r i 0
-sets-low [] r k i h = refl
-sets-low (w ∷ ws) r k i h = sets-low ws (set r k w) (suc k) i (omega arith) ∙ getD-set-other r k i w 0 (omega arith)
-
-sets-at : (ws r : List ℕ) (k i j : ℕ) → j ≡ k + i → i < length ws → k + length ws ≤ length r → getD (sets r k ws) j 0 ≡ getD ws i 0
-sets-at (w ∷ ws) r k zero j e h fits =
-    let e′ : j ≡ k = omega arith in
-    rw e′ (sets-low ws (set r k w) (suc k) k (omega arith) ∙ getD-set-same r k w 0 (omega arith))
-sets-at (w ∷ ws) r k (suc i) j e h fits = sets-at ws (set r k w) (suc k) i j (omega arith) (omega arith) (rw (length-set r k w) (omega arith))
 
 -- only the first twenty words count
 module _ (r r′ : List ℕ) (same : (i : ℕ) → i < 20 → getD r i 0 ≡ getD r′ i 0) where

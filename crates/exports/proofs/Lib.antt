@@ -3,3 +3,4 @@ pub mod RecordLaws
 pub mod WriteLaws
 pub mod ReadLaws
 pub mod Carried
+pub mod Names

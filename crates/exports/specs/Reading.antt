@@ -4,7 +4,7 @@ use mathlib.Core.Bool.{cond}
 use mathlib.Core.List.{List, [], _∷_, _++_}
 use mathlib.Core.Option.{Option, none, some}
 use lib.Dec.{eqb, ltb}
-use lib.ListN.{length, getD}
+use lib.ListN.{length, take, drop, getD}
 use Rattle.raw.specs.declared.File.{File}
 use Rattle.raw.specs.declared.Function.{Function}
 use Rattle.raw.specs.Rows.{max32, fileWords, functionWords}
@@ -149,6 +149,10 @@ gotName s i = andThen (gotFunction s i) (nameAfter s)
 
 unfoldable pub nameCall : List ℕ → ℕ → List ℕ → Filled
 nameCall s i t = answered partWords (gotName s i) t
+
+-- the bytes of a name, "a part of the string section or of the stand-in the caller lent", as a caller takes them by the three words
+unfoldable pub nameBytes : List ℕ → List ℕ → List ℕ → List ℕ
+nameBytes s standIn t = cond (eqb (getD t 0 0) 0) standIn (take (getD t 2 0) (drop (getD t 1 0) s))
 
 -- ── Files and functions ────────────────────────────────────────────────────────────────────────────────────────────────
 
