@@ -4,3 +4,4 @@ pub mod WriteLaws
 pub mod ReadLaws
 pub mod Carried
 pub mod Names
+pub mod Worked
