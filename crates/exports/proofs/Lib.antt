@@ -5,3 +5,4 @@ pub mod ReadLaws
 pub mod Carried
 pub mod Names
 pub mod Worked
+pub mod Demand3

@@ -2,3 +2,4 @@ pub mod Words
 pub mod Record
 pub mod Writing
 pub mod Reading
+pub mod Lists
