@@ -44,7 +44,7 @@ unfolding words
 bytes-words [] = tt
 bytes-words (v ∷ vs) = bytes-append (le 4 v) (words vs) (bytes-le 4 v) (bytes-words vs)
 
-byte-below : (s : List ℕ) (i : ℕ) → Bytes s → getD s i 0 < 256
+pub byte-below : (s : List ℕ) (i : ℕ) → Bytes s → getD s i 0 < 256
 byte-below [] i p = omega arith
 byte-below (b ∷ s) zero p = p .0
 byte-below (b ∷ s) (suc i) p = byte-below s i (p .1)

@@ -3,3 +3,4 @@ pub mod Record
 pub mod Writing
 pub mod Reading
 pub mod Lists
+pub mod Walks
