@@ -1,0 +1,31 @@
+-- `symcache_serialize` meets its contract.
+use Rattle.serialize.specs.File.{memory}
+use Rattle.exports.proofs.WriteLaws.{serialize-law}
+use borrow.Author.Needs.{needs}
+use Rattle.exports.proofs.writing.symcache_serialize.Statement.{statement}
+use Rattle.exports.proofs.writing.symcache_serialize.Tie as tie
+
+load-requires : tie.Need-load-requires
+load-requires c κs = search needs
+
+serialize-requires : tie.Need-serialize-requires
+serialize-requires c κs = search needs
+
+put-len-requires : tie.Need-put-len-requires
+put-len-requires c κs = search needs
+
+same-length : tie.Need-same-length
+same-length c = search needs
+
+same-length-2 : tie.Need-same-length-2
+same-length-2 c = search needs
+
+returns : tie.Need-returns
+returns c = let a = c .before .before .before .before .before .before .before .before .before .before .before .before .before .before .before .before .before .before .args in
+    let w = c .before .before .before .before .before .before .serialize in
+    serialize-law (a .«record» .now) (memory (a .string-bytes .now) (a .strings .now) (a .files .now) (a .functions .now) (a .call-locations .now) (a .ranges .now)) (a .out .now) (a .len .now) (w .result .code) (w .result .len) (w .last .1 .1 .1 .1 .1 .1 .1 .0) (c .before .before .before .before .before .before .before .before .load .ensures) (w .ensures) (c .before .before .put-len .ensures)
+
+pub symcache-serialize-spec : {M : Type 1} → statement M
+symcache-serialize-spec =
+    tie.close
+    (tie.spec load-requires serialize-requires put-len-requires same-length same-length-2 returns)

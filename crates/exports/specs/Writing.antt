@@ -1,0 +1,69 @@
+-- The exported calls of the converter and the writer: each reads the record, does what the call of `writer` or `serialize` does (writer's Calls, serialize's File), and stores the record where it
+-- was accepted or closed. All for any content and any length.
+use Prim.Native.Nat.{ℕ}
+use mathlib.Core.Bool.{cond, _||_}
+use mathlib.Core.List.{List, [], _∷_}
+use lib.Dec.{eqb, ltb}
+use lib.ListN.{length}
+use Rattle.raw.specs.Bytes.{bytesAt}
+use Rattle.rows.specs.Columns.{Columns}
+use Rattle.rows.specs.declared.OptionalPart.{OptionalPart}
+use Rattle.steps.specs.Words.{Memory}
+use Rattle.steps.specs.declared.Converter.{Converter}
+use Rattle.writer.specs.Calls.{Called, beginOf, treeOf, symbolOf}
+use Rattle.serialize.specs.File.{Wrote, serializeOf}
+use Rattle.exports.specs.Words.{stored, yes}
+use Rattle.exports.specs.Record.{converterOf, wordsOf}
+
+-- what a call leaves: document 01's number, the record's words, the six tables, scratch
+pub record Left : Type 0 where
+  pub code : ℕ
+  pub words : List ℕ
+  pub memory : Memory
+  pub scratch : List ℕ
+
+abbrev pub left : ℕ → List ℕ → Memory → List ℕ → Left
+left n r m s = record { code = n; words = r; memory = m; scratch = s }
+
+-- "On a refusal other than 17 no word of the record changes"
+unfoldable pub kept : ℕ → Converter → List ℕ → List ℕ
+kept n c r = cond (eqb n 0 || eqb n 17) (stored (wordsOf c) r) r
+
+abbrev pub leaves : List ℕ → Called → Left
+leaves r o = left (o .code) (kept (o .code) (o .converter) r) (o .memory) (o .scratch)
+
+-- "debug_id: its first 32 bytes; missing ones are 0. Answers 0, or 19 where the record has fewer than 20 words (then nothing changes)"
+unfoldable pub beginCall : List ℕ → List ℕ → ℕ → ℕ → ℕ → Memory → Left
+beginCall r id arch f s m =
+    let b = beginOf (bytesAt 32 id 0) arch (yes f) (yes s) m in
+    cond (ltb (length r) 20) (left 19 r m []) (left 0 (stored (wordsOf (b .0)) r) (b .1) [])
+
+unfoldable pub treeCall : List ℕ → Memory → List ℕ → Columns → Left
+treeCall r m s k = leaves r (treeOf (converterOf r) m s k)
+
+-- a symbol's name, where it is named
+abbrev pub nameAt : ℕ → ℕ → ℕ → OptionalPart
+nameAt named start len = record { present = yes named; part = record { start = start; len = len } }
+
+unfoldable pub symbolCall : List ℕ → Memory → List ℕ → ℕ → ℕ → OptionalPart → Left
+symbolCall r m t address size name = leaves r (symbolOf (converterOf r) m t address size name)
+
+-- ── Writing ────────────────────────────────────────────────────────────────────────────────────────────────────────────
+
+-- the number, the output, and the words of the length
+pub record LeftFile : Type 0 where
+  pub code : ℕ
+  pub output : List ℕ
+  pub len : List ℕ
+
+abbrev pub leftFile : ℕ → List ℕ → List ℕ → LeftFile
+leftFile n o l = record { code = n; output = o; len = l }
+
+-- "len[0] = the file's length where it answers 0; else len is untouched"
+unfoldable pub lenWords : ℕ → ℕ → List ℕ → List ℕ
+lenWords n len l = cond (eqb n 0) (stored (len ∷ []) l) l
+
+unfoldable pub serializeCall : List ℕ → Memory → List ℕ → List ℕ → LeftFile
+serializeCall r m out l =
+    let w = serializeOf (converterOf r) m out in
+    leftFile (w .code) (w .output) (lenWords (w .code) (w .len) l)

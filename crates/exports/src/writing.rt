@@ -1,0 +1,179 @@
+// The converter and the writer. Between calls the converter is a record of twenty words; the six tables are lent at each call.
+ghost use mathlib.Core.Path.{_≡_};
+ghost use mathlib.Core.List.{[]};
+ghost use Rattle.raw.specs.Bytes.{bytesAt};
+ghost use Rattle.rows.specs.Columns.{columns};
+ghost use Rattle.writer.specs.Calls.{memory};
+ghost use Rattle.exports.specs.Writing.{left, beginCall, treeCall, nameAt, symbolCall, lenWords, leftFile, serializeCall};
+use crate::record::load;
+use crate::record::store;
+use crate::record::store_answer;
+use crate::words::is_set;
+use crate::words::put64;
+use rows::OptionalPart;
+use rows::TextPart;
+
+// The first 32 bytes, zeros past the end: a header row begins with its debug id.
+fn debug_id_of(bytes: &[u8]) -> [u8; 32]
+    ensures { λ r. ⌜ r ≡ bytesAt 32 (now (bytes .entry)) 0 ⌝ }
+{
+    let header = raw::header_at(bytes, 0);
+    header.debug_id
+}
+
+// A new converter. 0, or 19 where the record has fewer than twenty words.
+#[no_mangle]
+pub extern "C" fn symcache_begin(
+    record: &mut [u32],
+    debug_id: &[u8],
+    arch: u32,
+    undecorate_functions: u32,
+    undecorate_symbols: u32,
+    string_bytes: &mut [u8],
+    strings: &mut [u32],
+    files: &mut [u32],
+    functions: &mut [u32],
+    call_locations: &mut [u32],
+    ranges: &mut [u32],
+) -> u32
+    ensures { λ r. ⌜ left r (now («record» .exit)) (memory (now («string_bytes» .exit)) (now (strings .exit)) (now (files .exit)) (now (functions .exit)) (now («call_locations» .exit)) (now (ranges .exit))) [] ≡ beginCall (now («record» .entry)) (now («debug_id» .entry)) arch «undecorate_functions» «undecorate_symbols» (memory (now («string_bytes» .entry)) (now (strings .entry)) (now (files .entry)) (now (functions .entry)) (now («call_locations» .entry)) (now (ranges .entry))) ⌝ }
+{
+    if record.len() < 20 {
+        return 19;
+    }
+    let c = writer::calls::begin(
+        debug_id_of(debug_id),
+        arch,
+        is_set(undecorate_functions),
+        is_set(undecorate_symbols),
+        string_bytes,
+        strings,
+        files,
+        functions,
+        call_locations,
+        ranges,
+    );
+    store(record, c);
+    0
+}
+
+// A tree: 0, or 19, 13, 14, 15, 16, 17.
+#[no_mangle]
+pub extern "C" fn symcache_process_symbolic_function(
+    record: &mut [u32],
+    string_bytes: &mut [u8],
+    strings: &mut [u32],
+    files: &mut [u32],
+    functions: &mut [u32],
+    call_locations: &mut [u32],
+    ranges: &mut [u32],
+    scratch: &mut [u32],
+    functions64: &[u64],
+    functions32: &[u32],
+    lines64: &[u64],
+    lines32: &[u32],
+    text: &[u8],
+) -> u32
+    ensures { λ r. ⌜ left r (now («record» .exit)) (memory (now («string_bytes» .exit)) (now (strings .exit)) (now (files .exit)) (now (functions .exit)) (now («call_locations» .exit)) (now (ranges .exit))) (now (scratch .exit)) ≡ treeCall (now («record» .entry)) (memory (now («string_bytes» .entry)) (now (strings .entry)) (now (files .entry)) (now (functions .entry)) (now («call_locations» .entry)) (now (ranges .entry))) (now (scratch .entry)) (columns (now (functions64 .entry)) (now (functions32 .entry)) (now (lines64 .entry)) (now (lines32 .entry)) (now (text .entry))) ⌝ }
+{
+    let answer = writer::calls::process_symbolic_function(
+        load(record),
+        string_bytes,
+        strings,
+        files,
+        functions,
+        call_locations,
+        ranges,
+        scratch,
+        functions64,
+        functions32,
+        lines64,
+        lines32,
+        text,
+    );
+    let c = answer.converter;
+    store_answer(record, answer.code, c);
+    answer.code
+}
+
+// A symbol: 0, or 19, 14, 17.
+#[no_mangle]
+pub extern "C" fn symcache_process_symbolic_symbol(
+    record: &mut [u32],
+    string_bytes: &mut [u8],
+    strings: &mut [u32],
+    files: &mut [u32],
+    functions: &mut [u32],
+    call_locations: &mut [u32],
+    ranges: &mut [u32],
+    text: &[u8],
+    address: u64,
+    size: u64,
+    named: u32,
+    name_start: u32,
+    name_len: u32,
+) -> u32
+    ensures { λ r. ⌜ left r (now («record» .exit)) (memory (now («string_bytes» .exit)) (now (strings .exit)) (now (files .exit)) (now (functions .exit)) (now («call_locations» .exit)) (now (ranges .exit))) [] ≡ symbolCall (now («record» .entry)) (memory (now («string_bytes» .entry)) (now (strings .entry)) (now (files .entry)) (now (functions .entry)) (now («call_locations» .entry)) (now (ranges .entry))) (now (text .entry)) address size (nameAt named «name_start» «name_len») ⌝ }
+{
+    let part = TextPart {
+        start: name_start,
+        len: name_len,
+    };
+    let answer = writer::calls::process_symbolic_symbol(
+        load(record),
+        string_bytes,
+        strings,
+        files,
+        functions,
+        call_locations,
+        ranges,
+        text,
+        address,
+        size,
+        OptionalPart {
+            present: is_set(named),
+            part,
+        },
+    );
+    let c = answer.converter;
+    store_answer(record, answer.code, c);
+    answer.code
+}
+
+// The length of a file that was written.
+fn put_len(len: &mut [u64], code: u32, n: usize)
+    ensures { λ _. ⌜ now (len .exit) ≡ lenWords code n (now (len .entry)) ⌝ }
+{
+    if code == 0 {
+        put64(len, 0, n as u64);
+    }
+}
+
+// The file: 0, or 19, 18.
+#[no_mangle]
+pub extern "C" fn symcache_serialize(
+    record: &[u32],
+    string_bytes: &[u8],
+    strings: &[u32],
+    files: &[u32],
+    functions: &[u32],
+    call_locations: &[u32],
+    ranges: &[u32],
+    out: &mut [u8],
+    len: &mut [u64],
+) -> u32
+    ensures { λ r. ⌜ leftFile r (now (out .exit)) (now (len .exit)) ≡ serializeCall (now («record» .entry)) (memory (now («string_bytes» .entry)) (now (strings .entry)) (now (files .entry)) (now (functions .entry)) (now («call_locations» .entry)) (now (ranges .entry))) (now (out .entry)) (now (len .entry)) ⌝ }
+{
+    let written = serialize::serialize(
+        load(record),
+        string_bytes,
+        strings,
+        files,
+        functions,
+        call_locations,
+        ranges,
+        out,
+    );
+    put_len(len, written.code, written.len);
+    written.code
+}
