@@ -9,7 +9,8 @@ use Rattle.symcache.specs.Answers.{refuseIf, andThen}
 use Rattle.symcache.specs.Reader.{aligned, layoutOf, tested, parsed, ascendingFrom, ascending, opened}
 use Rattle.symcache.specs.Lookup.{countIn, searchIn, foundAmong, usable, foundAt, locationIn, functionIn, fileIn, walkAt, lookedUp, met, frameIn, ended, stepIn, stepped}
 use Rattle.symcache.proofs.Worked.{worked}
-use Rattle.writer.specs.Calls.{memory, beginOf}
+use Rattle.steps.specs.Words.{memory}
+use Rattle.writer.specs.Calls.{beginOf}
 use Rattle.exports.specs.Record.{wordsOf}
 use Rattle.exports.specs.Writing.{left, beginCall}
 use Rattle.exports.specs.Reading.{filled, moved, answered, stepsTo, refused, cached, parseCall, openCall, walkOf, lookupCall, nextCall}

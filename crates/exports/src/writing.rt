@@ -3,7 +3,7 @@ ghost use mathlib.Core.Path.{_≡_};
 ghost use mathlib.Core.List.{[]};
 ghost use Rattle.raw.specs.Bytes.{bytesAt};
 ghost use Rattle.rows.specs.Columns.{columns};
-ghost use Rattle.writer.specs.Calls.{memory};
+ghost use Rattle.steps.specs.Words.{memory};
 ghost use Rattle.exports.specs.Writing.{left, beginCall, treeCall, nameAt, symbolCall, lenWords, leftFile, serializeCall};
 use crate::record::load;
 use crate::record::store;
