@@ -1,0 +1,108 @@
+// Line rows as one lent list of rows.
+ghost use mathlib.Core.Path.{_≡_};
+ghost use mathlib.Core.Bool.{_&&_};
+ghost use Rattle.rows.specs.Refusals.{lineTexts?};
+ghost use Rattle.line_rows.specs.Lines.{flag, words64, words32, linesTexts?, putRow, putRows};
+use rows::LineRow;
+
+// 14: the texts so far are in order, and so are this row's.
+fn and_texts(good: bool, text: &[u8], row: LineRow) -> bool
+    ensures { λ r. ⌜ r ≡ good && lineTexts? (now (text .entry)) row ⌝ }
+{
+    if good {
+        return rows::line_texts(text, row);
+    }
+    false
+}
+
+// 14: the texts of all line rows.
+fn lines_texts(lines: &[LineRow], text: &[u8]) -> bool
+    ensures { λ r. ⌜ r ≡ linesTexts? (now (text .entry)) (now (lines .entry)) ⌝ }
+{
+    let mut good = true;
+    let mut j: usize = 0;
+    while j < lines.len() {
+        let row = lines[j];
+        good = and_texts(good, text, row);
+        j += 1;
+    }
+    good
+}
+
+fn flag_word(b: bool) -> u32
+    ensures { λ r. ⌜ r ≡ flag b ⌝ }
+{
+    if b {
+        return 1;
+    }
+    0
+}
+
+// The three 64-bit words of row j, where there is room.
+fn put_words64(refused: u32, unpacked64: &mut [u64], j: usize, row: LineRow)
+    ensures { λ _. ⌜ now (unpacked64 .exit) ≡ putRow refused 3 (now (unpacked64 .entry)) j (words64 row) ⌝ }
+{
+    if refused == 0 {
+        if j < unpacked64.len() / 3 {
+            let k = j * 3;
+            unpacked64[k] = row.address;
+            unpacked64[k + 1] = row.size;
+            unpacked64[k + 2] = row.number;
+        }
+    }
+}
+
+// Its fourteen 32-bit words.
+fn put_words32(refused: u32, unpacked32: &mut [u32], j: usize, row: LineRow)
+    ensures { λ _. ⌜ now (unpacked32 .exit) ≡ putRow refused 14 (now (unpacked32 .entry)) j (words32 row) ⌝ }
+{
+    if refused == 0 {
+        if j < unpacked32.len() / 14 {
+            let has_size = flag_word(row.has_size);
+            let srcsrv_name = flag_word(row.srcsrv_name.present);
+            let srcsrv_dir = flag_word(row.srcsrv_dir.present);
+            let revision = flag_word(row.revision.present);
+            let k = j * 14;
+            unpacked32[k] = has_size;
+            unpacked32[k + 1] = row.name.start;
+            unpacked32[k + 2] = row.name.len;
+            unpacked32[k + 3] = row.directory.start;
+            unpacked32[k + 4] = row.directory.len;
+            unpacked32[k + 5] = srcsrv_name;
+            unpacked32[k + 6] = row.srcsrv_name.part.start;
+            unpacked32[k + 7] = row.srcsrv_name.part.len;
+            unpacked32[k + 8] = srcsrv_dir;
+            unpacked32[k + 9] = row.srcsrv_dir.part.start;
+            unpacked32[k + 10] = row.srcsrv_dir.part.len;
+            unpacked32[k + 11] = revision;
+            unpacked32[k + 12] = row.revision.part.start;
+            unpacked32[k + 13] = row.revision.part.len;
+        }
+    }
+}
+
+// Row j into both columns.
+fn put_line(
+    refused: u32,
+    unpacked64: &mut [u64],
+    unpacked32: &mut [u32],
+    j: usize,
+    row: LineRow,
+)
+    ensures { λ _. ⌜ (now (unpacked64 .exit) ≡ putRow refused 3 (now (unpacked64 .entry)) j (words64 row)) × (now (unpacked32 .exit) ≡ putRow refused 14 (now (unpacked32 .entry)) j (words32 row)) ⌝ }
+{
+    put_words64(refused, unpacked64, j, row);
+    put_words32(refused, unpacked32, j, row);
+}
+
+// All rows into the memory that is lent for them; nothing where the call is refused.
+fn unpack(refused: u32, lines: &[LineRow], unpacked64: &mut [u64], unpacked32: &mut [u32])
+    ensures { λ _. ⌜ (now (unpacked64 .exit) ≡ putRows refused 3 words64 (now (lines .entry)) 0 (now (unpacked64 .entry))) × (now (unpacked32 .exit) ≡ putRows refused 14 words32 (now (lines .entry)) 0 (now (unpacked32 .entry))) ⌝ }
+{
+    let mut j: usize = 0;
+    while j < lines.len() {
+        let row = lines[j];
+        put_line(refused, &mut *unpacked64, &mut *unpacked32, j, row);
+        j += 1;
+    }
+}
