@@ -147,9 +147,9 @@ module _ {M : Type 1} (𝓤 : URA M) (H : Heap 𝓤) (A : Atoms 𝓤) (W : Given
 
   asked : (t : St) → Is T.the-row (elem (t .j)) (mach (t .j) ∷ []) → ent 𝓤 (sep 𝓤 (A .lft κ₁ q₁) (sem 𝓤 H A Text)) (AndTexts 𝓤 H A mem run .pre (to-and t))
   asked t g =
-        qed W (‵ (flft κ₁ q₁) ∷ ‵ Text ∷ []) ∵
-        nothing ! $ move ! (1 ∷ 0 ∷ []) $ join ! $ nothing ! $ owned ! T.the-row (Is T.the-row) (LL.makes T.the-type T′.the-plain 𝓤 H A) (elem (t .j)) _ g $ fjoin ! $
-        move ! (2 ∷ 0 ∷ []) $ fjoin ! $ owned ! bool (Is bool) (bool-makes 𝓤 H A W) (t .good) _ refl $ fjoin ! $ move ! (1 ∷ 0 ∷ []) $ join ! $ frame ! $ done !
+      qed W (‵ (flft κ₁ q₁) ∷ ‵ Text ∷ []) ∵
+      nothing ! $ move ! (1 ∷ 0 ∷ []) $ join ! $ nothing ! $ owned ! T.the-row (Is T.the-row) (LL.makes T.the-type T′.the-plain 𝓤 H A) (elem (t .j)) _ g $ fjoin ! $
+      move ! (2 ∷ 0 ∷ []) $ fjoin ! $ owned ! bool (Is bool) (bool-makes 𝓤 H A W) (t .good) _ refl $ fjoin ! $ move ! (1 ∷ 0 ∷ []) $ join ! $ frame ! $ done !
 
   module _ (𝓣 : Tables 𝓤 H) (fm : FmC 𝓤 H (W .laws) (𝓣 .C)) (known : Triple 𝓤 (𝓣 .C #line-rows·and-texts) (AndTexts 𝓤 H A mem run)) (l0 l1 l2 l3 l4 l5 l6 l7 l8 l9 : ℕ) where
     abbrev C : Calls 𝓤 H
@@ -239,13 +239,13 @@ module _ {M : Type 1} (𝓤 : URA M) (H : Heap 𝓤) (A : Atoms 𝓤) (W : Given
       → ent 𝓤 (onEntry 𝓤 H A lines-texts.signature (κ₀, (κ₁, tt)) (q₀, (q₁, tt)) a vals) (WpFn 𝓤 H (𝓣 .C) (𝓣 .Λ) code.function (s₀ ∷ s₁ ∷ []) Post)
   walk 𝓣 fm known =
       qed W ((‵ (flft κ₀ q₀) ⊛ ‵ (flft κ₁ q₁) ⊛ ‵ ftrue) ∷ ‵ (owns (ShrSlice (named 0) κ₀ T.the-row ∷ ShrSlice (named 1) κ₁ u8 ∷ []) a vals) ∷ []) ∵ enter ! (𝓣 .C) (𝓣 .Λ) code.function (s₀ ∷ s₁ ∷ []) _ $
-        alloc1 ! (λ l0. alloc1 ! (λ l1. alloc1 ! (λ l2. alloc1 ! (λ l3. alloc1 ! (λ l4. alloc1 ! (λ l5. alloc1 ! (λ l6. alloc1 ! (λ l7. alloc1 ! (λ l8. alloc1 ! (λ l9.
-        alloc0 ! $ params1 ! $ pass1 ! (init ! 16 refl (tt, (tt, (record { fits = room₀ .0 }, tt)))) $
-        pass1 ! (init ! 14 refl (tt, (tt, (record { fits = room₁ .0 }, tt)))) $ pass0 ! $ assigns ! (of-opd ! (true-lit !)) (from ! (stop !)) (init ! 12 refl (tt, tt)) $
-        assigns ! (of-opd ! (lit ! tt)) (from ! (stop !)) (init ! 10 refl (tt, record { fits = lit< tt })) $ move ! (21 ∷ []) $ fsplit ! $ fsplit ! $ move ! (1 ∷ []) $ fsplit ! $
-        move ! (3 ∷ []) $ fsplit ! $ move ! (25 ∷ []) $ split ! $ move ! (1 ∷ []) $ split ! $
-        keep ! (6 ∷ 2 ∷ 3 ∷ 0 ∷ 5 ∷ 7 ∷ 8 ∷ 9 ∷ 10 ∷ 11 ∷ 12 ∷ 13 ∷ 14 ∷ 15 ∷ 16 ∷ 17 ∷ 18 ∷ 19 ∷ 20 ∷ 21 ∷ 22 ∷ 23 ∷ 24 ∷ 25 ∷ 26 ∷ 27 ∷ []) $
-        first ! $ blocks ! $ loops ! 𝓣 Nearer Nearer-wf (At 𝓣 fm known l0 l1 l2 l3 l4 l5 l6 l7 l8 l9) (turns 𝓣 fm known l0 l1 l2 l3 l4 l5 l6 l7 l8 l9) (tests-begin (x₁ .now) ys)))))))))))
+      alloc1 ! (λ l0. alloc1 ! (λ l1. alloc1 ! (λ l2. alloc1 ! (λ l3. alloc1 ! (λ l4. alloc1 ! (λ l5. alloc1 ! (λ l6. alloc1 ! (λ l7. alloc1 ! (λ l8. alloc1 ! (λ l9.
+      alloc0 ! $ params1 ! $ pass1 ! (init ! 16 refl (tt, (tt, (record { fits = room₀ .0 }, tt)))) $
+      pass1 ! (init ! 14 refl (tt, (tt, (record { fits = room₁ .0 }, tt)))) $ pass0 ! $ assigns ! (of-opd ! (true-lit !)) (from ! (stop !)) (init ! 12 refl (tt, tt)) $
+      assigns ! (of-opd ! (lit ! tt)) (from ! (stop !)) (init ! 10 refl (tt, record { fits = lit< tt })) $ move ! (21 ∷ []) $ fsplit ! $ fsplit ! $ move ! (1 ∷ []) $ fsplit ! $
+      move ! (3 ∷ []) $ fsplit ! $ move ! (25 ∷ []) $ split ! $ move ! (1 ∷ []) $ split ! $
+      keep ! (6 ∷ 2 ∷ 3 ∷ 0 ∷ 5 ∷ 7 ∷ 8 ∷ 9 ∷ 10 ∷ 11 ∷ 12 ∷ 13 ∷ 14 ∷ 15 ∷ 16 ∷ 17 ∷ 18 ∷ 19 ∷ 20 ∷ 21 ∷ 22 ∷ 23 ∷ 24 ∷ 25 ∷ 26 ∷ 27 ∷ []) $
+      first ! $ blocks ! $ loops ! 𝓣 Nearer Nearer-wf (At 𝓣 fm known l0 l1 l2 l3 l4 l5 l6 l7 l8 l9) (turns 𝓣 fm known l0 l1 l2 l3 l4 l5 l6 l7 l8 l9) (tests-begin (x₁ .now) ys)))))))))))
 
 module _ {M : Type 1} (𝓤 : URA M) (H : Heap 𝓤) (A : Atoms 𝓤) (W : Given 𝓤 H A) (mem : Memory → SProp 𝓤) (run : Routine → Fun 𝓤) (𝓣 : Tables 𝓤 H) (known : Triple 𝓤 (𝓣 .C #line-rows·and-texts) (AndTexts 𝓤 H A mem run)) where
   lines-texts-walks : Walks 𝓤 H A lines-texts.ended stayed (WpFn 𝓤 H (𝓣 .C) (𝓣 .Λ) code.function) (lines-texts.clauses 𝓤 H A mem run)
