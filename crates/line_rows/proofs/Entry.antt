@@ -128,3 +128,21 @@ module _ (c : Converter) (m : Memory) (s u v f64 f32 : List ℕ) (ls : List Line
       go true true false p q f = refused 16 (number-is ∙ rw (p, q, f)) (λ z. omega arith) ∙ rw (p, q, f)
       go true false x p q f = refused (refusalOf k (length s)) (number-is ∙ rw (p, q)) (eqb-false (refusalOf k (length s)) 0 q) ∙ rw (p, q)
       go false b x p q f = refused 19 (number-is ∙ rw p) (λ z. omega arith) ∙ rw p
+
+-- the same with a name for what each call of the entry gives
+module _ (c : Converter) (m : Memory) (s u v f64 f32 : List ℕ) (ls : List LineRow) (t : List ℕ) {b w : Bool} {r : ℕ} (texts : b ≡ linesTexts? t ls)
+    (open-is : w ≡ usableBy c (length (m .text)) (length (m .strings)) (length (m .files)) (length (m .functions)) (length (m .calls)) (length (m .ranges)))
+    (decided : r ≡ numberOf w (length s) (length u) (length v) f64 f32 (length ls) b t) where
+  r-is : r ≡ number c m s u v f64 f32 ls t
+  r-is = decided ∙ (λ i. numberOf (open-is i) (length s) (length u) (length v) f64 f32 (length ls) (texts i) t)
+
+  -- what `process_unpacked` asks for
+  pub entry-room : (u₁ v₁ : List ℕ) → length u₁ ≡ length u → length v₁ ≡ length v → r ≡ 0 → (length ls * 3 ≤ length u₁) × (length ls * 14 ≤ length v₁)
+  entry-room u₁ v₁ a d e = let h = room-there c m s u v f64 f32 ls t (sym r-is ∙ e) in (rw a (h .0), rw d (h .1))
+
+  pub entry-is : {u₁ v₁ : List ℕ} → u₁ ≡ putRows r 3 words64 ls 0 u → v₁ ≡ putRows r 14 words32 ls 0 v → {o : LinesCalled} → o ≡ unpackedOf r (length ls) c m s u₁ v₁ f64 f32 t → o ≡ linesOf c m s u v (lineColumns f64 f32 ls t)
+  entry-is a d e =
+      e
+      ∙ (λ i. unpackedOf r (length ls) c m s (a i) (d i) f64 f32 t)
+      ∙ (λ i. unpackedOf (r-is i) (length ls) c m s (putRows (r-is i) 3 words64 ls 0 u) (putRows (r-is i) 14 words32 ls 0 v) f64 f32 t)
+      ∙ entry-law c m s u v f64 f32 ls t

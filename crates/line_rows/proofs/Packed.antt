@@ -183,8 +183,11 @@ module _ (f64 f32 : List ℕ) (ls : List LineRow) (t : List ℕ) where
   whole-rows =
       let a = length64 ls in
       let b = length32 ls in
-      rw (eq-eqb (length (packed words64 ls) % 3) 0 (omega (arith, a)), eq-eqb (length (packed words32 ls) % 14) 0 (omega (arith, b)),
-      eq-eqb (length (packed words32 ls) / 14) (length (packed words64 ls) / 3) (omega (arith, a, b)))
+      rw (
+        eq-eqb (length (packed words64 ls) % 3) 0 (omega (arith, a)),
+        eq-eqb (length (packed words32 ls) % 14) 0 (omega (arith, b)),
+        eq-eqb (length (packed words32 ls) / 14) (length (packed words64 ls) / 3) (omega (arith, a, b)),
+      )
 
   count : length (packed words64 ls) / 3 ≡ length ls
   count = let a = length64 ls in omega (arith, a)

@@ -65,14 +65,14 @@ same-length-9 : tie.Need-same-length-9
 same-length-9 c = search needs
 
 returns : tie.Need-returns
-returns c = 
+returns c =
     let a = c .before .before .before .before .before .before .before .before .before .before .before .before .before .before .before .before .before .before .before .before .before .before .before .before .before .before .before .before .before .before .before .before .before .before .before .before .before .before .before .before .before .before .before .before .before .args in
     let p = c .before .before .before .before .before .before .before .before .before .before .before .before .before .before .before .before .before .before .before .before .before .before .process-symbolic-function in
     unpacked-taken (a .refused) (a .lines) (a .converter) (memory (a .string-bytes .now) (a .strings .now) (a .files .now) (a .functions .now) (a .call-locations .now) (a .ranges .now)) (a .scratch .now) (a .unpacked64 .now) (a .unpacked32 .now) (a .functions64 .now) (a .functions32 .now) (a .text .now) (c .before .before .before .before .before .before .before .before .before .before .before .before .before .before .before .before .before .before .before .before .before .before .before .before .before .before .before .before .before .before .before .before .if1 .taken)
     {o = called (p .result .code) (p .result .converter) (memory (p .last .1 .0) (p .last .1 .1 .0) (p .last .1 .1 .1 .0) (p .last .1 .1 .1 .1 .0) (p .last .1 .1 .1 .1 .1 .0) (p .last .1 .1 .1 .1 .1 .1 .0)) (p .last .1 .1 .1 .1 .1 .1 .1 .0)} (p .ensures) (c .before .before .before .before .before .before .zero64 .ensures) (c .before .before .zero32 .ensures)
 
 returns-2 : tie.Need-returns-2
-returns-2 c = 
+returns-2 c =
     let a = c .before .before .before .before .before .before .before .before .before .before .before .before .before .args in
     unpacked-refused (a .refused) (a .lines) (a .converter) (memory (a .string-bytes .now) (a .strings .now) (a .files .now) (a .functions .now) (a .call-locations .now) (a .ranges .now)) (a .scratch .now) (a .unpacked64 .now) (a .unpacked32 .now) (a .functions64 .now) (a .functions32 .now) (a .text .now) (c .if1 .left)
 
