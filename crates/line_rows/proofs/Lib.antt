@@ -3,3 +3,4 @@ pub mod Turns
 pub mod Again
 pub mod Packed
 pub mod Entry
+pub mod AsTree
