@@ -71,11 +71,13 @@ module _ (c : Converter) (m : Memory) (s u v : List ℕ) (k : Columns) where
       go true b true p q f = ap kept (lines-equal f) ∙ rw f
       go true true false p q f =
           let z : refusalOf k 0 ≡ 16 = no-scratch k (length s) ∙ rw q in
-          ap (λ (o : LinesCalled). kept (o .called)) (lines-16 p (eqb-true (refusalOf k (length s)) 0 q) f) ∙ sym (ap kept (nothing-had f p ∙ rw z))
+          let there : treeOf c m scratch-had k ≡ called 16 c m [] = nothing-had f p ∙ rw z in
+          ap (λ (o : LinesCalled). kept (o .called)) (lines-16 p (eqb-true (refusalOf k (length s)) 0 q) f) ∙ sym (ap kept there)
       go true false false p q f =
           let z : refusalOf k 0 ≡ refusalOf k (length s) = no-scratch k (length s) ∙ rw q in
           let here : kept (linesOf c m s u v k .called) ≡ kept (called (refusalOf k (length s)) c m s) = rw (p, q) in
-          here ∙ sym (ap kept (nothing-had f p ∙ rw (z, q)))
+          let there : treeOf c m scratch-had k ≡ called (refusalOf k (length s)) c m [] = nothing-had f p ∙ rw (z, q) in
+          here ∙ sym (ap kept there)
       go false b true p q f = ap kept (lines-equal f) ∙ rw f
       go false b false p q f = rw p
 
