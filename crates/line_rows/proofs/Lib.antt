@@ -4,3 +4,4 @@ pub mod Again
 pub mod Packed
 pub mod Entry
 pub mod AsTree
+pub mod Worked

@@ -227,7 +227,7 @@ module _ (f64 f32 : List ℕ) (ls : List LineRow) (x s u v : List ℕ) (r : Stan
 
   pub lines-17 : (n : Lens) (b : Converter) → Open n b r → Typed (lines-tree f64 f32 ls x s u v) → lines-outcome .code ≡ 17
       → (refusalOf cols (length scratch-of) ≡ 0) × (plain-fits? (capacities n) (converted (setup b) (r .counted ++ (givenTree cols ∷ []))) ≡ false)
-  lines-17 n b h t e = tree-17 n b r cols scratch-of h t ((λ i. same-kept (~ i) .0) ∙ e)
+  lines-17 n b h t e = tree-17 n b r cols scratch-of h t (sym (ap (λ (x : ℕ × (Converter × Memory)). x .0) same-kept) ∙ e)
 
 -- ── A symbol ──
 
