@@ -34,11 +34,12 @@ use Rattle.reads.specs.Bytes.{header-of, file-bytes}
 use Rattle.reads.specs.Shown.{with-stand-in, Found}
 use Rattle.reads.proofs.Written.{file-shows, file-opened, file-demand}
 use Rattle.writer.specs.Calls.{setup, words-of, usable?, treeOf, symbolRow, symbolOf, beginOf}
-use Rattle.reopened.specs.Lists.{Call, tree, symbol, write, Standing, givenTree, next, run, begun, Typed}
+use Rattle.line_rows.specs.Lines.{lineColumns}
+use Rattle.reopened.specs.Lists.{Call, tree, lines-tree, symbol, write, Standing, givenTree, next, run, begun, Typed}
 use Rattle.reopened.specs.Demand3.{Nested, Premises, asked, Shows, Reopened, file-of, Demand3}
 use Rattle.reopened.proofs.Encoding.{capacities, capacities-lent}
 use Rattle.reopened.proofs.OneCall.{lengths-of}
-use Rattle.reopened.proofs.EveryList.{Open, Closed, Stands, every-list, open-fits}
+use Rattle.reopened.proofs.EveryList.{Open, Closed, Stands, every-list, open-fits, lines-next, scratch-of}
 use Rattle.reopened.proofs.WrittenFile.{write-answers}
 
 -- ── The depths of counted trees ──
@@ -62,13 +63,19 @@ tree-shaped k s e = let a = accepted k s e in (a .first, a .legal)
 one-more : (gs : List Given) (g : Given) → ((h : Given) → h ∈ gs → Shaped h) → Shaped g → (h : Given) → h ∈ (gs ++ (g ∷ [])) → Shaped h
 one-more gs g a b h i = ⊎-elim (λ j. a h j) (λ j. ∈-elim Shaped b (λ y z. elim z [ ]) h j) (∈-append gs i)
 
-next-shaped : (k : Call) (r : Standing) → ((g : Given) → g ∈ r .counted → Shaped g) → (g : Given) → g ∈ next k r .counted → Shaped g
+tree-next-shaped : (k : Columns) (s : List ℕ) (r : Standing) → ((g : Given) → g ∈ r .counted → Shaped g) → (g : Given) → g ∈ next (tree k s) r .counted → Shaped g
 unfolding next
-next-shaped (tree k s) r a = go (eqb (treeOf (r .converter) (r .memory) s k .code) 0) refl
+tree-next-shaped k s r a = go (eqb (treeOf (r .converter) (r .memory) s k .code) 0) refl
   where
     go : (b : Bool) → eqb (treeOf (r .converter) (r .memory) s k .code) 0 ≡ b → (g : Given) → g ∈ cond b (r .counted ++ (givenTree k ∷ [])) (r .counted) → Shaped g
     go true e g i = one-more (r .counted) (givenTree k) a (tree-shaped k (length s) (accepted-tree r k s (eqb-true _ 0 e))) g i
     go false e g i = a g i
+
+next-shaped : (k : Call) (r : Standing) → ((g : Given) → g ∈ r .counted → Shaped g) → (g : Given) → g ∈ next k r .counted → Shaped g
+unfolding next
+next-shaped (tree k s) r a = tree-next-shaped k s r a
+next-shaped (lines-tree f64 f32 ls x s u v) r a =
+    subst (λ (y : Standing). (g : Given) → g ∈ y .counted → Shaped g) (sym (lines-next f64 f32 ls x s u v r)) (tree-next-shaped (lineColumns f64 f32 ls x) (scratch-of f64 f32 ls x s u v r) r a)
 next-shaped (symbol t address size name) r a = go (eqb (symbolOf (r .converter) (r .memory) t address size name .code) 0)
   where
     go : (b : Bool) (g : Given) → g ∈ cond b (r .counted ++ (symbol-row (symbolRow t address size name) ∷ [])) (r .counted) → Shaped g

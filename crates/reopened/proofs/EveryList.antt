@@ -24,12 +24,16 @@ use Rattle.model.proofs.Grown.{room}
 use Rattle.rows.specs.Columns.{Columns, treeRows, textOf, rootRow, laterRows}
 use Rattle.rows.specs.Refusals.{refusalOf, shaped?, texts?, ends?, room?, inside?, optional?, readable?}
 use Rattle.rows.specs.declared.OptionalPart.{OptionalPart}
+use Rattle.rows.specs.declared.LineRow.{LineRow}
 use Rattle.rows.proofs.Accepted.{Accepted, accepted, given-fits}
 use Rattle.steps.specs.Words.{Memory, Words, over-words}
 use Rattle.steps.specs.declared.Converter.{Converter}
 use Rattle.steps.proofs.Lengths.{Lens}
 use Rattle.writer.specs.Calls.{Called, called, zeros, unused, with-state, setup, words-of, usable?, finished, beginOf, rows-converted, treeOf, symbolRow, symbolOf}
-use Rattle.reopened.specs.Lists.{Call, tree, symbol, write, Standing, givenTree, after, next, run, begun, due, Typed}
+use Rattle.line_rows.specs.Lines.{lineColumns}
+use Rattle.line_rows.specs.Calls.{linesOf}
+use Rattle.line_rows.proofs.AsTree.{scratch-had, kept, lines-tree as lines-tree-is}
+use Rattle.reopened.specs.Lists.{Call, tree, lines-tree, symbol, write, Standing, givenTree, after, next, run, begun, due, Typed}
 use Rattle.reopened.proofs.Encoding.{capacities, Enc, has-room, enc-room, enc-fits}
 use Rattle.reopened.proofs.OneCall.{Left, call-left, tree-is, symbol-is, converted-more, lengths-of, zero-memory, zero-lengths, begun-holds}
 
@@ -196,6 +200,35 @@ module _ (n : Lens) (b : Converter) (r : Standing) (k : Columns) (s : List ℕ) 
       go true a z = (eqb-true refusal 0 a, due-17 (plain-fits? (capacities n) (converted (setup b) (r .counted ++ (givenTree k ∷ [])))) z)
       go false a z = absurd (other-refusals k (length s) z)
 
+-- ── A tree whose line rows are a list ──
+
+-- Of the standing it is a tree call over the columns that the rows stand for: with its own scratch where there is room to unpack them, else with none
+module _ (f64 f32 : List ℕ) (ls : List LineRow) (x s u v : List ℕ) (r : Standing) where
+  abbrev cols : Columns
+  cols = lineColumns f64 f32 ls x
+
+  abbrev pub scratch-of : List ℕ
+  scratch-of = scratch-had (r .converter) (r .memory) s u v cols
+
+  abbrev lines-outcome : Called
+  lines-outcome = linesOf (r .converter) (r .memory) s u v cols .called
+
+  same-kept : kept (r .converter) (r .memory) s u v cols lines-outcome ≡ kept (r .converter) (r .memory) s u v cols (treeOf (r .converter) (r .memory) scratch-of cols)
+  same-kept = lines-tree-is (r .converter) (r .memory) s u v cols
+
+  pub lines-next : next (lines-tree f64 f32 ls x s u v) r ≡ next (tree cols scratch-of) r
+  unfolding next
+  lines-next = λ i. record { converter = same-kept i .1 .0; memory = same-kept i .1 .1; counted = cond (eqb (same-kept i .0) 0) (r .counted ++ (givenTree cols ∷ [])) (r .counted) }
+
+  -- its number, and 17 exactly where it is due
+  pub lines-number : (n : Lens) (b : Converter) → Open n b r → Typed (lines-tree f64 f32 ls x s u v)
+      → lines-outcome .code ≡ cond (eqb (refusalOf cols (length scratch-of)) 0) (due (capacities n) (setup b) (r .counted) (givenTree cols)) (refusalOf cols (length scratch-of))
+  lines-number n b h t = (λ i. same-kept i .0) ∙ tree-number n b r cols scratch-of h t
+
+  pub lines-17 : (n : Lens) (b : Converter) → Open n b r → Typed (lines-tree f64 f32 ls x s u v) → lines-outcome .code ≡ 17
+      → (refusalOf cols (length scratch-of) ≡ 0) × (plain-fits? (capacities n) (converted (setup b) (r .counted ++ (givenTree cols ∷ []))) ≡ false)
+  lines-17 n b h t e = tree-17 n b r cols scratch-of h t (sym (ap (λ (x : ℕ × (Converter × Memory)). x .0) same-kept) ∙ e)
+
 -- ── A symbol ──
 
 symbol-usable : (c : Converter) (m : Memory) (t : List ℕ) (address size : ℕ) (name : OptionalPart) → usable? c m ≡ true
@@ -260,6 +293,8 @@ module _ (n : Lens) (b : Converter) (r : Standing) (t : List ℕ) (address size 
 closed-next : (n : Lens) (r : Standing) (k : Call) → Closed n r → Closed n (next k r)
 unfolding next
 closed-next n r (tree k s) h = rw (closed-tree n r k s h) h
+closed-next n r (lines-tree f64 f32 ls x s u v) h =
+    subst (Closed n) (sym (lines-next f64 f32 ls x s u v r)) (rw (closed-tree n r (lineColumns f64 f32 ls x) (scratch-of f64 f32 ls x s u v r) h) h)
 closed-next n r (symbol t address size name) h = rw (closed-symbol n r t address size name h) h
 closed-next n r (write output) h = h
 
@@ -267,6 +302,8 @@ pub one-more : (n : Lens) (b : Converter) (r : Standing) (k : Call) → Typed k 
 unfolding next
 one-more n b r k t (inr h) = inr (closed-next n r k h)
 one-more n b r (tree k s) t (inl h) = tree-stands n b r k s h t
+one-more n b r (lines-tree f64 f32 ls x s u v) t (inl h) =
+    subst (Stands n b) (sym (lines-next f64 f32 ls x s u v r)) (tree-stands n b r (lineColumns f64 f32 ls x) (scratch-of f64 f32 ls x s u v r) h t)
 one-more n b r (symbol x address size name) t (inl h) = symbol-stands n b r x address size name h
 one-more n b r (write output) t (inl h) = inl h
 

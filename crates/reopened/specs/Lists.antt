@@ -12,12 +12,17 @@ use Rattle.model.specs.Counts.{Capacities}
 use Rattle.model.specs.Counts.{fits? as plain-fits?}
 use Rattle.rows.specs.Columns.{Columns, rootRow, laterRows}
 use Rattle.rows.specs.declared.OptionalPart.{OptionalPart}
+use Rattle.rows.specs.declared.LineRow.{LineRow}
 use Rattle.steps.specs.Words.{Memory}
 use Rattle.steps.specs.declared.Converter.{Converter}
 use Rattle.writer.specs.Calls.{Called, beginOf, treeOf, symbolOf, symbolRow}
+use Rattle.line_rows.specs.Lines.{lineColumns}
+use Rattle.line_rows.specs.Calls.{linesOf}
 
 pub data Call : Type 0 where
   tree : Columns → List ℕ → Call  -- the rows with their text, and the scratch
+  -- the function rows in columns, the line rows as one list, their text; the scratch, and the memory that the line rows are unpacked into
+  lines-tree : List ℕ → List ℕ → List LineRow → List ℕ → List ℕ → List ℕ → List ℕ → Call
   symbol : List ℕ → ℕ → ℕ → OptionalPart → Call  -- the text, then address, size, and the part that is the name
   write : List ℕ → Call  -- the output
 
@@ -38,6 +43,7 @@ after o g r = record { converter = o .converter; memory = o .memory; counted = c
 -- one call; "Writing doesn't change the converter"
 unfoldable pub next : Call → Standing → Standing
 next (tree k s) r = after (treeOf (r .converter) (r .memory) s k) (givenTree k) r
+next (lines-tree f64 f32 ls t s u v) r = after (linesOf (r .converter) (r .memory) s u v (lineColumns f64 f32 ls t) .called) (givenTree (lineColumns f64 f32 ls t)) r
 next (symbol t address size name) r = after (symbolOf (r .converter) (r .memory) t address size name) (symbol-row (symbolRow t address size name)) r
 next (write output) r = r
 
@@ -56,5 +62,6 @@ due K X gs g = cond (plain-fits? K (converted X (gs ++ (g ∷ [])))) 0 17
 -- what the type of a slice of 32-bit words says, as far as it matters
 abbrev pub Typed : Call → Type 0
 Typed (tree k s) = (i : ℕ) → getD (k .functions32) i 0 ≤ MAX
+Typed (lines-tree f64 f32 ls t s u v) = (i : ℕ) → getD f32 i 0 ≤ MAX
 Typed (symbol t address size name) = Unit {0}
 Typed (write output) = Unit {0}

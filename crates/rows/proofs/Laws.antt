@@ -1,5 +1,5 @@
 -- What the definitions compute to under the tests that the code makes: a row by value, a part of the text, a line's addresses, a loop over rows.
-use Prim.Native.Nat.{ℕ, zero, suc, _+_, _-_, _*_, _/_, _≤_, _<_, min}
+use Prim.Native.Nat.{ℕ, zero, suc, _+_, _-_, _*_, _/_, _%_, _≤_, _<_, min}
 use mathlib.Core.Path.{_≡_, refl, sym, _∙_, ap}
 use mathlib.Core.Bool.{Bool, true, false, cond, _&&_, true≢false}
 use mathlib.Core.Logic.{⊎-elim}
@@ -7,6 +7,7 @@ use mathlib.Core.List.{List, []}
 use native.Mathlib.Omega.{arith}
 use native.Mathlib.Numerals.{add-one}
 use native.Mathlib.Nat.{eq-or-lt-of-le}
+use lib.Dec.{eqb}
 use lib.ListN.{length, take, drop}
 use borrow.Author.Tests.{lt-ltb, le-ltb, le-leb, lt-leb, eq-eqb, ne-eqb}
 use Rattle.model.specs.Rows.{MAX}
@@ -14,7 +15,7 @@ use Rattle.model.proofs.Chains.{both-true}
 use Rattle.rows.specs.declared.FunctionRow.{FunctionRow}
 use Rattle.rows.specs.declared.OptionalPart.{OptionalPart}
 use Rattle.rows.specs.Columns.{Columns, functionRows, lineRows, functionStruct, lineStruct, functionWords, functionRow, lineWords, lineRow, boundariesOf, partOf}
-use Rattle.rows.specs.Refusals.{each, total, count?, depth?, shaped?, readable?, optional?, functionTexts?, lineTexts?, texts?, end?, ends?, room?, refusalOf}
+use Rattle.rows.specs.Refusals.{each, total, lengths?, count?, depth?, shaped?, readable?, optional?, functionTexts?, lineTexts?, texts?, end?, ends?, room?, refusalOf, functionLengths?, lineLengths?, shapedWith?, refusalWith}
 
 module _ (f64 f32 : List ℕ) (i : ℕ) where
   pub function-in : i < length f64 / 2 → i < length f32 / 8 → functionWords f64 f32 i ≡ functionRow f64 f32 i
@@ -119,6 +120,14 @@ module _ (x y : Bool) where
   pub and-then : (r : Bool) → x ≡ true → r ≡ y → r ≡ x && y
   and-then r e f = rw e f
 
+pub and-true : (x : Bool) → x && true ≡ x
+and-true true = refl
+and-true false = refl
+
+pub and-false : (x : Bool) → x && false ≡ false
+and-false true = refl
+and-false false = refl
+
 -- ── 13: depths ──
 
 module _ (d : ℕ → ℕ) where
@@ -194,31 +203,61 @@ module _ (n : ℕ) where
   unfolding count?
   count-many g = rw (lt-ltb 0 n (omega arith), lt-leb n 65536 g)
 
-module _ (k : Columns) (s : ℕ) where
-  pub refusal-13 : shaped? k ≡ false → 13 ≡ refusalOf k s
-  unfolding refusalOf
-  refusal-13 e = rw e
+-- `refusal_with`, number by number
+module _ (f64 f32 : List ℕ) (n : ℕ) (b : Bool) (t : List ℕ) (s : ℕ) where
+  pub with-13 : shapedWith? f64 f32 n ≡ false → 13 ≡ refusalWith f64 f32 n b t s
+  unfolding refusalWith
+  with-13 e = rw e
 
-  module _ (shape : shaped? k ≡ true) where
-    pub refusal-14-functions : each (λ (i : ℕ). functionTexts? (k .text) (functionStruct k i)) (functionRows k) ≡ false → 14 ≡ refusalOf k s
-    unfolding refusalOf texts?
-    refusal-14-functions e = rw (shape, e)
+  module _ (shape : shapedWith? f64 f32 n ≡ true) where
+    pub with-14-functions : each (λ (i : ℕ). functionTexts? t (functionRow f64 f32 i)) (length f64 / 2) ≡ false → 14 ≡ refusalWith f64 f32 n b t s
+    unfolding refusalWith
+    with-14-functions e = rw (shape, e)
 
-    module _ (names : each (λ (i : ℕ). functionTexts? (k .text) (functionStruct k i)) (functionRows k) ≡ true) where
-      pub refusal-14-lines : each (λ (j : ℕ). lineTexts? (k .text) (lineStruct k j)) (lineRows k) ≡ false → 14 ≡ refusalOf k s
-      unfolding refusalOf texts?
-      refusal-14-lines e = rw (shape, names, e)
+    module _ (names : each (λ (i : ℕ). functionTexts? t (functionRow f64 f32 i)) (length f64 / 2) ≡ true) where
+      pub with-14-lines : b ≡ false → 14 ≡ refusalWith f64 f32 n b t s
+      unfolding refusalWith
+      with-14-lines e = rw (shape, names, e)
 
-      module _ (files : each (λ (j : ℕ). lineTexts? (k .text) (lineStruct k j)) (lineRows k) ≡ true) where
-        pub refusal-15 : each (λ (i : ℕ). end? (functionStruct k i)) (functionRows k) ≡ false → 15 ≡ refusalOf k s
-        unfolding refusalOf texts? ends?
-        refusal-15 e = rw (shape, names, files, e)
+      module _ (files : b ≡ true) where
+        pub with-15 : each (λ (i : ℕ). end? (functionRow f64 f32 i)) (length f64 / 2) ≡ false → 15 ≡ refusalWith f64 f32 n b t s
+        unfolding refusalWith
+        with-15 e = rw (shape, names, files, e)
 
-        module _ (low : each (λ (i : ℕ). end? (functionStruct k i)) (functionRows k) ≡ true) where
-          pub refusal-16 : s / 4 < functionRows k + lineRows k → 16 ≡ refusalOf k s
-          unfolding refusalOf texts? ends? room?
-          refusal-16 h = rw (shape, names, files, low, lt-leb (4 * (functionRows k + lineRows k)) s (omega arith))
+        module _ (low : each (λ (i : ℕ). end? (functionRow f64 f32 i)) (length f64 / 2) ≡ true) where
+          pub with-16 : s / 4 < length f64 / 2 + n → 16 ≡ refusalWith f64 f32 n b t s
+          unfolding refusalWith
+          with-16 h = rw (shape, names, files, low, lt-leb (4 * (length f64 / 2 + n)) s (omega arith))
 
-          pub refusal-0 : functionRows k + lineRows k ≤ s / 4 → 0 ≡ refusalOf k s
-          unfolding refusalOf texts? ends? room?
-          refusal-0 h = rw (shape, names, files, low, le-leb (4 * (functionRows k + lineRows k)) s (omega arith))
+          pub with-0 : length f64 / 2 + n ≤ s / 4 → 0 ≡ refusalWith f64 f32 n b t s
+          unfolding refusalWith
+          with-0 h = rw (shape, names, files, low, le-leb (4 * (length f64 / 2 + n)) s (omega arith))
+
+-- rows in columns: their lengths are two tests, of the function rows' slices and of the line rows'
+six : (a b c d e f : Bool) → a && (b && (c && (d && (e && f)))) ≡ (a && (b && e)) && (c && (d && f))
+six true true true true e f = go e
+  where
+    go : (x : Bool) → x && f ≡ x && f
+    go x = refl
+six true true true false true f = refl
+six true true true false false f = refl
+six true true false d true f = refl
+six true true false d false f = refl
+six true false c d e f = refl
+six false b c d e f = refl
+
+module _ (k : Columns) where
+  lengths-two : lengths? k ≡ functionLengths? (k .functions64) (k .functions32) && lineLengths? (k .lines64) (k .lines32)
+  unfolding lengths? functionLengths? lineLengths?
+  lengths-two =
+      six (eqb (length (k .functions64) % 2) 0) (eqb (length (k .functions32) % 8) 0) (eqb (length (k .lines64) % 3) 0) (eqb (length (k .lines32) % 14) 0) (eqb (length (k .functions32) / 8) (functionRows k))
+      (eqb (length (k .lines32) / 14) (lineRows k))
+
+  pub refusal-columns : (s : ℕ) → lineLengths? (k .lines64) (k .lines32) ≡ true
+      → refusalWith (k .functions64) (k .functions32) (lineRows k) (each (λ (j : ℕ). lineTexts? (k .text) (lineStruct k j)) (lineRows k)) (k .text) s ≡ refusalOf k s
+  unfolding refusalWith refusalOf shapedWith? shaped? texts? ends? room?
+  refusal-columns s e = rw (lengths-two, e, and-true)
+
+  pub refusal-lengths : (s : ℕ) → lineLengths? (k .lines64) (k .lines32) ≡ false → 13 ≡ refusalOf k s
+  unfolding refusalOf shaped?
+  refusal-lengths s e = rw (lengths-two, e, and-false)

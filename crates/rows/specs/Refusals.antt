@@ -5,7 +5,7 @@ use Prim.Native.Nat.{ℕ, zero, suc, _+_, _*_, _/_, _%_}
 use lib.ListN.{length}
 use lib.Dec.{ltb, leb, eqb}
 use Rattle.text.specs.Utf8.{utf8}
-use Rattle.rows.specs.Columns.{Columns, functionRows, lineRows, functionStruct, lineStruct, textOf}
+use Rattle.rows.specs.Columns.{Columns, functionRow, functionRows, lineRows, functionStruct, lineStruct, textOf}
 use Rattle.rows.specs.declared.TextPart.{TextPart}
 use Rattle.rows.specs.declared.OptionalPart.{OptionalPart}
 use Rattle.rows.specs.declared.FunctionRow.{FunctionRow}
@@ -96,3 +96,25 @@ room? k s = leb (4 * (functionRows k + lineRows k)) s
 -- "13, 14, 15, 16": 0 where there is nothing to refuse
 unfoldable pub refusalOf : Columns → ℕ → ℕ
 refusalOf k s = cond (shaped? k) (cond (texts? k) (cond (ends? k) (cond (room? k s) 0 16) 15) 14) 13
+
+-- ── The same where of the line rows their count is given, n, and whether their texts are in order, b ──
+
+unfoldable pub functionLengths? : List ℕ → List ℕ → Bool
+functionLengths? f64 f32 = eqb (length f64 % 2) 0 && (eqb (length f32 % 8) 0 && eqb (length f32 / 8) (length f64 / 2))
+
+unfoldable pub lineLengths? : List ℕ → List ℕ → Bool
+lineLengths? l64 l32 = eqb (length l64 % 3) 0 && (eqb (length l32 % 14) 0 && eqb (length l32 / 14) (length l64 / 3))
+
+unfoldable pub shapedWith? : List ℕ → List ℕ → ℕ → Bool
+shapedWith? f64 f32 n =
+    functionLengths? f64 f32
+    && (count? (length f64 / 2)
+    && (each (depth? (λ (i : ℕ). functionRow f64 f32 i .depth)) (length f64 / 2) && eqb (total (λ (i : ℕ). functionRow f64 f32 i .lines) (length f64 / 2)) n))
+
+unfoldable pub refusalWith : List ℕ → List ℕ → ℕ → Bool → List ℕ → ℕ → ℕ
+refusalWith f64 f32 n b t s =
+    cond (shapedWith? f64 f32 n)
+    (cond (each (λ (i : ℕ). functionTexts? t (functionRow f64 f32 i)) (length f64 / 2) && b)
+    (cond (each (λ (i : ℕ). end? (functionRow f64 f32 i)) (length f64 / 2)) (cond (leb (4 * (length f64 / 2 + n)) s) 0 16) 15)
+    14)
+    13

@@ -6,27 +6,30 @@ ghost use Rattle.rows.specs.Columns.{columns, functionRow, lineRow, part
 ghost use Rattle.rows.specs.Refusals.{
   each,
   total,
-  lengths?,
+  functionLengths?,
+  lineLengths?,
   depth?,
-  shaped?,
+  shapedWith?,
   inside?,
   readable?,
   optional?,
   functionTexts?,
   lineTexts?,
-  texts?,
   end?,
+  refusalWith,
   refusalOf,
 };
 use text::utf8::is_utf8;
 
 // A part of the lent text.
+#[repr(C)]
 pub struct TextPart {
     pub start: u32,
     pub len: u32,
 }
 
 // A text that may be absent.
+#[repr(C)]
 pub struct OptionalPart {
     pub present: bool,
     pub part: TextPart,
@@ -43,6 +46,7 @@ pub struct FunctionRow {
     pub lines: u32,
 }
 
+#[repr(C)]
 pub struct LineRow {
     pub address: u64,
     pub has_size: bool,
@@ -202,19 +206,25 @@ pub fn line_boundaries(address: u64, has_size: bool, size: u64) -> Boundaries
     Boundaries { start, end }
 }
 
-// 13: the lengths of the slices are those of whole rows, and agree.
-fn lengths(functions64: &[u64], functions32: &[u32], lines64: &[u64], lines32: &[u32]) -> bool
-    ensures { λ r. ⌜ ((t : List ℕ) → r ≡ lengths? (columns (now (functions64 .entry)) (now (functions32 .entry)) (now (lines64 .entry)) (now (lines32 .entry)) t)) ⌝ }
+// 13: the lengths of the function rows' slices are those of whole rows, and agree.
+fn function_lengths(functions64: &[u64], functions32: &[u32]) -> bool
+    ensures { λ r. ⌜ r ≡ functionLengths? (now (functions64 .entry)) (now (functions32 .entry)) ⌝ }
 {
     if functions64.len() % 2 == 0 {
         if functions32.len() % 8 == 0 {
-            if lines64.len() % 3 == 0 {
-                if lines32.len() % 14 == 0 {
-                    if functions32.len() / 8 == functions64.len() / 2 {
-                        return lines32.len() / 14 == lines64.len() / 3;
-                    }
-                }
-            }
+            return functions32.len() / 8 == functions64.len() / 2;
+        }
+    }
+    false
+}
+
+// 13: the same of the line rows' slices.
+fn line_lengths(lines64: &[u64], lines32: &[u32]) -> bool
+    ensures { λ r. ⌜ r ≡ lineLengths? (now (lines64 .entry)) (now (lines32 .entry)) ⌝ }
+{
+    if lines64.len() % 3 == 0 {
+        if lines32.len() % 14 == 0 {
+            return lines32.len() / 14 == lines64.len() / 3;
         }
     }
     false
@@ -258,16 +268,16 @@ fn line_count(functions64: &[u64], functions32: &[u32], n: usize) -> usize
     sum
 }
 
-// 13: the rows are a tree's.
-fn shaped(functions64: &[u64], functions32: &[u32], lines64: &[u64], lines32: &[u32]) -> bool
-    ensures { λ r. ⌜ ((t : List ℕ) → r ≡ shaped? (columns (now (functions64 .entry)) (now (functions32 .entry)) (now (lines64 .entry)) (now (lines32 .entry)) t)) ⌝ }
+// 13: the function rows are a tree's, and its line rows are that many.
+fn shaped(functions64: &[u64], functions32: &[u32], lines: usize) -> bool
+    ensures { λ r. ⌜ r ≡ shapedWith? (now (functions64 .entry)) (now (functions32 .entry)) lines ⌝ }
 {
     let n = functions64.len() / 2;
-    if lengths(functions64, functions32, lines64, lines32) {
+    if function_lengths(functions64, functions32) {
         if 0 < n {
             if n <= 65536 {
                 if depths(functions64, functions32, n) {
-                    return line_count(functions64, functions32, n) == lines64.len() / 3;
+                    return line_count(functions64, functions32, n) == lines;
                 }
             }
         }
@@ -313,7 +323,7 @@ fn function_texts(text: &[u8], q: FunctionRow) -> bool
 }
 
 // 14: the texts of a line row.
-fn line_texts(text: &[u8], l: LineRow) -> bool
+pub fn line_texts(text: &[u8], l: LineRow) -> bool
     ensures { λ r. ⌜ r ≡ lineTexts? (now (text .entry)) l ⌝ }
 {
     if readable(text, l.name) {
@@ -373,7 +383,39 @@ fn ends(functions64: &[u64], functions32: &[u32], n: usize) -> bool
     true
 }
 
-// The number that a tree call refuses its rows with: 13, 14, 15 or 16, in that order; 0 where it takes them.
+// The number that a tree call refuses its rows with, where of its line rows their count is given and whether their texts are in order: 13, 14, 15 or 16, in that order; 0 where it takes them.
+pub fn refusal_with(
+    functions64: &[u64],
+    functions32: &[u32],
+    lines: usize,
+    line_texts: bool,
+    text: &[u8],
+    scratch: usize,
+) -> u32
+    ensures { λ r. ⌜ r ≡ refusalWith (now (functions64 .entry)) (now (functions32 .entry)) lines «line_texts» (now (text .entry)) scratch ⌝ }
+{
+    let n = functions64.len() / 2;
+    if shaped(functions64, functions32, lines) {
+        if functions_texts(functions64, functions32, text, n) {
+            if line_texts {
+                if ends(functions64, functions32, n) {
+                    let rows = scratch / 4;
+                    if n <= rows {
+                        if lines <= rows - n {
+                            return 0;
+                        }
+                    }
+                    return 16;
+                }
+                return 15;
+            }
+        }
+        return 14;
+    }
+    13
+}
+
+// The same of rows in columns.
 pub fn refusal(
     functions64: &[u64],
     functions32: &[u32],
@@ -384,21 +426,10 @@ pub fn refusal(
 ) -> u32
     ensures { λ r. ⌜ r ≡ refusalOf (columns (now (functions64 .entry)) (now (functions32 .entry)) (now (lines64 .entry)) (now (lines32 .entry)) (now (text .entry))) scratch ⌝ }
 {
-    let n = functions64.len() / 2;
-    let m = lines64.len() / 3;
-    if shaped(functions64, functions32, lines64, lines32) {
-        if functions_texts(functions64, functions32, text, n) {
-            if lines_texts(lines64, lines32, text, m) {
-                if ends(functions64, functions32, n) {
-                    if n + m <= scratch / 4 {
-                        return 0;
-                    }
-                    return 16;
-                }
-                return 15;
-            }
-        }
-        return 14;
+    if line_lengths(lines64, lines32) {
+        let lines = lines64.len() / 3;
+        let texts = lines_texts(lines64, lines32, text, lines);
+        return refusal_with(functions64, functions32, lines, texts, text, scratch);
     }
     13
 }

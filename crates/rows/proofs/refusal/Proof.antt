@@ -1,102 +1,38 @@
--- `rows::refusal` meets its contract: each number by the tests that led to it.
-use mathlib.Core.Path.{sym, _∙_}
+-- `rows::refusal` meets its contract: the line rows' lengths, then the tests of `refusal_with`.
+use mathlib.Core.Path.{sym, ap, _∙_}
+use mathlib.Core.Bool.{Bool}
+use Prim.Native.Nat.{_/_}
+use lib.ListN.{length}
 use borrow.Author.Needs.{needs}
 use Rattle.rows.specs.Columns.{columns}
-use Rattle.rows.proofs.Laws.{refusal-13, refusal-14-functions, refusal-14-lines, refusal-15, refusal-16, refusal-0}
+use Rattle.rows.specs.Refusals.{refusalWith}
+use Rattle.rows.proofs.Laws.{refusal-columns, refusal-lengths}
 use Rattle.rows.proofs.refusal.Statement.{statement}
 use Rattle.rows.proofs.refusal.Tie as tie
 
-shaped-requires : tie.Need-shaped-requires
-shaped-requires c κs = search needs
-
-functions-texts-requires : tie.Need-functions-texts-requires
-functions-texts-requires c κs = search needs
+line-lengths-requires : tie.Need-line-lengths-requires
+line-lengths-requires c κs = search needs
 
 lines-texts-requires : tie.Need-lines-texts-requires
 lines-texts-requires c κs = search needs
 
-ends-requires : tie.Need-ends-requires
-ends-requires c κs = search needs
-
-add-if5 : tie.Need-add-if5
-add-if5 c = search needs
+refusal-with-requires : tie.Need-refusal-with-requires
+refusal-with-requires c κs = search needs
 
 returns : tie.Need-returns
 returns c =
-    let t4 = c .before in
-    let t3 = t4 .before .before in
-    let t2 = t3 .before .before in
-    let t1 = t2 .before .before in
-    let a = t1 .before .before .before .before .before .before .before .args in
+    let t = c .before .before in
+    let a = t .before .before .before .before .before .before .before .args in
     let k = columns (a .functions64 .now) (a .functions32 .now) (a .lines64 .now) (a .lines32 .now) (a .text .now) in
-    refusal-0 k (a .scratch) (sym (t1 .before .shaped .ensures (a .text .now)) ∙ t1 .if1 .taken)
-    (sym (t2 .before .functions-texts .ensures) ∙ t2 .if2 .taken)
-    (sym (t3 .before .lines-texts .ensures) ∙ t3 .if3 .taken)
-    (sym (t4 .before .ends .ensures) ∙ t4 .if4 .taken)
-    (c .if5 .taken)
+    c .refusal-with .ensures
+    ∙ ap (λ (b : Bool). refusalWith (a .functions64 .now) (a .functions32 .now) (length (a .lines64 .now) / 3) b (a .text .now) (a .scratch)) (c .before .lines-texts .ensures)
+    ∙ refusal-columns k (a .scratch) (sym (t .before .line-lengths .ensures) ∙ t .if1 .taken)
 
 returns-2 : tie.Need-returns-2
 returns-2 c =
-    let t4 = c .before in
-    let t3 = t4 .before .before in
-    let t2 = t3 .before .before in
-    let t1 = t2 .before .before in
-    let a = t1 .before .before .before .before .before .before .before .args in
-    let k = columns (a .functions64 .now) (a .functions32 .now) (a .lines64 .now) (a .lines32 .now) (a .text .now) in
-    refusal-16 k (a .scratch) (sym (t1 .before .shaped .ensures (a .text .now)) ∙ t1 .if1 .taken)
-    (sym (t2 .before .functions-texts .ensures) ∙ t2 .if2 .taken)
-    (sym (t3 .before .lines-texts .ensures) ∙ t3 .if3 .taken)
-    (sym (t4 .before .ends .ensures) ∙ t4 .if4 .taken)
-    (c .if5 .left)
-
-returns-3 : tie.Need-returns-3
-returns-3 c =
-    let t3 = c .before .before in
-    let t2 = t3 .before .before in
-    let t1 = t2 .before .before in
-    let a = t1 .before .before .before .before .before .before .before .args in
-    let k = columns (a .functions64 .now) (a .functions32 .now) (a .lines64 .now) (a .lines32 .now) (a .text .now) in
-    refusal-15 k (a .scratch) (sym (t1 .before .shaped .ensures (a .text .now)) ∙ t1 .if1 .taken)
-    (sym (t2 .before .functions-texts .ensures) ∙ t2 .if2 .taken)
-    (sym (t3 .before .lines-texts .ensures) ∙ t3 .if3 .taken)
-    (sym (c .before .ends .ensures) ∙ c .if4 .left)
-
-returns-4 : tie.Need-returns-4
-returns-4 c =
-    let t2 = c .before .before in
-    let t1 = t2 .before .before in
-    let a = t1 .before .before .before .before .before .before .before .args in
-    let k = columns (a .functions64 .now) (a .functions32 .now) (a .lines64 .now) (a .lines32 .now) (a .text .now) in
-    refusal-14-lines k (a .scratch) (sym (t1 .before .shaped .ensures (a .text .now)) ∙ t1 .if1 .taken)
-    (sym (t2 .before .functions-texts .ensures) ∙ t2 .if2 .taken)
-    (sym (c .before .lines-texts .ensures) ∙ c .if3 .left)
-
-returns-5 : tie.Need-returns-5
-returns-5 c =
-    let t1 = c .before .before in
-    let a = t1 .before .before .before .before .before .before .before .args in
-    let k = columns (a .functions64 .now) (a .functions32 .now) (a .lines64 .now) (a .lines32 .now) (a .text .now) in
-    refusal-14-functions k (a .scratch) (sym (t1 .before .shaped .ensures (a .text .now)) ∙ t1 .if1 .taken)
-    (sym (c .before .functions-texts .ensures) ∙ c .if2 .left)
-
-returns-6 : tie.Need-returns-6
-returns-6 c =
     let a = c .before .before .before .before .before .before .before .args in
     let k = columns (a .functions64 .now) (a .functions32 .now) (a .lines64 .now) (a .lines32 .now) (a .text .now) in
-    refusal-13 k (a .scratch) (sym (c .before .shaped .ensures (a .text .now)) ∙ c .if1 .left)
+    refusal-lengths k (a .scratch) (sym (c .before .line-lengths .ensures) ∙ c .if1 .left)
 
 pub refusal-spec : {M : Type 1} → statement M
-refusal-spec =
-    tie.close
-    (tie.spec
-    shaped-requires
-    functions-texts-requires
-    lines-texts-requires
-    ends-requires
-    add-if5
-    returns
-    returns-2
-    returns-3
-    returns-4
-    returns-5
-    returns-6)
+refusal-spec = tie.close (tie.spec line-lengths-requires lines-texts-requires refusal-with-requires returns returns-2)

@@ -1,0 +1,55 @@
+-- A tree call whose line rows are one lent list of rows, for every input: what the call over number slices gives for the columns that the rows stand for.
+use mathlib.Core.Bool.{Bool, true, false, cond, _&&_}
+use mathlib.Core.List.{List}
+use Prim.Native.Nat.{ℕ, _*_, _/_}
+use lib.Dec.{eqb, leb}
+use lib.ListN.{length, take}
+use Rattle.rows.specs.Columns.{Columns, columns}
+use Rattle.rows.specs.Refusals.{refusalOf, refusalWith}
+use Rattle.tables.specs.Table.{capacityOf}
+use Rattle.tables.specs.Strings.{textCapacityOf}
+use Rattle.steps.specs.Words.{Memory}
+use Rattle.steps.specs.declared.Converter.{Converter}
+use Rattle.writer.specs.Calls.{Called, called, zeros, usable?, treeOf}
+
+-- what such a call leaves: what a tree call does, and the memory that the line rows were unpacked into
+pub record LinesCalled : Type 0 where
+  pub called : Called
+  pub unpacked64 : List ℕ
+  pub unpacked32 : List ℕ
+
+abbrev pub leaves : Called → List ℕ → List ℕ → LinesCalled
+leaves o u v = record { called = o; unpacked64 = u; unpacked32 = v }
+
+-- the memory lent for the line rows holds as many rows as there are
+unfoldable pub unpackRoom? : Columns → List ℕ → List ℕ → Bool
+unpackRoom? k u v = leb (length (k .lines64)) (length u) && leb (length (k .lines32)) (length v)
+
+-- That memory counts as scratch: 16 where it has fewer rows than there are line rows, zero after 17 and after every accepted tree, and any other refusal changes none of it.
+-- "Trees: 19, 13, 14, 15, 16, 17"
+unfoldable pub linesOf : Converter → Memory → List ℕ → List ℕ → List ℕ → Columns → LinesCalled
+linesOf c m s u v k =
+    cond (usable? c m && eqb (refusalOf k (length s)) 0)
+    (cond (unpackRoom? k u v) (leaves (treeOf c m s k) (zeros u) (zeros v)) (leaves (called 16 c m s) u v))
+    (leaves (treeOf c m s k) u v)
+
+-- ── What the private functions say of each other ──
+
+-- 19, of tables of these lengths
+abbrev pub usableBy : Converter → ℕ → ℕ → ℕ → ℕ → ℕ → ℕ → Bool
+usableBy c x i f g k r =
+    c .«open»
+    && (leb (c .state .«string_bytes») (textCapacityOf x)
+    && (leb (c .state .strings) (capacityOf i)
+    && (leb (c .state .files) (capacityOf f)
+    && (leb (c .state .functions) (capacityOf g) && (leb (c .state .«call_locations») (capacityOf k) && leb (c .state .ranges) (capacityOf r))))))
+
+-- the number before 17, where the tables can be used or not, of n line rows whose texts are in order or not, and of lent memory of these lengths
+unfoldable pub numberOf : Bool → ℕ → ℕ → ℕ → List ℕ → List ℕ → ℕ → Bool → List ℕ → ℕ
+numberOf usable s u v f64 f32 n b t =
+    cond usable (cond (eqb (refusalWith f64 f32 n b t s) 0) (cond (leb n (u / 3) && leb n (v / 14)) 0 16) (refusalWith f64 f32 n b t s)) 19
+
+-- the call over the first n rows of the columns that were unpacked, if it isn't refused
+unfoldable pub unpackedOf : ℕ → ℕ → Converter → Memory → List ℕ → List ℕ → List ℕ → List ℕ → List ℕ → List ℕ → LinesCalled
+unpackedOf refused n c m s u v f64 f32 t =
+    cond (eqb refused 0) (leaves (treeOf c m s (columns f64 f32 (take (n * 3) u) (take (n * 14) v) t)) (zeros u) (zeros v)) (leaves (called refused c m s) u v)
