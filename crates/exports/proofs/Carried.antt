@@ -23,10 +23,11 @@ use Rattle.steps.specs.declared.LastAddr.the-variants.{Unset, Set}
 use Rattle.steps.specs.declared.State.{State}
 use Rattle.steps.specs.declared.Converter.{Converter}
 use Rattle.writer.specs.Calls.{Called, called, setup, words-of, symbolRow, usable?, finished, beginOf, rows-converted, treeOf, symbolOf}
+use Rattle.line_rows.specs.Calls.{LinesCalled, unpackRoom?, linesOf}
 use Rattle.exports.proofs.StoreLaws.{sets-at}
 use Rattle.exports.specs.Words.{stored, yes, flagOf}
 use Rattle.exports.specs.Record.{lastOf, idOf, stateOf, converterOf, lastWords, idWords, countWords, switchWords, wordsOf, Bytes, IdFits}
-use Rattle.exports.specs.Writing.{kept, leaves, beginCall, treeCall, symbolCall}
+use Rattle.exports.specs.Writing.{kept, leaves, beginCall, treeCall, linesCall, symbolCall}
 
 -- ── Bytes ──────────────────────────────────────────────────────────────────────────────────────────────────────────────
 
@@ -179,7 +180,7 @@ usable-long r m h = long r (both-left (yes (getD r 19 0)) _ h)
 abbrev Carries : List ℕ → Called → Type 0
 Carries r o = converterOf (kept (o .code) (o .converter) r) ≡ o .converter
 
-by-cond : (P : Called → Type 0) (b : Bool) (x y : Called) → (b ≡ true → P x) → (b ≡ false → P y) → P (cond b x y)
+by-cond : {A : Type 0} (P : A → Type 0) (b : Bool) (x y : A) → (b ≡ true → P x) → (b ≡ false → P y) → P (cond b x y)
 by-cond P true x y f g = f refl
 by-cond P false x y f g = g refl
 
@@ -211,6 +212,16 @@ tree-carried r m s k =
     (λ _. finished-carried r s (rows-converted (converterOf r) m k) (usable-long r m h))
     (λ _. refused-carried r m s (refusalOf k (length s)) (usable-long r m h)))
     (λ _. closed-carried r m s)
+
+pub lines-carried : (r : List ℕ) (m : Memory) (s u v : List ℕ) (k : Columns) → converterOf (linesCall r m s u v k .tree .words) ≡ linesOf (converterOf r) m s u v k .called .converter
+unfolding linesCall linesOf treeCall
+lines-carried r m s u v k =
+    let P : LinesCalled → Type 0 = λ o. Carries r (o .called) in
+    by-cond P (usable? (converterOf r) m && eqb (refusalOf k (length s)) 0) _ _
+    (λ h. by-cond P (unpackRoom? k u v) _ _
+    (λ _. tree-carried r m s k)
+    (λ _. refused-carried r m s 16 (usable-long r m (both-left (usable? (converterOf r) m) (eqb (refusalOf k (length s)) 0) h))))
+    (λ _. tree-carried r m s k)
 
 pub symbol-carried : (r : List ℕ) (m : Memory) (t : List ℕ) (address size : ℕ) (name : OptionalPart)
     → converterOf (symbolCall r m t address size name .words) ≡ symbolOf (converterOf r) m t address size name .converter

@@ -14,15 +14,17 @@ use Rattle.model.specs.Converter.{Setup}
 use Rattle.steps.specs.Words.{Memory}
 use Rattle.steps.specs.declared.Converter.{Converter}
 use Rattle.writer.specs.Calls.{beginOf, treeOf, symbolOf, symbolRow}
+use Rattle.line_rows.specs.Lines.{lineColumns}
+use Rattle.line_rows.specs.Calls.{linesOf}
 use Rattle.serialize.specs.File.{serializeOf}
-use Rattle.reopened.specs.Lists.{Call, tree, symbol, write, givenTree, Standing as PlainStanding, next as plain-next, run as plain-run, begun as plain-begun}
+use Rattle.reopened.specs.Lists.{Call, tree, lines-tree, symbol, write, givenTree, Standing as PlainStanding, next as plain-next, run as plain-run, begun as plain-begun}
 use Rattle.reopened.specs.Demand3.{Reopened}
 use Rattle.reopened.proofs.Claim.{demand3}
 use Rattle.exports.specs.Words.{yes}
 use Rattle.exports.specs.Record.{converterOf, Bytes}
-use Rattle.exports.specs.Writing.{beginCall, treeCall, symbolCall, lenWords, serializeCall}
+use Rattle.exports.specs.Writing.{beginCall, treeCall, linesCall, symbolCall, lenWords, serializeCall}
 use Rattle.exports.specs.Lists.{Standing, next, run, begun, ExportedDemand3}
-use Rattle.exports.proofs.Carried.{tree-carried, symbol-carried, begin-carried}
+use Rattle.exports.proofs.Carried.{tree-carried, lines-carried, symbol-carried, begin-carried}
 
 -- ── Where a list stands ────────────────────────────────────────────────────────────────────────────────────────────────
 
@@ -34,10 +36,14 @@ abbrev seen : Standing → PlainStanding
 seen x = standing (converterOf (x .words)) (x .memory) (x .counted)
 
 next-seen : (k : Call) (x : Standing) → seen (next k x) ≡ plain-next k (seen x)
-unfolding next plain-next treeCall symbolCall
+unfolding next plain-next treeCall linesCall symbolCall
 next-seen (tree k s) x =
     let o = treeOf (converterOf (x .words)) (x .memory) s k in
     ap (λ (c : Converter). standing c (o .memory) (cond (eqb (o .code) 0) (x .counted ++ (givenTree k ∷ [])) (x .counted))) (tree-carried (x .words) (x .memory) s k)
+next-seen (lines-tree f64 f32 ls t s u v) x =
+    let k = lineColumns f64 f32 ls t in
+    let o = linesOf (converterOf (x .words)) (x .memory) s u v k .called in
+    ap (λ (c : Converter). standing c (o .memory) (cond (eqb (o .code) 0) (x .counted ++ (givenTree k ∷ [])) (x .counted))) (lines-carried (x .words) (x .memory) s u v k)
 next-seen (symbol t address size name) x =
     let o = symbolOf (converterOf (x .words)) (x .memory) t address size name in
     ap (λ (c : Converter). standing c (o .memory) (cond (eqb (o .code) 0) (x .counted ++ (symbol-row (symbolRow t address size name) ∷ [])) (x .counted)))

@@ -10,11 +10,12 @@ use Rattle.model.specs.Basics.{_∈_}
 use Rattle.model.specs.Rows.{MAX, Given, symbol-row}
 use Rattle.writer.specs.Calls.{symbolRow}
 use Rattle.steps.specs.Words.{Memory}
-use Rattle.reopened.specs.Lists.{Call, tree, symbol, write, givenTree, Typed}
+use Rattle.line_rows.specs.Lines.{lineColumns}
+use Rattle.reopened.specs.Lists.{Call, tree, lines-tree, symbol, write, givenTree, Typed}
 use Rattle.reopened.specs.Demand3.{Reopened}
 use Rattle.exports.specs.Words.{yes}
 use Rattle.exports.specs.Record.{Bytes}
-use Rattle.exports.specs.Writing.{Left, beginCall, treeCall, symbolCall, LeftFile, serializeCall}
+use Rattle.exports.specs.Writing.{Left, beginCall, treeCall, linesCall, symbolCall, LeftFile, serializeCall}
 
 -- where a list stands: the record's words and the tables as the call before left them, and the calls accepted since the beginning
 pub record Standing : Type 0 where
@@ -28,6 +29,7 @@ after o g x = record { words = o .words; memory = o .memory; counted = cond (eqb
 
 unfoldable pub next : Call → Standing → Standing
 next (tree k s) x = after (treeCall (x .words) (x .memory) s k) (givenTree k) x
+next (lines-tree f64 f32 ls t s u v) x = after (linesCall (x .words) (x .memory) s u v (lineColumns f64 f32 ls t) .tree) (givenTree (lineColumns f64 f32 ls t)) x
 next (symbol t address size name) x = after (symbolCall (x .words) (x .memory) t address size name) (symbol-row (symbolRow t address size name)) x
 next (write output) x = x
 

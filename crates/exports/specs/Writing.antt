@@ -11,6 +11,7 @@ use Rattle.rows.specs.declared.OptionalPart.{OptionalPart}
 use Rattle.steps.specs.Words.{Memory}
 use Rattle.steps.specs.declared.Converter.{Converter}
 use Rattle.writer.specs.Calls.{Called, beginOf, treeOf, symbolOf}
+use Rattle.line_rows.specs.Calls.{LinesCalled, linesOf}
 use Rattle.serialize.specs.File.{Wrote, serializeOf}
 use Rattle.exports.specs.Words.{stored, yes}
 use Rattle.exports.specs.Record.{converterOf, wordsOf}
@@ -40,6 +41,18 @@ beginCall r id arch f s m =
 
 unfoldable pub treeCall : List ℕ → Memory → List ℕ → Columns → Left
 treeCall r m s k = leaves r (treeOf (converterOf r) m s k)
+
+-- a tree whose line rows are one lent list: what a tree call leaves, and the memory that the line rows are unpacked into
+pub record LinesLeft : Type 0 where
+  pub tree : Left
+  pub unpacked64 : List ℕ
+  pub unpacked32 : List ℕ
+
+abbrev pub linesLeave : List ℕ → LinesCalled → LinesLeft
+linesLeave r o = record { tree = leaves r (o .called); unpacked64 = o .unpacked64; unpacked32 = o .unpacked32 }
+
+unfoldable pub linesCall : List ℕ → Memory → List ℕ → List ℕ → List ℕ → Columns → LinesLeft
+linesCall r m s u v k = linesLeave r (linesOf (converterOf r) m s u v k)
 
 -- a symbol's name, where it is named
 abbrev pub nameAt : ℕ → ℕ → ℕ → OptionalPart

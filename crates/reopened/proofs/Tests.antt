@@ -17,7 +17,9 @@ use Rattle.model.proofs.Spans.{∈-elim}
 use Rattle.model.proofs.Chains.{false-true, both-true}
 use Rattle.writer.specs.Calls.{treeOf, symbolOf}
 use Rattle.serialize.specs.File.{serializeOf}
-use Rattle.reopened.specs.Lists.{Call, tree, symbol, write, Standing, next, run, Typed}
+use Rattle.line_rows.specs.Lines.{lineColumns}
+use Rattle.line_rows.specs.Calls.{linesOf}
+use Rattle.reopened.specs.Lists.{Call, tree, lines-tree, symbol, write, Standing, next, run, Typed}
 use Rattle.reopened.specs.Demand3.{Nested, Premises}
 
 -- ── Tests of a list ──
@@ -57,6 +59,7 @@ module _ {A : Type 0} (p : A → Bool) where
 
 abbrev pub number-of : Call → Standing → ℕ
 number-of (tree k s) r = treeOf (r .converter) (r .memory) s k .code
+number-of (lines-tree f64 f32 ls t s u v) r = linesOf (r .converter) (r .memory) s u v (lineColumns f64 f32 ls t) .called .code
 number-of (symbol t address size name) r = symbolOf (r .converter) (r .memory) t address size name .code
 number-of (write output) r = serializeOf (r .converter) (r .memory) output .code
 
@@ -80,12 +83,14 @@ small-words (w ∷ t) e (suc i) = small-words t (both-true (leb w MAX) (every? (
 
 unfoldable pub typed? : Call → Bool
 typed? (tree k s) = every? (λ w. leb w MAX) (k .functions32)
+typed? (lines-tree f64 f32 ls t s u v) = every? (λ w. leb w MAX) f32
 typed? (symbol t address size name) = true
 typed? (write output) = true
 
 one-typed : (k : Call) → typed? k ≡ true → Typed k
 unfolding typed?
 one-typed (tree k s) e = small-words (k .functions32) e
+one-typed (lines-tree f64 f32 ls t s u v) e = small-words f32 e
 one-typed (symbol t address size name) e = tt
 one-typed (write output) e = tt
 

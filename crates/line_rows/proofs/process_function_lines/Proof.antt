@@ -46,7 +46,8 @@ use Rattle.rows.proofs.LineRow as T
 use Rattle.steps.specs.declared.Converter.{Converter}
 use Rattle.steps.proofs.Converter as TC
 use Rattle.steps.proofs.Converter.Laws as TC′
-use Rattle.writer.specs.Calls.{called, memory}
+use Rattle.steps.specs.Words.{memory}
+use Rattle.writer.specs.Calls.{called}
 use Rattle.writer.specs.declared.calls.Answer.{Answer}
 use Rattle.writer.proofs.calls.Answer as TA
 use Rattle.writer.proofs.calls.Answer.Laws as TA′

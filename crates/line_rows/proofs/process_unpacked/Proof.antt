@@ -2,7 +2,8 @@
 use mathlib.Core.Path.{sym}
 use native.Mathlib.Omega.{arith}
 use lib.Seq.{length-take-le}
-use Rattle.writer.specs.Calls.{called, memory}
+use Rattle.steps.specs.Words.{memory}
+use Rattle.writer.specs.Calls.{called}
 use Rattle.line_rows.proofs.Entry.{unpacked-taken, unpacked-refused}
 use borrow.Author.Needs.{needs}
 use Rattle.line_rows.proofs.process_unpacked.Statement.{statement}
