@@ -171,9 +171,11 @@ pub(crate) fn process_lines(
     while j < lines {
         let line = rows::line_row(lines64, lines32, first + j as usize);
         let b = rows::line_boundaries(line.address, line.has_size, line.size);
+        let start = b.start;
+        let end = b.end;
         let cut = (line.address % 4294967296) as u32;
         if below <= cut {
-            call = find_call_location(s, calls, count, call, b.start);
+            call = find_call_location(s, calls, count, call, start);
             let located = locate_line(
                 now,
                 string_bytes,
@@ -187,8 +189,7 @@ pub(crate) fn process_lines(
             );
             now = located.state;
             let location = located.location;
-            let end = b.end;
-            let mut address = b.start;
+            let mut address = start;
             let stop = loop {
                 let t = take_turn(
                     now,

@@ -201,9 +201,9 @@ fn tree(
     let at_text = at_lines32 + l * 56;
     let mut functions64 = [0u64; 256];
     let mut functions32 = [0u32; 1024];
-    let mut lines64 = [0u64; 384];
-    let mut lines32 = [0u32; 1792];
-    let mut scratch = [0u32; 1024];
+    let mut lines64 = [0u64; 768];
+    let mut lines32 = [0u32; 3584];
+    let mut scratch = [0u32; 1536];
     read_numbers(&mut functions64, f * 2, record, 16);
     read_words(&mut functions32, f * 8, record, at_functions32);
     read_numbers(&mut lines64, l * 3, record, at_lines64);
@@ -272,7 +272,7 @@ fn write(
     ranges: &[u32],
 ) -> Replay {
     let converter = now.converter;
-    let mut out = [0u8; 8192];
+    let mut out = [0u8; 16384];
     let written = serialize::serialize(
         converter,
         string_bytes,
@@ -427,7 +427,7 @@ fn main() {
     if fd < 0 {
         return;
     }
-    let mut string_bytes = [0u8; 8192];
+    let mut string_bytes = [0u8; 16384];
     let mut strings = [0u32; 4096];
     let mut files = [0u32; 4096];
     let mut functions = [0u32; 4096];

@@ -20,13 +20,13 @@ use Rattle.writer.proofs.lines.process_lines.Statement.{statement}
 use Rattle.writer.proofs.lines.process_lines.Tie as tie
 
 abbrev Inv-loop2 : tie.InvT-loop2
-Inv-loop2 string-bytes strings files call-locations₀ ranges₀ s₀ functions64 functions32 lines64 lines32 text i first function-idx current calls count at spans comp-dir lines now₀ call taken₀ below j cut location end address₀ call-locations ranges s now taken address =
+Inv-loop2 string-bytes strings files call-locations₀ ranges₀ s₀ functions64 functions32 lines64 lines32 text i first function-idx current calls count at spans comp-dir lines now₀ call taken₀ below j start end cut location address₀ call-locations ranges s now taken address =
     (length call-locations ≡ length call-locations₀)
     × (length ranges ≡ length ranges₀)
     × ((X : Setup) (g : List ℕ) → Inner input (over-words X) at spans location end s₀ taken₀ address₀ (words now₀ string-bytes strings files g call-locations₀ ranges₀) s taken address (words now string-bytes strings files g call-locations ranges))
 
 abbrev μ-loop2 : tie.MeasureT-loop2
-μ-loop2 string-bytes strings files call-locations₀ ranges₀ s₀ functions64 functions32 lines64 lines32 text i first function-idx current calls count at spans comp-dir lines now₀ call taken₀ below j cut location end address₀ call-locations ranges s now taken address =
+μ-loop2 string-bytes strings files call-locations₀ ranges₀ s₀ functions64 functions32 lines64 lines32 text i first function-idx current calls count at spans comp-dir lines now₀ call taken₀ below j start end cut location address₀ call-locations ranges s now taken address =
     spans - taken
 
 abbrev Inv-loop : tie.InvT-loop

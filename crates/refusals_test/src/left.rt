@@ -1,0 +1,382 @@
+// What a call leaves in lent memory and in the record, held against a copy made before it.
+use crate::calls::Done;
+use crate::cases::Case;
+use crate::cases::TREE;
+use crate::cases::WRITE;
+use crate::words::both;
+use crate::words::is_left;
+use crate::words::is_left_bytes;
+use crate::words::keep;
+use crate::words::keep_bytes;
+use crate::words::place;
+use crate::words::same_bytes;
+use crate::words::wide;
+use crate::words::word;
+use steps::Converter;
+use steps::LastAddr;
+use steps::State;
+
+pub(crate) fn keep_tables(
+    copy: &mut [u32],
+    string_bytes: &[u8],
+    strings: &[u32],
+    files: &[u32],
+    functions: &[u32],
+    call_locations: &[u32],
+    ranges: &[u32],
+) {
+    keep_bytes(copy, 0, string_bytes);
+    keep(copy, 64, strings);
+    keep(copy, 160, files);
+    keep(copy, 224, functions);
+    keep(copy, 288, call_locations);
+    keep(copy, 352, ranges);
+}
+
+// All that a case lends and that a call may change.
+pub(crate) fn keep_all(
+    copy: &mut [u32],
+    string_bytes: &[u8],
+    strings: &[u32],
+    files: &[u32],
+    functions: &[u32],
+    call_locations: &[u32],
+    ranges: &[u32],
+    scratch: &[u32],
+    out: &[u8],
+) {
+    keep_tables(
+        copy,
+        string_bytes,
+        strings,
+        files,
+        functions,
+        call_locations,
+        ranges,
+    );
+    keep(copy, 448, scratch);
+    keep_bytes(copy, 480, out);
+}
+
+// Whether the tables are as in the copy.
+fn tables_same(
+    copy: &[u32],
+    string_bytes: &[u8],
+    strings: &[u32],
+    files: &[u32],
+    functions: &[u32],
+    call_locations: &[u32],
+    ranges: &[u32],
+) -> bool {
+    let text = is_left_bytes(copy, 0, string_bytes, 0);
+    let strings = is_left(copy, 64, strings, 0);
+    let files = is_left(copy, 160, files, 0);
+    let functions = is_left(copy, 224, functions, 0);
+    let calls = is_left(copy, 288, call_locations, 0);
+    let ranges = is_left(copy, 352, ranges, 0);
+    both(
+        text,
+        both(strings, both(files, both(functions, both(calls, ranges)))),
+    )
+}
+
+// Whether what was lent of the tables is 0, and what wasn't is as in the copy.
+pub(crate) fn tables_zero(
+    c: Case,
+    copy: &[u32],
+    string_bytes: &[u8],
+    strings: &[u32],
+    files: &[u32],
+    functions: &[u32],
+    call_locations: &[u32],
+    ranges: &[u32],
+) -> bool {
+    let text = is_left_bytes(copy, 0, string_bytes, c.string_bytes as usize);
+    let strings = is_left(copy, 64, strings, c.strings as usize);
+    let files = is_left(copy, 160, files, c.files as usize);
+    let functions = is_left(copy, 224, functions, c.functions as usize);
+    let calls = is_left(copy, 288, call_locations, c.call_locations as usize);
+    let ranges = is_left(copy, 352, ranges, c.ranges as usize);
+    both(
+        text,
+        both(strings, both(files, both(functions, both(calls, ranges)))),
+    )
+}
+
+// The record
+
+fn last_of(a: LastAddr) -> u64 {
+    match a {
+        LastAddr::Unset => 4294967296,
+        LastAddr::Set(n) => n as u64,
+    }
+}
+
+fn same_state(a: State, b: State) -> bool {
+    if a.string_bytes != b.string_bytes {
+        return false;
+    }
+    if a.strings != b.strings {
+        return false;
+    }
+    if a.files != b.files {
+        return false;
+    }
+    if a.functions != b.functions {
+        return false;
+    }
+    if a.call_locations != b.call_locations {
+        return false;
+    }
+    if a.ranges != b.ranges {
+        return false;
+    }
+    let end = a.last_addr;
+    let other = b.last_addr;
+    last_of(end) == last_of(other)
+}
+
+fn same_bool(a: bool, b: bool) -> bool {
+    if a {
+        return b;
+    }
+    !b
+}
+
+// What the converter was begun with.
+fn same_begun(a: Converter, b: Converter) -> bool {
+    let id = a.debug_id;
+    let other = b.debug_id;
+    let same = same_bytes(&id, &other);
+    let functions = same_bool(a.undecorate_functions, b.undecorate_functions);
+    let symbols = same_bool(a.undecorate_symbols, b.undecorate_symbols);
+    both(same, both(a.arch == b.arch, both(functions, symbols)))
+}
+
+fn same_record(a: Converter, b: Converter) -> bool {
+    let begun = same_begun(a, b);
+    let open = same_bool(a.open, b.open);
+    let state = same_state(a.state, b.state);
+    both(begun, both(open, state))
+}
+
+pub(crate) fn unused() -> State {
+    State {
+        string_bytes: 0,
+        strings: 0,
+        files: 0,
+        functions: 0,
+        call_locations: 0,
+        ranges: 0,
+        last_addr: LastAddr::Unset,
+    }
+}
+
+// After 17: what it was begun with, closed, and nothing in use.
+fn is_closed(a: Converter, b: Converter) -> bool {
+    let begun = same_begun(a, b);
+    let state = same_state(b.state, unused());
+    both(begun, both(!b.open, state))
+}
+
+pub(crate) fn closed_record(c: Case, converter: Converter) -> Converter {
+    let id = converter.debug_id;
+    let state = converter.state;
+    Converter {
+        debug_id: id,
+        arch: converter.arch,
+        undecorate_functions: converter.undecorate_functions,
+        undecorate_symbols: converter.undecorate_symbols,
+        open: !c.closed,
+        state,
+    }
+}
+
+// Whether the output begins with the file, and goes on as in the copy.
+fn is_written(copy: &[u32], out: &[u8], file: &[u8]) -> bool {
+    let mut i = 0;
+    while i < out.len() {
+        if i < file.len() {
+            if out[i] != file[i] {
+                return false;
+            }
+        } else {
+            if wide(out[i]) != word(copy, place(480, i)) {
+                return false;
+            }
+        }
+        i += 1;
+    }
+    true
+}
+
+// An accepted call. After a tree scratch is 0; a write leaves the tables and the record as they were, and the worked file at the front of the output.
+fn is_accepted(
+    c: Case,
+    before: Converter,
+    done: Done,
+    copy: &[u32],
+    string_bytes: &[u8],
+    strings: &[u32],
+    files: &[u32],
+    functions: &[u32],
+    call_locations: &[u32],
+    ranges: &[u32],
+    scratch: &[u32],
+    out: &[u8],
+    file: &[u8],
+) -> bool {
+    if c.call == TREE {
+        let zero = is_left(copy, 448, scratch, c.scratch as usize);
+        let kept = is_left_bytes(copy, 480, out, 0);
+        return both(zero, both(kept, both(done.same, done.converter.open)));
+    }
+    let scratch = is_left(copy, 448, scratch, 0);
+    if c.call != WRITE {
+        let kept = is_left_bytes(copy, 480, out, 0);
+        return both(scratch, both(kept, both(done.same, done.converter.open)));
+    }
+    let written = is_written(copy, out, file);
+    let record = same_record(before, done.converter);
+    let tables = tables_same(
+        copy,
+        string_bytes,
+        strings,
+        files,
+        functions,
+        call_locations,
+        ranges,
+    );
+    both(scratch, both(written, both(record, tables)))
+}
+
+// A refused call: nothing is changed.
+fn is_refused(
+    before: Converter,
+    done: Done,
+    copy: &[u32],
+    string_bytes: &[u8],
+    strings: &[u32],
+    files: &[u32],
+    functions: &[u32],
+    call_locations: &[u32],
+    ranges: &[u32],
+    scratch: &[u32],
+    out: &[u8],
+) -> bool {
+    let tables = tables_same(
+        copy,
+        string_bytes,
+        strings,
+        files,
+        functions,
+        call_locations,
+        ranges,
+    );
+    let scratch = is_left(copy, 448, scratch, 0);
+    let out = is_left_bytes(copy, 480, out, 0);
+    let record = same_record(before, done.converter);
+    both(tables, both(scratch, both(out, both(record, done.same))))
+}
+
+// How much scratch a call is lent.
+fn lent_scratch(c: Case) -> usize {
+    if c.call == TREE {
+        return c.scratch as usize;
+    }
+    0
+}
+
+// 17: all that was lent of tables and scratch is 0, and the converter is closed.
+fn is_overfull(
+    c: Case,
+    before: Converter,
+    done: Done,
+    copy: &[u32],
+    string_bytes: &[u8],
+    strings: &[u32],
+    files: &[u32],
+    functions: &[u32],
+    call_locations: &[u32],
+    ranges: &[u32],
+    scratch: &[u32],
+    out: &[u8],
+) -> bool {
+    let tables = tables_zero(
+        c,
+        copy,
+        string_bytes,
+        strings,
+        files,
+        functions,
+        call_locations,
+        ranges,
+    );
+    let scratch = is_left(copy, 448, scratch, lent_scratch(c));
+    let out = is_left_bytes(copy, 480, out, 0);
+    let record = is_closed(before, done.converter);
+    both(tables, both(scratch, both(out, both(record, done.same))))
+}
+
+pub(crate) fn is_as_said(
+    c: Case,
+    before: Converter,
+    done: Done,
+    copy: &[u32],
+    string_bytes: &[u8],
+    strings: &[u32],
+    files: &[u32],
+    functions: &[u32],
+    call_locations: &[u32],
+    ranges: &[u32],
+    scratch: &[u32],
+    out: &[u8],
+    file: &[u8],
+) -> bool {
+    if done.code == 0 {
+        return is_accepted(
+            c,
+            before,
+            done,
+            copy,
+            string_bytes,
+            strings,
+            files,
+            functions,
+            call_locations,
+            ranges,
+            scratch,
+            out,
+            file,
+        );
+    }
+    if done.code == 17 {
+        return is_overfull(
+            c,
+            before,
+            done,
+            copy,
+            string_bytes,
+            strings,
+            files,
+            functions,
+            call_locations,
+            ranges,
+            scratch,
+            out,
+        );
+    }
+    is_refused(
+        before,
+        done,
+        copy,
+        string_bytes,
+        strings,
+        files,
+        functions,
+        call_locations,
+        ranges,
+        scratch,
+        out,
+    )
+}
