@@ -57,7 +57,7 @@ cacheWords c =
     c .files ∷ c .«num_files» ∷ c .functions ∷ c .«num_functions» ∷ c .«source_locations» ∷ c .«num_source_locations» ∷ c .ranges ∷ c .«num_ranges» ∷ c .strings
     ∷ c .«string_bytes» ∷ []
 
--- "Counts are the words cut to 32 bits"
+-- "counts are the words cut to 32 bits"
 abbrev pub countAt : List ℕ → ℕ → ℕ
 countAt t j = getD t j 0 % 4294967296
 
@@ -101,7 +101,7 @@ walkWords k = k .first ∷ k .current ∷ k .steps ∷ []
 unfoldable pub walkOf : List ℕ → SourceLocations
 walkOf k = cond (ltb (length k) 3) (walkFrom max32) (record { first = getD k 0 0; current = getD k 1 0; steps = getD k 2 0 })
 
--- "answers the index it begins at, or MAX"
+-- "Walk answers the index it begins at, or MAX"
 unfoldable pub walkCall : List ℕ → List ℕ → ℕ → List ℕ → Filled
 walkCall s t a k = filled (walkAt s (cacheOf t) a .current) (stored (walkWords (walkAt s (cacheOf t) a)) k)
 
@@ -171,11 +171,11 @@ functionCall s i t = answered functionRow (gotFunction s i) t
 unfoldable pub fileCall : List ℕ → ℕ → List ℕ → Filled
 fileCall s i t = answered fileRow (gotFile s i) t
 
--- "1 word, the index from which on to look (0 at first; a cursor of no words is at the end)"
+-- "the cursor is 1 word, the index from which on to look (0 at first; a cursor of no words is at the end)"
 unfoldable pub indexOf : List ℕ → ℕ
 indexOf k = cond (eqb (length k) 0) max32 (getD k 0 0)
 
--- "0 whether there is one, 1 index, 2-5 the function"
+-- "0 whether there is one, 1 index, 2-5 the function or 2-7 the file"
 abbrev pub nextFunctionWords : NextFunction → List ℕ
 nextFunctionWords x = 1 ∷ x .index ∷ functionWords (x .function)
 

@@ -33,7 +33,7 @@ kept n c r = cond (eqb n 0 || eqb n 17) (stored (wordsOf c) r) r
 abbrev pub leaves : List ℕ → Called → Left
 leaves r o = left (o .code) (kept (o .code) (o .converter) r) (o .memory) (o .scratch)
 
--- "debug_id: its first 32 bytes; missing ones are 0. Answers 0, or 19 where the record has fewer than 20 words (then nothing changes)"
+-- "debug_id: its first 32 bytes; missing ones are 0. Begin answers 0, or 19 where the record has fewer than 20 words (then nothing changes)"
 unfoldable pub beginCall : List ℕ → List ℕ → ℕ → ℕ → ℕ → Memory → Left
 beginCall r id arch f s m =
     let b = beginOf (bytesAt 32 id 0) arch (yes f) (yes s) m in
@@ -72,7 +72,7 @@ pub record LeftFile : Type 0 where
 abbrev pub leftFile : ℕ → List ℕ → List ℕ → LeftFile
 leftFile n o l = record { code = n; output = o; len = l }
 
--- "len[0] = the file's length where it answers 0; else len is untouched"
+-- "Writing stores in len[0] the file's length where it answers 0; else len is untouched"
 unfoldable pub lenWords : ℕ → ℕ → List ℕ → List ℕ
 lenWords n len l = cond (eqb n 0) (stored (len ∷ []) l) l
 
