@@ -22,6 +22,7 @@
 #ifndef SYMCACHE_H
 #define SYMCACHE_H
 
+#include <stdbool.h>
 #include <stddef.h>
 #include <stdint.h>
 
@@ -232,6 +233,51 @@ uint32_t symcache_process_symbolic_function(
     const uint32_t *SYMCACHE_RESTRICT functions32, size_t functions32_len,
     const uint64_t *SYMCACHE_RESTRICT lines64, size_t lines64_len,
     const uint32_t *SYMCACHE_RESTRICT lines32, size_t lines32_len,
+    const uint8_t *SYMCACHE_RESTRICT text, size_t text_len);
+
+/* A part of the lent text; one that may be absent; and a line row. */
+struct symcache_text_part {
+    uint32_t start;
+    uint32_t len;
+};
+
+struct symcache_optional_part {
+    bool present;
+    struct symcache_text_part part;
+};
+
+struct symcache_line_row {
+    uint64_t address;
+    bool has_size; /* without one it covers one address */
+    uint64_t size;
+    uint64_t number;
+    struct symcache_text_part name;
+    struct symcache_text_part directory;
+    struct symcache_optional_part srcsrv_name;
+    struct symcache_optional_part srcsrv_dir;
+    struct symcache_optional_part revision;
+};
+
+/*
+ * The same tree call with its line rows as one list of rows. They are unpacked into memory that is
+ * lent for it: SYMCACHE_LINES64_WORDS and SYMCACHE_LINES32_WORDS for each line row; less is
+ * SYMCACHE_SCRATCH_TOO_SMALL (16). That memory counts as scratch: its content before does not
+ * matter, all of it is zero after 0 and after 17, and another refusal changes none of it.
+ */
+uint32_t symcache_process_symbolic_function_lines(
+    uint32_t *SYMCACHE_RESTRICT record, size_t record_len,
+    uint8_t *SYMCACHE_RESTRICT string_bytes, size_t string_bytes_len,
+    uint32_t *SYMCACHE_RESTRICT strings, size_t strings_len,
+    uint32_t *SYMCACHE_RESTRICT files, size_t files_len,
+    uint32_t *SYMCACHE_RESTRICT functions, size_t functions_len,
+    uint32_t *SYMCACHE_RESTRICT call_locations, size_t call_locations_len,
+    uint32_t *SYMCACHE_RESTRICT ranges, size_t ranges_len,
+    uint32_t *SYMCACHE_RESTRICT scratch, size_t scratch_len,
+    uint64_t *SYMCACHE_RESTRICT unpacked64, size_t unpacked64_len,
+    uint32_t *SYMCACHE_RESTRICT unpacked32, size_t unpacked32_len,
+    const uint64_t *SYMCACHE_RESTRICT functions64, size_t functions64_len,
+    const uint32_t *SYMCACHE_RESTRICT functions32, size_t functions32_len,
+    const struct symcache_line_row *SYMCACHE_RESTRICT lines, size_t lines_len,
     const uint8_t *SYMCACHE_RESTRICT text, size_t text_len);
 
 /*

@@ -4,7 +4,8 @@ use std::fmt;
 
 use crate::debuginfo::{Function, Symbol};
 use crate::ffi::{self, TablesMut, TablesRef};
-use crate::{Columns, Error, Rows};
+use crate::rows::{LINES32, LINES64};
+use crate::{Columns, Error, LineRows, Rows};
 
 /// The most rows that a table can have: 16,777,216.
 pub const MAX_ROWS: usize = 1 << 24;
@@ -199,6 +200,8 @@ impl ConverterBuilder {
             record: [0; ffi::RECORD_WORDS],
             tables: Tables::new(capacity),
             scratch: Vec::new(),
+            unpacked64: Vec::new(),
+            unpacked32: Vec::new(),
             rows: Rows::new(),
             kept: self.keep_calls.then(Vec::new),
         };
@@ -278,6 +281,7 @@ enum Call {
 #[derive(Clone, Copy)]
 enum Given<'a> {
     Tree(Columns<'a>),
+    Lines(LineRows<'a>),
     Symbol {
         name: Option<&'a [u8]>,
         address: u64,
@@ -319,6 +323,8 @@ pub struct Converter {
     record: [u32; ffi::RECORD_WORDS],
     tables: Tables,
     scratch: Vec<u32>,
+    unpacked64: Vec<u64>,
+    unpacked32: Vec<u32>,
     rows: Rows,
     kept: Option<Vec<Call>>,
 }
@@ -407,6 +413,19 @@ impl Converter {
         scratch: &mut [u32],
     ) -> Result<(), Error> {
         self.make(Given::Tree(*columns), scratch)
+    }
+
+    /// Adds a tree whose line rows are a list of rows: the same call as [`Converter::process_rows`]
+    /// with the columns that the rows stand for, and refused as that one.
+    pub fn process_line_rows(&mut self, rows: &LineRows<'_>) -> Result<(), Error> {
+        let words = rows.scratch_words();
+        let mut scratch = std::mem::take(&mut self.scratch);
+        if scratch.len() < words {
+            scratch.resize(words, 0);
+        }
+        let result = self.make(Given::Lines(*rows), &mut scratch[..words]);
+        self.scratch = scratch;
+        result
     }
 
     /// Adds a symbol. One without a name, or above `u32::MAX`, changes nothing.
@@ -547,6 +566,24 @@ impl Converter {
             Given::Tree(columns) => {
                 ffi::process_symbolic_function(&mut self.record, tables, scratch, &columns)
             }
+            Given::Lines(rows) => {
+                // As many words as the line rows are unpacked to.
+                let (words64, words32) = (rows.lines.len() * LINES64, rows.lines.len() * LINES32);
+                if self.unpacked64.len() < words64 {
+                    self.unpacked64.resize(words64, 0);
+                }
+                if self.unpacked32.len() < words32 {
+                    self.unpacked32.resize(words32, 0);
+                }
+                ffi::process_symbolic_function_lines(
+                    &mut self.record,
+                    tables,
+                    scratch,
+                    &mut self.unpacked64[..words64],
+                    &mut self.unpacked32[..words32],
+                    &rows,
+                )
+            }
             Given::Symbol {
                 name,
                 address,
@@ -575,6 +612,7 @@ impl Given<'_> {
     fn scratch_words(&self) -> usize {
         match self {
             Given::Tree(columns) => columns.scratch_words(),
+            Given::Lines(rows) => rows.scratch_words(),
             Given::Symbol { .. } => 0,
         }
     }
@@ -582,6 +620,7 @@ impl Given<'_> {
     fn to_kept(self) -> Call {
         match self {
             Given::Tree(columns) => Call::Tree(Rows::copied(&columns)),
+            Given::Lines(rows) => Call::Tree(Rows::copied(&rows.to_rows().columns())),
             Given::Symbol {
                 name,
                 address,

@@ -96,6 +96,36 @@ mod c {
             text: *const u8,
             text_len: usize,
         ) -> u32;
+        pub fn symcache_process_symbolic_function_lines(
+            record: *mut u32,
+            record_len: usize,
+            string_bytes: *mut u8,
+            string_bytes_len: usize,
+            strings: *mut u32,
+            strings_len: usize,
+            files: *mut u32,
+            files_len: usize,
+            functions: *mut u32,
+            functions_len: usize,
+            call_locations: *mut u32,
+            call_locations_len: usize,
+            ranges: *mut u32,
+            ranges_len: usize,
+            scratch: *mut u32,
+            scratch_len: usize,
+            unpacked64: *mut u64,
+            unpacked64_len: usize,
+            unpacked32: *mut u32,
+            unpacked32_len: usize,
+            functions64: *const u64,
+            functions64_len: usize,
+            functions32: *const u32,
+            functions32_len: usize,
+            lines: *const crate::LineRow,
+            lines_len: usize,
+            text: *const u8,
+            text_len: usize,
+        ) -> u32;
         pub fn symcache_process_symbolic_symbol(
             record: *mut u32,
             record_len: usize,
@@ -293,6 +323,51 @@ pub fn process_symbolic_function(
             columns.lines32.len(),
             columns.text.as_ptr(),
             columns.text.len(),
+        )
+    }
+}
+
+pub fn process_symbolic_function_lines(
+    record: &mut [u32],
+    tables: TablesMut<'_>,
+    scratch: &mut [u32],
+    unpacked64: &mut [u64],
+    unpacked32: &mut [u32],
+    rows: &crate::LineRows<'_>,
+) -> u32 {
+    // SAFETY: each pointer and length comes from one reference to a slice that lives through the
+    // call. Written slices come from `&mut`, so nothing overlaps them. `LineRow` and its parts are
+    // `repr(C)`, with the fields of the library's.
+    unsafe {
+        c::symcache_process_symbolic_function_lines(
+            record.as_mut_ptr(),
+            record.len(),
+            tables.string_bytes.as_mut_ptr(),
+            tables.string_bytes.len(),
+            tables.strings.as_mut_ptr(),
+            tables.strings.len(),
+            tables.files.as_mut_ptr(),
+            tables.files.len(),
+            tables.functions.as_mut_ptr(),
+            tables.functions.len(),
+            tables.call_locations.as_mut_ptr(),
+            tables.call_locations.len(),
+            tables.ranges.as_mut_ptr(),
+            tables.ranges.len(),
+            scratch.as_mut_ptr(),
+            scratch.len(),
+            unpacked64.as_mut_ptr(),
+            unpacked64.len(),
+            unpacked32.as_mut_ptr(),
+            unpacked32.len(),
+            rows.functions64.as_ptr(),
+            rows.functions64.len(),
+            rows.functions32.as_ptr(),
+            rows.functions32.len(),
+            rows.lines.as_ptr(),
+            rows.lines.len(),
+            rows.text.as_ptr(),
+            rows.text.len(),
         )
     }
 }

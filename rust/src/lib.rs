@@ -79,4 +79,4 @@ pub use error::Error;
 pub use lookup::{
     File, Files, Function, Functions, Layout, Section, SourceLocation, SourceLocations, SymCache,
 };
-pub use rows::{Columns, Rows};
+pub use rows::{Columns, LineRow, LineRows, OptionalPart, Rows, TextPart};

@@ -7,8 +7,10 @@ use crate::Error;
 
 /// 32-bit words a function row.
 const FUNCTIONS32: usize = 8;
+/// 64-bit words a line row.
+pub(crate) const LINES64: usize = 3;
 /// 32-bit words a line row.
-const LINES32: usize = 14;
+pub(crate) const LINES32: usize = 14;
 /// Words of scratch memory for each function and line row.
 const SCRATCH: usize = 4;
 
@@ -40,6 +42,92 @@ impl Columns<'_> {
         let functions = self.functions32.len() / FUNCTIONS32;
         let lines = self.lines32.len() / LINES32;
         SCRATCH * (functions + lines)
+    }
+}
+
+/// A part of the text of [`LineRows`].
+#[repr(C)]
+#[derive(Clone, Copy, Debug, Default, PartialEq, Eq)]
+pub struct TextPart {
+    /// Where it begins.
+    pub start: u32,
+    /// How many bytes it has.
+    pub len: u32,
+}
+
+/// A text that may be absent.
+#[repr(C)]
+#[derive(Clone, Copy, Debug, Default, PartialEq, Eq)]
+pub struct OptionalPart {
+    /// Whether there is one; if not, the part is not looked at.
+    pub present: bool,
+    /// The text.
+    pub part: TextPart,
+}
+
+/// A line row, as the library takes it.
+#[repr(C)]
+#[derive(Clone, Copy, Debug, Default, PartialEq, Eq)]
+pub struct LineRow {
+    /// The first address.
+    pub address: u64,
+    /// Whether it has a size; without one it covers one address.
+    pub has_size: bool,
+    /// The size.
+    pub size: u64,
+    /// The line number.
+    pub number: u64,
+    /// The file's name.
+    pub name: TextPart,
+    /// Its directory.
+    pub directory: TextPart,
+    /// The source server's name.
+    pub srcsrv_name: OptionalPart,
+    /// The source server's directory.
+    pub srcsrv_dir: OptionalPart,
+    /// The source server's revision.
+    pub revision: OptionalPart,
+}
+
+/// A tree as in [`Columns`], but with its line rows as one borrowed list of rows.
+#[derive(Clone, Copy, Debug, Default)]
+pub struct LineRows<'a> {
+    /// As in [`Columns`].
+    pub functions64: &'a [u64],
+    /// As in [`Columns`].
+    pub functions32: &'a [u32],
+    /// The line rows.
+    pub lines: &'a [LineRow],
+    /// The memory that the texts are parts of.
+    pub text: &'a [u8],
+}
+
+impl LineRows<'_> {
+    /// How many words of scratch memory a call with these rows needs.
+    pub fn scratch_words(&self) -> usize {
+        SCRATCH * (self.functions32.len() / FUNCTIONS32 + self.lines.len())
+    }
+
+    /// The same tree in columns.
+    pub fn to_rows(&self) -> Rows {
+        let mut rows = Rows {
+            functions64: self.functions64.to_vec(),
+            functions32: self.functions32.to_vec(),
+            text: self.text.to_vec(),
+            ..Rows::default()
+        };
+        for line in self.lines {
+            rows.lines64.extend([line.address, line.size, line.number]);
+            rows.lines32.push(line.has_size.into());
+            for part in [line.name, line.directory] {
+                rows.lines32.extend([part.start, part.len]);
+            }
+            for text in [line.srcsrv_name, line.srcsrv_dir, line.revision] {
+                rows.lines32
+                    .extend([text.present.into(), text.part.start, text.part.len]);
+            }
+        }
+        rows
     }
 }
 

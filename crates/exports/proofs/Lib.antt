@@ -1,6 +1,7 @@
 pub mod StoreLaws
 pub mod RecordLaws
 pub mod WriteLaws
+pub mod LinesLaws
 pub mod ReadLaws
 pub mod Carried
 pub mod Names

@@ -48,8 +48,11 @@ pub record LinesLeft : Type 0 where
   pub unpacked64 : List ℕ
   pub unpacked32 : List ℕ
 
+abbrev pub linesLeft : Left → List ℕ → List ℕ → LinesLeft
+linesLeft l u v = record { tree = l; unpacked64 = u; unpacked32 = v }
+
 abbrev pub linesLeave : List ℕ → LinesCalled → LinesLeft
-linesLeave r o = record { tree = leaves r (o .called); unpacked64 = o .unpacked64; unpacked32 = o .unpacked32 }
+linesLeave r o = linesLeft (leaves r (o .called)) (o .unpacked64) (o .unpacked32)
 
 unfoldable pub linesCall : List ℕ → Memory → List ℕ → List ℕ → List ℕ → Columns → LinesLeft
 linesCall r m s u v k = linesLeave r (linesOf (converterOf r) m s u v k)

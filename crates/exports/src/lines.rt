@@ -1,0 +1,67 @@
+// A tree whose line rows are one lent list of rows.
+ghost use mathlib.Core.Path.{_≡_};
+ghost use Rattle.steps.specs.Words.{memory};
+ghost use Rattle.line_rows.specs.Lines.{lineColumns};
+ghost use Rattle.exports.specs.Record.{converterOf};
+ghost use Rattle.exports.specs.Writing.{left, kept, linesLeft, linesCall};
+use crate::record::load;
+use crate::record::store_answer;
+use rows::LineRow;
+use steps::Converter;
+use writer::calls::Answer;
+
+// The record as a converter; its words stay.
+fn read_record(record: &mut [u32]) -> Converter
+    ensures { λ r. ⌜ (r ≡ converterOf (now («record» .entry))) × (now («record» .exit) ≡ now («record» .entry)) ⌝ }
+{
+    load(record)
+}
+
+// The number of an answer; its record is stored where the call was accepted or closed.
+fn keep_answer(record: &mut [u32], answer: Answer) -> u32
+    ensures { λ r. ⌜ (r ≡ answer .code) × (now («record» .exit) ≡ kept (answer .code) (answer .converter) (now («record» .entry))) ⌝ }
+{
+    let c = answer.converter;
+    store_answer(record, answer.code, c);
+    answer.code
+}
+
+// 0, or 19, 13, 14, 15, 16, 17. The memory that the line rows are unpacked into (three 64-bit words and fourteen 32-bit words a row) counts as scratch.
+#[no_mangle]
+pub extern "C" fn symcache_process_symbolic_function_lines(
+    record: &mut [u32],
+    string_bytes: &mut [u8],
+    strings: &mut [u32],
+    files: &mut [u32],
+    functions: &mut [u32],
+    call_locations: &mut [u32],
+    ranges: &mut [u32],
+    scratch: &mut [u32],
+    unpacked64: &mut [u64],
+    unpacked32: &mut [u32],
+    functions64: &[u64],
+    functions32: &[u32],
+    lines: &[LineRow],
+    text: &[u8],
+) -> u32
+    ensures { λ r. ⌜ linesLeft (left r (now («record» .exit)) (memory (now («string_bytes» .exit)) (now (strings .exit)) (now (files .exit)) (now (functions .exit)) (now («call_locations» .exit)) (now (ranges .exit))) (now (scratch .exit))) (now (unpacked64 .exit)) (now (unpacked32 .exit)) ≡ linesCall (now («record» .entry)) (memory (now («string_bytes» .entry)) (now (strings .entry)) (now (files .entry)) (now (functions .entry)) (now («call_locations» .entry)) (now (ranges .entry))) (now (scratch .entry)) (now (unpacked64 .entry)) (now (unpacked32 .entry)) (lineColumns (now (functions64 .entry)) (now (functions32 .entry)) (now (lines .entry)) (now (text .entry))) ⌝ }
+{
+    let converter = read_record(&mut *record);
+    let answer = line_rows::process_function_lines(
+        converter,
+        string_bytes,
+        strings,
+        files,
+        functions,
+        call_locations,
+        ranges,
+        scratch,
+        unpacked64,
+        unpacked32,
+        functions64,
+        functions32,
+        lines,
+        text,
+    );
+    keep_answer(record, answer)
+}
