@@ -9,18 +9,18 @@ use lib.Seq.{sets}
 use Rattle.text.specs.declared.leb128.Leb.{Leb}
 use Rattle.text.specs.declared.leb128.Leb.the-variants.{Absent, Number}
 
--- "chop it into 7-bit chunks", "starting with the low order byte": the low seven bits of each byte, least significant first
+-- DWARF 5, section 7.6, in our words: the number is cut into groups of seven bits, which are the low bits of one byte each, the least significant group first
 unfoldable pub leb-value : List ℕ → ℕ
 leb-value [] = 0
 leb-value (b ∷ s) = b % 128 + 128 * leb-value s
 
--- "set the high order bit on each byte except the last"
+-- DWARF 5, section 7.6, in our words: the high bit of a byte is set where another byte follows, and clear in the last one
 unfoldable pub well-formed : List ℕ → Bool
 well-formed [] = false
 well-formed (b ∷ []) = ltb b 128
 well-formed (b ∷ (c ∷ s)) = leb 128 b && well-formed (c ∷ s)
 
--- the standard's algorithm for encoding (appendix C): emit the low seven bits, with the high bit set as long as more come; at most n + 1 bytes
+-- DWARF 5, appendix C, the algorithm that encodes an unsigned number, in our words: emit the low seven bits, with the high bit set as long as more come; here at most n + 1 bytes
 unfoldable pub encoded-in : ℕ → ℕ → List ℕ
 encoded-in zero v = v ∷ []
 encoded-in (suc n) v = cond (ltb v 128) (v ∷ []) ((v % 128 + 128) ∷ encoded-in n (v / 128))
