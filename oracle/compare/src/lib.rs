@@ -4,6 +4,7 @@ pub mod case;
 pub mod ffi;
 pub mod generate;
 pub mod memory;
+pub mod ours;
 pub mod reader;
 
 use oracle::claims::take_apart;

@@ -41,10 +41,18 @@ pub struct Found {
     pub k13: Vec<Broken>,
 }
 
+/// Trees that are accepted, and for which the original's sort of inlinee ranges has a single outcome.
+fn is_settled(calls: &[Call]) -> bool {
+    calls.iter().all(|c| match c {
+        Call::Tree(t) => tree_refusal(t).is_none() && ranges_in_domain(t),
+        _ => true,
+    })
+}
+
 /// Whether premise `i` of demand 3 alone is broken, and the original's file fails demand 3.
 pub fn breaks_demand3(i: usize, begin: &Begin, calls: &[Call]) -> bool {
     violations(calls) == 1 << i
-        && calls.iter().all(|c| !matches!(c, Call::Tree(t) if tree_refusal(t).is_some()))
+        && is_settled(calls)
         && run(begin, calls, Mode::Force3).is_err_and(|f| f.claim == "demand 3")
 }
 
@@ -68,6 +76,9 @@ pub fn search(count: u64, seed: u64) -> Found {
             mutate(&mut r, &mut calls);
             // Refused trees only dilute.
             calls.retain(|c| !matches!(c, Call::Tree(t) if tree_refusal(t).is_some()));
+            if !is_settled(&calls) {
+                continue;
+            }
             let bad = violations(&calls);
             if bad.count_ones() == 1 {
                 let fails = run(&begin, &calls, Mode::Force3).is_err_and(|f| f.claim == "demand 3");

@@ -91,6 +91,16 @@ pub fn shrink(begin: &Begin, calls: &[Call], keep: &dyn Fn(&Begin, &[Call]) -> b
                     break 'search;
                 }
             }
+            // Without some addresses: what lies above them comes down.
+            for from in boundaries(&calls) {
+                for d in (0..33).rev().map(|k| 1u64 << k) {
+                    if let Some(c) = without(&calls, from, d) {
+                        if try_one(c) {
+                            break 'search;
+                        }
+                    }
+                }
+            }
             for i in 0..calls.len() {
                 match &calls[i] {
                     Call::Write => {}
@@ -188,6 +198,14 @@ pub fn shrink(begin: &Begin, calls: &[Call], keep: &dyn Fn(&Begin, &[Call]) -> b
                                 for a in lower(line.number) {
                                     line_tries.push(Line { number: a, ..line.clone() });
                                 }
+                                // Lines told apart by their numbers alone.
+                                line_tries.push(Line {
+                                    address: line.address,
+                                    size: line.size,
+                                    number: l as u64,
+                                    name: b"f".to_vec(),
+                                    ..Line::default()
+                                });
                                 if line.name != b"f" {
                                     line_tries.push(Line { name: b"f".to_vec(), ..line.clone() });
                                 }
@@ -237,7 +255,7 @@ pub fn weight(calls: &[Call]) -> usize {
 }
 
 /// Every step of shrinking lowers this.
-pub fn cost(calls: &[Call]) -> (usize, u128, u128, u128, usize) {
+pub fn cost(calls: &[Call]) -> (usize, u128, u128, usize, u128) {
     let (mut sizes, mut addresses, mut numbers, mut texts) = (0u128, 0u128, 0u128, 0usize);
     let plain = |name: &[u8]| usize::from(name.len() != 1) + usize::from(!b"rijksf".contains(&name.first().copied().unwrap_or(0)));
     for call in calls {
@@ -263,5 +281,54 @@ pub fn cost(calls: &[Call]) -> (usize, u128, u128, u128, usize) {
             }
         }
     }
-    (weight(calls), sizes, addresses, numbers, texts)
+    (weight(calls), sizes, addresses, texts, numbers)
+}
+
+/// Where anything begins or ends.
+fn boundaries(calls: &[Call]) -> std::collections::BTreeSet<u64> {
+    let mut out = std::collections::BTreeSet::from([0]);
+    let mut add = |address: u64, size: u64| out.extend([address, address.saturating_add(size)]);
+    for call in calls {
+        match call {
+            Call::Write => {}
+            Call::Symbol(s) => add(s.address, s.size),
+            Call::Tree(rows) => {
+                for row in rows {
+                    add(row.address, row.size);
+                    row.lines.iter().for_each(|l| add(l.address, l.size.unwrap_or(1)));
+                }
+            }
+        }
+    }
+    out
+}
+
+/// The calls without `n` addresses from `from` on; none if something ends past 64 bits.
+fn without(calls: &[Call], from: u64, n: u64) -> Option<Vec<Call>> {
+    let place = |a: u64| if a <= from { a } else { a.saturating_sub(n).max(from) };
+    let extent = |address: &mut u64, size: &mut u64| {
+        let end = place(address.checked_add(*size)?);
+        *address = place(*address);
+        *size = end - *address;
+        Some(())
+    };
+    let mut calls = calls.to_vec();
+    for call in &mut calls {
+        match call {
+            Call::Write => {}
+            Call::Symbol(s) => extent(&mut s.address, &mut s.size)?,
+            Call::Tree(rows) => {
+                for row in rows {
+                    extent(&mut row.address, &mut row.size)?;
+                    for line in &mut row.lines {
+                        match &mut line.size {
+                            Some(size) => extent(&mut line.address, size)?,
+                            None => line.address = place(line.address),
+                        }
+                    }
+                }
+            }
+        }
+    }
+    Some(calls)
 }
