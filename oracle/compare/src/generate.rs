@@ -3,7 +3,7 @@
 use oracle::answers::*;
 use oracle::files::{DAMAGES, damage, random_file};
 use oracle::lists::{Kind, fill, list, refused};
-use oracle::random::{Random, wild_tree};
+use oracle::random::{Random, Symbols, good_list_of, mutate, wild_tree};
 use oracle::*;
 
 use crate::case::*;
@@ -83,6 +83,33 @@ fn refused_symbol(r: &mut Random, s: &Sym) -> Op {
     Op::Symbol { text, address, size, named: yes(r), start, len }
 }
 
+fn less(r: &mut Random) -> Room {
+    Room::Less(1 + if r.one_in(2) { 0 } else { r.below(80) as usize })
+}
+
+/// Many roots over wide windows.
+fn large(r: &mut Random) -> (Begin, Vec<Call>) {
+    let span = r.within(100, 500);
+    let (begin, mut calls) = good_list_of(r, Symbols::Any, span);
+    for _ in 0..r.below(8) {
+        mutate(r, &mut calls);
+    }
+    calls.retain(|c| !matches!(c, Call::Tree(t) if tree_refusal(t).is_some() || !rows_in_domain(t)));
+    (begin, calls)
+}
+
+/// A name whose length takes three bytes, or just not.
+fn lengthen(r: &mut Random, calls: &mut [Call]) {
+    let long = vec![b'a' + r.below(26) as u8; *r.pick(&[16_383, 16_384, 16_385, 20_000])];
+    for call in calls {
+        match call {
+            Call::Symbol(s) if s.name.is_some() => return s.name = Some(long),
+            Call::Tree(rows) => return rows[0].name = long,
+            _ => {}
+        }
+    }
+}
+
 fn more(r: &mut Random) -> Room {
     Room::More(if r.one_in(2) { 0 } else { r.below(40) as usize })
 }
@@ -90,7 +117,10 @@ fn more(r: &mut Random) -> Room {
 /// A list of calls with its memory.
 pub fn case(r: &mut Random) -> Case {
     let kind = *r.pick(&[Kind::Good, Kind::Gaps, Kind::Wild, Kind::Wild, Kind::Changed, Kind::Changed]);
-    let (begin, mut calls) = list(r, kind);
+    let (begin, mut calls) = if r.one_in(400) { large(r) } else { list(r, kind) };
+    if r.one_in(300) {
+        lengthen(r, &mut calls);
+    }
     // Empty texts lie outside the domain for equality; document 01 says what becomes of them.
     if !r.one_in(4) {
         fill(r, &begin, &mut calls);
@@ -145,8 +175,11 @@ pub fn case(r: &mut Random) -> Case {
                 0 => lend.closed = true,
                 1 => lend.record = Some(r.below(20) as usize),
                 2 | 3 => lend.less = Some(r.below(6) as usize),
-                4..=6 => lend.room = Room::Less(1 + if r.one_in(2) { 0 } else { r.below(80) as usize }),
+                4..=6 => lend.room = less(r),
                 _ => {}
+            }
+            if lend.closed && r.one_in(3) {
+                lend.room = less(r);
             }
         }
     }

@@ -34,7 +34,8 @@ impl<T: Copy + Default + PartialEq> Store<T> {
     }
 
     pub fn is_guarded(&self) -> bool {
-        self.cells[self.len..self.len + GUARD].iter().all(|c| *c == self.guard)
+        // A store that was never lent has no cells.
+        self.cells.get(self.len..self.len + GUARD).is_none_or(|cells| cells.iter().all(|c| *c == self.guard))
     }
 
     pub fn is_zero(&self) -> bool {
