@@ -1,5 +1,7 @@
 //! A list of calls with the memory that each call is lent, through the original and through the library.
 
+use std::time::Instant;
+
 use oracle::answers::{Columns, FUNCTION32, LINE32};
 use oracle::claims::ranges_in_domain;
 use oracle::original::State;
@@ -488,21 +490,12 @@ impl Case {
         out
     }
 
-    /// Smaller cases that still differ, as long as there are any.
-    pub fn shrink(&self, differs: &mut dyn FnMut(&Case) -> bool) -> Case {
+    /// Smaller cases that still differ, as long as there are any and `until` has not come.
+    pub fn shrink(&self, until: Instant, differs: &mut dyn FnMut(&Case) -> bool) -> Case {
+        let mut differs = |c: &Case| Instant::now() < until && differs(c);
         let mut case = self.clone();
-        loop {
-            let mut better = None;
-            for candidate in case.smaller() {
-                if differs(&candidate) {
-                    better = Some(candidate);
-                    break;
-                }
-            }
-            match better {
-                Some(b) => case = b,
-                None => break,
-            }
+        while let Some(smaller) = case.smaller(until, &mut differs) {
+            case = smaller;
         }
         // Numbers and texts too, where the list is an ordinary one.
         let plain = case.items.iter().all(|i| i.lend == PLAIN) && case.capacity == [Room::More(0); 6];
@@ -510,7 +503,7 @@ impl Case {
         let begin = case.items.first().and_then(|i| i.op.begin());
         let calls: Option<Vec<Call>> = case.items.iter().skip(1).map(|i| i.op.call()).collect();
         if let (true, 1, Some(begin), Some(calls)) = (plain && !case.numbers_only, begins, begin, calls) {
-            let differs = std::cell::RefCell::new(differs);
+            let differs = std::cell::RefCell::new(&mut differs);
             let keep = |b: &Begin, c: &[Call]| (differs.borrow_mut())(&Case::plain(b, c));
             if keep(&begin, &calls) {
                 let (begin, calls) = oracle::shrink::shrink(&begin, &calls, &keep);
@@ -520,25 +513,33 @@ impl Case {
         case
     }
 
-    /// Cases with something taken away.
-    fn smaller(&self) -> Vec<Case> {
-        let mut out = Vec::new();
+    /// The first case with something taken away that still differs.
+    fn smaller(&self, until: Instant, differs: &mut dyn FnMut(&Case) -> bool) -> Option<Case> {
+        let mut tried = |c: Case| differs(&c).then_some(c);
         for i in (0..self.items.len()).rev() {
             let mut c = self.clone();
             c.items.remove(i);
-            out.push(c);
+            if let Some(c) = tried(c) {
+                return Some(c);
+            }
         }
         if self.capacity != [Room::More(0); 6] {
-            out.push(Case { capacity: [Room::More(0); 6], ..self.clone() });
+            if let Some(c) = tried(Case { capacity: [Room::More(0); 6], ..self.clone() }) {
+                return Some(c);
+            }
         }
         if self.spare != [0; 5] || self.record != 0 {
-            out.push(Case { spare: [0; 5], record: 0, ..self.clone() });
+            if let Some(c) = tried(Case { spare: [0; 5], record: 0, ..self.clone() }) {
+                return Some(c);
+            }
         }
         for i in 0..self.items.len() {
             if self.items[i].lend != PLAIN {
                 let mut c = self.clone();
                 c.items[i].lend = PLAIN;
-                out.push(c);
+                if let Some(c) = tried(c) {
+                    return Some(c);
+                }
             }
         }
         for (i, item) in self.items.iter().enumerate() {
@@ -550,24 +551,39 @@ impl Case {
             let mut put = |rows: Vec<Row>| {
                 let mut c = self.clone();
                 c.items[i].op = Op::Tree(Columns::of(&rows));
-                out.push(c);
+                tried(c)
             };
-            for k in 1..rows.len() {
-                let below = rows[k + 1..].iter().take_while(|r| r.depth > rows[k].depth).count();
-                for stop in [k + 1 + below, k + 1] {
-                    let mut rows = rows.clone();
-                    rows.drain(k..stop);
-                    put(rows);
+            // Runs of rows, long ones first; then single lines.
+            let mut run = rows.len().next_power_of_two() / 2;
+            while run > 0 {
+                for k in (1..rows.len()).step_by(run) {
+                    if Instant::now() >= until {
+                        return None;
+                    }
+                    let below = rows[k + 1..].iter().take_while(|r| r.depth > rows[k].depth).count();
+                    for stop in [k + run, k + 1 + below] {
+                        let mut rows = rows.clone();
+                        rows.drain(k..stop.min(rows.len()));
+                        if let Some(c) = put(rows) {
+                            return Some(c);
+                        }
+                    }
                 }
+                run /= 2;
             }
             for k in 0..rows.len() {
                 for l in 0..rows[k].lines.len() {
+                    if Instant::now() >= until {
+                        return None;
+                    }
                     let mut rows = rows.clone();
                     rows[k].lines.remove(l);
-                    put(rows);
+                    if let Some(c) = put(rows) {
+                        return Some(c);
+                    }
                 }
             }
         }
-        out
+        None
     }
 }

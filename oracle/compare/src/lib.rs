@@ -7,6 +7,8 @@ pub mod memory;
 pub mod ours;
 pub mod reader;
 
+use std::time::Instant;
+
 use oracle::claims::take_apart;
 use reader::{Compared, Difference};
 
@@ -37,11 +39,11 @@ impl TwoFiles {
         Ok(compared)
     }
 
-    /// Smaller files that still differ, as long as there are any.
-    pub fn shrink(&mut self, file: &[u8]) -> Vec<u8> {
+    /// Smaller files that still differ, as long as there are any and `until` has not come.
+    pub fn shrink(&mut self, file: &[u8], until: Instant) -> Vec<u8> {
         let mut file = file.to_vec();
         loop {
-            let found = smaller_files(&file).into_iter().find(|f| self.compare(f).is_err());
+            let found = smaller_files(&file).into_iter().find(|f| Instant::now() < until && self.compare(f).is_err());
             match found {
                 Some(f) => file = f,
                 None => return file,

@@ -4,7 +4,7 @@
 //!
 //! Last line: 'LISTS lists, FILES files, N differences'. Exit code 1 if there is one.
 
-use std::time::Instant;
+use std::time::{Duration, Instant};
 
 use compare::TwoFiles;
 use compare::case::{Case, Item, Op, Room};
@@ -19,6 +19,12 @@ use oracle::*;
 
 /// Differences that are made small and printed; the others are counted.
 const SHOWN: u64 = 3;
+
+/// For so long a difference is made smaller.
+const SHRINKING: Duration = Duration::from_secs(10);
+
+/// Of a script, so many bytes are printed at most.
+const LONGEST: usize = 20_000;
 
 #[derive(Default)]
 struct Run {
@@ -50,9 +56,14 @@ impl Run {
                 if self.differences <= SHOWN {
                     println!("difference in list {}: {what}", self.lists);
                     let memory = &mut self.memory;
-                    let small = case.shrink(&mut |c| (c.numbers_only || c.in_domain()) && c.run(memory).is_err());
+                    let until = Instant::now() + SHRINKING;
+                    let small = case.shrink(until, &mut |c| (c.numbers_only || c.in_domain()) && c.run(memory).is_err());
                     println!("made small: {}", small.run(memory).err().unwrap_or_default());
-                    print!("{}", small.script());
+                    let script = small.script();
+                    match script.get(..LONGEST) {
+                        None => print!("{script}"),
+                        Some(start) => println!("{start}\n# and {} bytes more", script.len() - LONGEST),
+                    }
                 }
                 Vec::new()
             }
@@ -73,7 +84,7 @@ impl Run {
                 self.differences += 1;
                 if self.differences <= SHOWN {
                     println!("difference in file {}: {what}", self.files);
-                    let file = self.two.shrink(file);
+                    let file = self.two.shrink(file, Instant::now() + SHRINKING);
                     println!("made small: {}", self.two.compare(&file).err().unwrap_or_default());
                     println!("file {}\ntables\nfunctions\nfiles", text_word(&file));
                     if let Some(laid) = take_apart(&file) {
