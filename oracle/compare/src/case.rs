@@ -502,7 +502,8 @@ impl Case {
         let begins = case.items.iter().filter(|i| matches!(i.op, Op::Begin { .. })).count();
         let begin = case.items.first().and_then(|i| i.op.begin());
         let calls: Option<Vec<Call>> = case.items.iter().skip(1).map(|i| i.op.call()).collect();
-        if let (true, 1, Some(begin), Some(calls)) = (plain && !case.numbers_only, begins, begin, calls) {
+        let small = calls.as_deref().is_some_and(|c| oracle::shrink::weight(c) < 2000);
+        if let (true, 1, Some(begin), Some(calls)) = (plain && small && !case.numbers_only, begins, begin, calls) {
             let differs = std::cell::RefCell::new(&mut differs);
             let keep = |b: &Begin, c: &[Call]| (differs.borrow_mut())(&Case::plain(b, c));
             if keep(&begin, &calls) {
