@@ -87,7 +87,10 @@ impl Ours {
         self.memory.len.set(1, 0, 77);
         let lent = self.memory.lend(20, None);
         match ffi::serialize(lent.record, lent.tables, lent.out, lent.len) {
-            0 => Ok(self.memory.out.get()[..self.memory.len.get()[0] as usize].to_vec()),
+            0 => {
+                let file = self.memory.out.get().get(..self.memory.len.get()[0] as usize);
+                Ok(file.expect("a length inside the output").to_vec())
+            }
             number => Err(number),
         }
     }

@@ -6,7 +6,7 @@
 //! Every list meets demand 3's premises. Refused calls stand in between, and files are written in between. Last line:
 //! 'LISTS lists, WRITES files, LOOKUPS lookups, N differences'. Exit code 1 if there is one.
 
-use std::time::Instant;
+use std::time::{Duration, Instant};
 
 use compare::ours::{Ours, bounds};
 use compare::reader::Reader;
@@ -14,8 +14,11 @@ use oracle::answers::Columns;
 use oracle::claims::{breakpoints, demand3_at, is_covered, take_apart, violations};
 use oracle::lists::refused;
 use oracle::random::{Random, Symbols, good_list, good_list_of, mutate};
-use oracle::shrink::shrink;
+use oracle::shrink::{shrink, weight};
 use oracle::*;
+
+/// For so long a difference is made smaller.
+const SHRINKING: Duration = Duration::from_secs(10);
 
 #[derive(Default)]
 struct Tally {
@@ -206,13 +209,16 @@ fn claims(lists: u64, seed: u64) -> bool {
                 println!("difference: {what}");
                 let mut again = |b: &Begin, c: &[Call]| run(&mut ours, b, c, &[], false, &mut Tally::default());
                 let fails = std::cell::RefCell::new(&mut again);
-                let keep = |b: &Begin, c: &[Call]| violations(c) == 0 && (fails.borrow_mut())(b, c).is_err();
-                if keep(&begin, &calls) {
+                let until = Instant::now() + SHRINKING;
+                let keep = |b: &Begin, c: &[Call]| {
+                    Instant::now() < until && violations(c) == 0 && (fails.borrow_mut())(b, c).is_err()
+                };
+                if weight(&calls) < 2000 && keep(&begin, &calls) {
                     let (begin, calls) = shrink(&begin, &calls, &keep);
                     println!("made small: {}", (fails.borrow_mut())(&begin, &calls).err().unwrap_or_default());
                     print!("{}", script(&begin, &calls));
                 } else {
-                    println!("only with the refused calls in between:");
+                    println!("not made small, or only so with refused calls in between:");
                     print!("{}", script(&begin, &calls));
                 }
             }
