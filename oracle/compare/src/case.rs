@@ -2,13 +2,13 @@
 
 use std::time::Instant;
 
-use oracle::answers::{Columns, FUNCTION32, LINE32};
+use oracle::answers::{Columns, FUNCTION32, FUNCTION64, LINE32, LINE64};
 use oracle::claims::ranges_in_domain;
 use oracle::original::State;
 use oracle::{Begin, Call, Kept, Row, Session, Sym, arch, begin_script, call_script, language};
 
 use crate::ffi;
-use crate::memory::{Memory, TABLES};
+use crate::memory::{Lent, Memory, TABLES};
 use crate::reader::Difference;
 
 /// Memory lent beyond what is needed, or less than it.
@@ -115,6 +115,22 @@ pub fn begin_op(begin: &Begin) -> Op {
 }
 
 impl Op {
+    /// Calls the library.
+    fn give(&self, lent: Lent<'_>) -> u32 {
+        match self {
+            Op::Begin { debug_id, arch, functions, symbols } => {
+                ffi::begin(lent.record, debug_id, *arch, *functions, *symbols, lent.tables)
+            }
+            Op::Tree(c) => ffi::tree(
+                lent.record, lent.tables, lent.scratch, &c.functions64, &c.functions32, &c.lines64, &c.lines32, &c.text,
+            ),
+            Op::Symbol { text, address, size, named, start, len } => {
+                ffi::symbol(lent.record, lent.tables, text, *address, *size, *named, *start, *len)
+            }
+            Op::Write => ffi::serialize(lent.record, lent.tables, lent.out, lent.len),
+        }
+    }
+
     /// The beginning that document 01 speaks of.
     fn begin(&self) -> Option<Begin> {
         let Op::Begin { debug_id, arch, functions, symbols } = self else { return None };
@@ -334,19 +350,7 @@ impl Case {
             // One row less than is in use; words that make no row don't help.
             (t, if t == 0 { used[0] - 1 } else { 8 * used[t] - 1 })
         });
-        let lent = memory.lend(record, less);
-        let answer = match &item.op {
-            Op::Begin { debug_id, arch, functions, symbols } => {
-                ffi::begin(lent.record, debug_id, *arch, *functions, *symbols, lent.tables)
-            }
-            Op::Tree(c) => ffi::tree(
-                lent.record, lent.tables, lent.scratch, &c.functions64, &c.functions32, &c.lines64, &c.lines32, &c.text,
-            ),
-            Op::Symbol { text, address, size, named, start, len } => {
-                ffi::symbol(lent.record, lent.tables, text, *address, *size, *named, *start, *len)
-            }
-            Op::Write => ffi::serialize(lent.record, lent.tables, lent.out, lent.len),
-        };
+        let answer = item.op.give(memory.lend(record, less));
         if answer != number {
             return Err(format!("number {number} expected, ours {answer}; capacities {capacity:?}, in use {used:?}"));
         }
@@ -405,19 +409,7 @@ impl Case {
             }
             memory.out.set(1 << 18, 0xE9, 0x5B);
             memory.len.set(1, 0, 77);
-            let lent = memory.lend(20, None);
-            let answer = match &item.op {
-                Op::Begin { debug_id, arch, functions, symbols } => {
-                    ffi::begin(lent.record, debug_id, *arch, *functions, *symbols, lent.tables)
-                }
-                Op::Tree(c) => ffi::tree(
-                    lent.record, lent.tables, lent.scratch, &c.functions64, &c.functions32, &c.lines64, &c.lines32, &c.text,
-                ),
-                Op::Symbol { text, address, size, named, start, len } => {
-                    ffi::symbol(lent.record, lent.tables, text, *address, *size, *named, *start, *len)
-                }
-                Op::Write => ffi::serialize(lent.record, lent.tables, lent.out, lent.len),
-            };
+            let answer = item.op.give(memory.lend(20, None));
             if answer != number {
                 return Err(format!("call {}, {}: number {number} expected, ours {answer}", i + 1, item.kind()));
             }
@@ -453,6 +445,67 @@ fn record_words(begun: &Begin, state: &State, open: bool) -> [u32; 20] {
     out[18] = state.last_end.unwrap_or(0);
     out[19] = u32::from(open);
     out
+}
+
+// ---- what a list holds
+
+/// What lists are counted by.
+pub const TRAITS: [&str; 12] = [
+    "undecorated function names",
+    "undecorated symbol names",
+    "a function row that is skipped",
+    "a function end cut to 32 bits",
+    "a line address above MAX",
+    "a line end held at MAX",
+    "a compilation directory that isn't UTF-8",
+    "an empty name or file name",
+    "a symbol before a tree",
+    "a symbol after a tree",
+    "several writes",
+    "a call outside the domain, numbers only",
+];
+
+impl Case {
+    /// Which of them a list holds, as far as its accepted calls go.
+    pub fn traits(&self) -> [bool; 12] {
+        let max = u64::from(u32::MAX);
+        let mut out = [false; 12];
+        let (mut trees, mut symbols, mut writes) = (0, 0, 0);
+        for item in &self.items {
+            match &item.op {
+                Op::Begin { functions, symbols, .. } => {
+                    out[0] |= *functions != 0;
+                    out[1] |= *symbols != 0;
+                }
+                Op::Write => writes += 1,
+                Op::Symbol { named, len, .. } if item.op.symbol().is_ok() => {
+                    symbols += 1;
+                    out[7] |= *named != 0 && *len == 0;
+                    out[9] |= trees > 0;
+                }
+                Op::Tree(c) if c.refusal().is_none() => {
+                    trees += 1;
+                    out[8] |= symbols > 0;
+                    for (f64, f32) in c.functions64.chunks(FUNCTION64).zip(c.functions32.chunks(FUNCTION32)) {
+                        out[2] |= f64[1] == 0 || f64[0] > max;
+                        out[3] |= f64[1] != 0 && f64[0] <= max && f64[0] + f64[1] > max;
+                        let directory = &c.text[f32[5] as usize..][..f32[6] as usize];
+                        out[6] |= std::str::from_utf8(directory).is_err();
+                        out[7] |= f32[4] == 0;
+                    }
+                    for (l64, l32) in c.lines64.chunks(LINE64).zip(c.lines32.chunks(LINE32)) {
+                        out[4] |= l64[0] > max;
+                        out[5] |= l64[0] < max && l32[0] != 0 && l64[1] > max - l64[0];
+                        out[7] |= l32[2] == 0;
+                    }
+                }
+                _ => {}
+            }
+        }
+        out[10] = writes > 1;
+        out[11] = self.numbers_only;
+        out
+    }
 }
 
 // ---- showing and shrinking

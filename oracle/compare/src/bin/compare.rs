@@ -7,7 +7,7 @@
 use std::time::{Duration, Instant};
 
 use compare::TwoFiles;
-use compare::case::{Case, Item, Op, Room};
+use compare::case::{Case, Item, Op, Room, TRAITS};
 use compare::generate;
 use compare::memory::Memory;
 use compare::reader::addresses;
@@ -33,6 +33,8 @@ struct Run {
     lists: u64,
     files: u64,
     differences: u64,
+    /// Lists by what they hold.
+    traits: [u64; TRAITS.len()],
     /// Answers to calls, by number.
     numbers: [u64; 20],
     /// Files by document 01's number.
@@ -44,6 +46,9 @@ struct Run {
 impl Run {
     fn list(&mut self, case: &Case) -> Vec<u8> {
         self.lists += 1;
+        for (sum, holds) in self.traits.iter_mut().zip(case.traits()) {
+            *sum += u64::from(holds);
+        }
         match case.run(&mut self.memory) {
             Ok(outcome) => {
                 for (sum, n) in self.numbers.iter_mut().zip(outcome.numbers) {
@@ -141,6 +146,9 @@ fn run(lists: u64, seed: u64) -> bool {
         let shown = counts.iter().enumerate().filter(|(_, n)| **n > 0).map(|(i, n)| format!("{i}: {n}"));
         shown.collect::<Vec<_>>().join(", ")
     };
+    for (what, n) in TRAITS.iter().zip(run.traits) {
+        println!("lists with {what}: {n}");
+    }
     println!("calls by number: {}", shown(&run.numbers));
     println!("files by number: {}", shown(&run.read));
     println!("{} lookups, {} frames, {:.0} s", run.lookups, run.frames, begun.elapsed().as_secs_f64());
