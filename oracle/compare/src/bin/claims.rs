@@ -2,6 +2,7 @@
 //! original.
 //!
 //!     claims LISTS SEED
+//!     claims exhaustive     # every small tree in five addresses, with every symbol, and pairs of trees
 //!
 //! Every list meets demand 3's premises. Refused calls stand in between, and files are written in between. Last line:
 //! 'LISTS lists, WRITES files, LOOKUPS lookups, N differences'. Exit code 1 if there is one.
@@ -192,58 +193,89 @@ fn list(r: &mut Random) -> (Begin, Vec<Call>) {
     (begin, calls)
 }
 
-fn claims(lists: u64, seed: u64) -> bool {
-    let begun = Instant::now();
+/// A run: its lists and what was found.
+struct Run {
+    ours: Ours,
+    tally: Tally,
+    lists: u64,
+    differences: u64,
+    begun: Instant,
+}
+
+impl Run {
+    fn new() -> Run {
+        Run { ours: Ours::default(), tally: Tally::default(), lists: 0, differences: 0, begun: Instant::now() }
+    }
+
+    fn list(&mut self, begin: &Begin, calls: &[Call], spoiled: &[(usize, Refused)], full_first: bool) {
+        self.lists += 1;
+        let Err(what) = run(&mut self.ours, begin, calls, spoiled, full_first, &mut self.tally) else { return };
+        self.differences += 1;
+        if self.differences > 3 {
+            return;
+        }
+        println!("difference: {what}");
+        let ours = std::cell::RefCell::new(&mut self.ours);
+        let again = |b: &Begin, c: &[Call]| run(&mut ours.borrow_mut(), b, c, &[], false, &mut Tally::default());
+        let until = Instant::now() + SHRINKING;
+        let keep = |b: &Begin, c: &[Call]| Instant::now() < until && violations(c) == 0 && again(b, c).is_err();
+        if weight(calls) < 2000 && keep(begin, calls) {
+            let (begin, calls) = shrink(begin, calls, &keep);
+            println!("made small: {}", again(&begin, &calls).err().unwrap_or_default());
+            print!("{}", script(&begin, &calls));
+        } else {
+            println!("not made small, or only so with refused calls in between:");
+            print!("{}", script(begin, calls));
+        }
+    }
+
+    /// Prints what was found; whether nothing differs.
+    fn end(&self) -> bool {
+        let by_number = self.tally.refused.iter().enumerate().filter(|(_, n)| **n > 0);
+        let by_number: Vec<String> = by_number.map(|(i, n)| format!("{i}: {n}")).collect();
+        println!("refused calls by number: {}", by_number.join(", "));
+        let seconds = self.begun.elapsed().as_secs_f64();
+        println!("{} lookups at addresses of lines, {} frames, {seconds:.0} s", self.tally.covered, self.tally.frames);
+        println!(
+            "{} lists, {} files, {} lookups, {} differences",
+            self.lists, self.tally.files, self.tally.lookups, self.differences
+        );
+        self.differences == 0
+    }
+}
+
+fn random(lists: u64, seed: u64) -> bool {
     let mut r = Random::new(seed);
-    let mut ours = Ours::default();
-    let mut tally = Tally::default();
-    let mut differences = 0;
+    let mut run = Run::new();
     for _ in 0..lists {
         let (begin, calls) = list(&mut r);
         assert_eq!(violations(&calls), 0, "the list breaks a premise");
         let spoiled = spoil(&mut r, &calls);
         let full_first = r.one_in(20);
-        if let Err(what) = run(&mut ours, &begin, &calls, &spoiled, full_first, &mut tally) {
-            differences += 1;
-            if differences <= 3 {
-                println!("difference: {what}");
-                let mut again = |b: &Begin, c: &[Call]| run(&mut ours, b, c, &[], false, &mut Tally::default());
-                let fails = std::cell::RefCell::new(&mut again);
-                let until = Instant::now() + SHRINKING;
-                let keep = |b: &Begin, c: &[Call]| {
-                    Instant::now() < until && violations(c) == 0 && (fails.borrow_mut())(b, c).is_err()
-                };
-                if weight(&calls) < 2000 && keep(&begin, &calls) {
-                    let (begin, calls) = shrink(&begin, &calls, &keep);
-                    println!("made small: {}", (fails.borrow_mut())(&begin, &calls).err().unwrap_or_default());
-                    print!("{}", script(&begin, &calls));
-                } else {
-                    println!("not made small, or only so with refused calls in between:");
-                    print!("{}", script(&begin, &calls));
-                }
-            }
-        }
+        run.list(&begin, &calls, &spoiled, full_first);
     }
-    let by_number = tally.refused.iter().enumerate().filter(|(_, n)| **n > 0);
-    let by_number: Vec<String> = by_number.map(|(i, n)| format!("{i}: {n}")).collect();
-    println!("refused calls by number: {}", by_number.join(", "));
-    println!(
-        "{} lookups at addresses of lines, {} frames, {:.0} s",
-        tally.covered,
-        tally.frames,
-        begun.elapsed().as_secs_f64()
-    );
-    println!("{lists} lists, {} files, {} lookups, {differences} differences", tally.files, tally.lookups);
-    differences == 0
+    run.end()
+}
+
+fn exhaustive() -> bool {
+    let mut run = Run::new();
+    oracle::exhaustive::lists(|calls| run.list(&Begin::default(), calls, &[], false));
+    run.end()
 }
 
 fn main() {
-    let args: Vec<u64> = std::env::args().skip(1).map(|a| a.parse().expect("a number")).collect();
-    let [lists, seed] = args[..] else {
-        eprintln!("claims LISTS SEED");
-        std::process::exit(2);
+    let args: Vec<String> = std::env::args().skip(1).collect();
+    let args: Vec<&str> = args.iter().map(String::as_str).collect();
+    let number = |w: &str| w.parse::<u64>().expect("a number");
+    let holds = match args[..] {
+        ["exhaustive"] => exhaustive(),
+        [lists, seed] => random(number(lists), number(seed)),
+        _ => {
+            eprintln!("claims LISTS SEED, claims exhaustive");
+            std::process::exit(2);
+        }
     };
-    if !claims(lists, seed) {
+    if !holds {
         std::process::exit(1);
     }
 }
