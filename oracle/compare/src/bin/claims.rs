@@ -13,7 +13,7 @@ use compare::ours::{Ours, bounds};
 use compare::reader::Reader;
 use oracle::answers::Columns;
 use oracle::claims::{breakpoints, demand3_at, is_covered, take_apart, violations};
-use oracle::lists::refused;
+use oracle::lists::{refused, vary};
 use oracle::random::{Random, Symbols, good_list, good_list_of, mutate};
 use oracle::shrink::{shrink, weight};
 use oracle::*;
@@ -182,6 +182,9 @@ fn list(r: &mut Random) -> (Begin, Vec<Call>) {
                 calls = before;
             }
         }
+    }
+    if r.one_in(6) {
+        vary(r, &mut calls);
     }
     while r.one_in(2) {
         let at = r.below(calls.len() as u64 + 1) as usize;
