@@ -3,8 +3,9 @@
 
 Shows which claims notice. Run from anywhere; needs cargo. A mutant that no claim speaks of isn't
 noticed, as "no bare minimum" (addresses of a root outside its lines); only equal bytes show it.
-A word that isn't `answers` picks the mutants whose name has it.
 With the word `answers` it runs `answers check answers` instead: the stored answers must notice all.
+With the word `compare` it runs `compare 20000 1`, the proved library beside the broken original: that must notice all
+(SYMCACHE_LIB_DIR names the library's folder). Another word picks the mutants whose name has it.
 """
 import collections
 import os
@@ -17,7 +18,8 @@ import tempfile
 HERE = pathlib.Path(__file__).resolve().parent.parent
 SOURCE = pathlib.Path(os.environ.get("SYMBOLIC_SRC") or HERE.parent.parent / "shared/docs/src")
 ANSWERS = "answers" in sys.argv[1:]
-PICKED = [word for word in sys.argv[1:] if word != "answers"]
+COMPARE = "compare" in sys.argv[1:]
+PICKED = [word for word in sys.argv[1:] if word not in ("answers", "compare")]
 W = "symbolic-symcache/src/writer.rs"
 L = "symbolic-symcache/src/v9/lookup.rs"
 VACANT_END = """if let btree_map::Entry::Vacant(vacant_entry) = self.ranges.entry(function_end) {
@@ -77,7 +79,18 @@ MUTANTS = [
 ]
 
 
+def compare(top, env):
+    """What `compare` finds: its last line, and the first difference, made small."""
+    subprocess.run(["cargo", "build", "-q", "-j1", "--release", "-p", "compare", "--bin", "compare"],
+                   cwd=top / "oracle", env=env, check=True, stderr=subprocess.DEVNULL)
+    run = subprocess.run([top / "target/release/compare", "20000", "1"], capture_output=True, text=True, timeout=600)
+    lines = run.stdout.splitlines()
+    small = [line for line in lines if line.startswith("made small: ")]
+    return run.returncode == 1, lines[-1] if lines else f"status {run.returncode}", small[0][:160] if small else ""
+
+
 def main():
+    noticed = []
     with tempfile.TemporaryDirectory() as top:
         top = pathlib.Path(top)
         shutil.copytree(SOURCE, top / "docs/src")
@@ -91,6 +104,11 @@ def main():
             text = (SOURCE / path).read_text()
             assert text.count(old) == 1, name
             (top / "docs/src" / path).write_text(text.replace(old, new))
+            if COMPARE:
+                found, last, small = compare(top, env)
+                noticed.append(found)
+                print(f"{name}: {last}\n    {small}", flush=True)
+                continue
             subprocess.run(
                 ["cargo", "build", "-q", "-j1", "--profile", "checked", "--bin", "answers" if ANSWERS else "fuzz"],
                 cwd=top / "oracle", env=env, check=True, stderr=subprocess.DEVNULL)
@@ -108,6 +126,9 @@ def main():
                 line.split(" at ")[0].split("claim ", 1)[1]
                 for line in out.splitlines() if line.startswith("  claim "))
             print(f"{name}: {dict(found) or 'not noticed'}", flush=True)
+    if COMPARE:
+        print(f"{sum(noticed)} of {len(noticed)} noticed")
+        sys.exit(not all(noticed))
 
 
 main()

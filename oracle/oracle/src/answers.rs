@@ -343,6 +343,14 @@ impl Columns {
 
     /// Document 01's 13, 14 or 15.
     pub fn refusal(&self) -> Option<u32> {
+        let whole = |words: usize, row: usize| (words % row == 0).then_some(words / row);
+        let counts = (whole(self.functions64.len(), FUNCTION64), whole(self.lines64.len(), LINE64));
+        if counts.0.is_none()
+            || counts.1.is_none()
+            || counts != (whole(self.functions32.len(), FUNCTION32), whole(self.lines32.len(), LINE32))
+        {
+            return Some(13);
+        }
         let functions: Vec<&[u32]> = self.functions32.chunks(FUNCTION32).collect();
         let lines: u64 = functions.iter().map(|f| u64::from(f[7])).sum();
         if functions.is_empty()
