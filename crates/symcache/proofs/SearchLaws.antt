@@ -1,4 +1,4 @@
--- The binary search: it does not depend on its bound, and on ascending starts it ends at the greatest start at most the address.
+-- The search: it does not depend on its bound, and on ascending starts it ends at the greatest start at most the address.
 use Prim.Native.Nat.{ℕ, zero, suc, _+_, _*_, _/_, _-_, _≤_, _<_}
 use mathlib.Core.Path.{_≡_, refl, sym, _∙_}
 use mathlib.Core.List.{List}
@@ -13,7 +13,7 @@ use Rattle.symcache.specs.declared.SymCache.{SymCache}
 use Rattle.symcache.specs.Answers.{gives}
 use Rattle.symcache.specs.Reader.{startAt, ascendingFrom, ascending, opened, Within}
 use Rattle.symcache.proofs.ReaderLaws.{opened-has}
-use Rattle.symcache.specs.Lookup.{countIn, searchIn, foundAmong, usable, foundAt}
+use Rattle.symcache.specs.Lookup.{countIn, quartersIn, searchIn, foundAmong, usable, foundAt}
 
 -- cases
 meets : (i j : ℕ) → i ≤ j → (i ≡ j) ⊎ (i < j)
@@ -50,7 +50,18 @@ both : (a b : Bool) → (a && b) ≡ true → (a ≡ true) × (b ≡ true)
 both true b e = (refl, e)
 both false b e = let z : _≡_ {A = ℕ} 0 1 = cc in absurd (omega arith)
 
--- ── The halvings ──
+-- a number up to three
+up-to-three : (P : ℕ → Type 0) → P 0 → P 1 → P 2 → P 3 → (c : ℕ) → c ≤ 3 → P c
+up-to-three P x y z w zero h = x
+up-to-three P x y z w (suc zero) h = y
+up-to-three P x y z w (suc (suc zero)) h = z
+up-to-three P x y z w (suc (suc (suc zero))) h = w
+up-to-three P x y z w (suc (suc (suc (suc c)))) h = absurd (omega arith)
+
+pub times-three : (q c : ℕ) → c ≤ 3 → q * c ≤ 3 * q
+times-three q c h = up-to-three (λ d. q * d ≤ 3 * q) (omega arith) (omega arith) (omega arith) (omega arith) c h
+
+-- ── The quarterings ──
 
 module _ (f : ℕ → ℕ) (a : ℕ) where
   -- the last few are counted
@@ -66,10 +77,13 @@ module _ (f : ℕ → ℕ) (a : ℕ) where
   unfolding searchIn
   search-stops b n = refl
 
-  -- one halving
-  pub search-half : (k b n : ℕ) → 8 < n → searchIn f a (suc k) b n ≡ searchIn f a k (cond (leb (f (b + n / 2)) a) (b + n / 2) b) (n - n / 2)
+  -- where one quartering leads
+  abbrev next : ℕ → ℕ → ℕ
+  next b n = b + n / 4 * quartersIn f a b (n / 4)
+
+  pub search-quarter : (k b n : ℕ) → 8 < n → searchIn f a (suc k) b n ≡ searchIn f a k (next b n) (n - 3 * (n / 4))
   unfolding searchIn
-  search-half k b n h = rw (lt-leb n 8 h)
+  search-quarter k b n h = rw (lt-leb n 8 h)
 
   few-or-more : (n : ℕ) → (n ≤ 8) ⊎ (8 < n)
   few-or-more n = go (leb n 8) refl
@@ -78,26 +92,19 @@ module _ (f : ℕ → ℕ) (a : ℕ) where
       go true e = inl (leb-true n 8 e)
       go false e = inr (leb-false n 8 e)
 
-  -- as many halvings as there are starts are enough
+  -- as many quarterings as there are starts are enough
   pub search-enough : (k m b n : ℕ) → n ≤ k → n ≤ m → searchIn f a k b n ≡ searchIn f a m b n
   search-enough zero m b n h g = search-done zero b n (omega arith) ∙ sym (search-done m b n (omega arith))
   search-enough (suc k) zero b n h g = search-done (suc k) b n (omega arith) ∙ sym (search-done zero b n (omega arith))
   search-enough (suc k) (suc m) b n h g =
       ⊎-elim (λ l. search-done (suc k) b n l ∙ sym (search-done (suc m) b n l))
-      (λ l. search-half k b n l ∙ (search-enough k m (cond (leb (f (b + n / 2)) a) (b + n / 2) b) (n - n / 2) (omega arith) (omega arith) ∙ sym (search-half m b n l)))
+      (λ l. search-quarter k b n l ∙ (search-enough k m (next b n) (n - 3 * (n / 4)) (omega arith) (omega arith) ∙ sym (search-quarter m b n l)))
       (few-or-more n)
 
   -- one turn of the loop
-  turn : (b n b′ : ℕ) → 8 < n → cond (leb (f (b + n / 2)) a) (b + n / 2) b ≡ b′ → searchIn f a (n - n / 2) b′ (n - n / 2) ≡ searchIn f a n b n
-  turn b zero b′ h e = absurd (omega arith)
-  turn b (suc n) b′ h e =
-      sym (search-half n b (suc n) h ∙ (rw e (search-enough n (suc n - suc n / 2) b′ (suc n - suc n / 2) (omega arith) (omega arith))))
-
-  pub turn-up : (b n : ℕ) → 8 < n → f (b + n / 2) ≤ a → searchIn f a (n - n / 2) (b + n / 2) (n - n / 2) ≡ searchIn f a n b n
-  turn-up b n h l = turn b n (b + n / 2) h (rw (le-leb (f (b + n / 2)) a l))
-
-  pub turn-down : (b n : ℕ) → 8 < n → a < f (b + n / 2) → searchIn f a (n - n / 2) b (n - n / 2) ≡ searchIn f a n b n
-  turn-down b n h l = turn b n b h (rw (lt-leb (f (b + n / 2)) a l))
+  pub turn : (b n : ℕ) → 8 < n → searchIn f a (n - 3 * (n / 4)) (next b n) (n - 3 * (n / 4)) ≡ searchIn f a n b n
+  turn b zero h = absurd (omega arith)
+  turn b (suc n) h = sym (search-quarter n b (suc n) h ∙ search-enough n (suc n - 3 * (suc n / 4)) (next b (suc n)) (suc n - 3 * (suc n / 4)) (omega arith) (omega arith))
 
   -- the count: its beginning, one turn, its end
   pub count-begins : (b n b′ n′ : ℕ) → b′ ≡ b → n′ ≡ n → 0 + countIn f a b′ n′ ≡ countIn f a b n
@@ -120,6 +127,38 @@ module _ (f : ℕ → ℕ) (a : ℕ) where
       go : (t : Bool) → leb (f i) a ≡ t → (f i ≤ a) ⊎ (a < f i)
       go true e = inl (leb-true (f i) a e)
       go false e = inr (leb-false (f i) a e)
+
+  -- a test's number
+  low-one : (i : ℕ) → f i ≤ a → _≡_ {A = ℕ} (cond (leb (f i) a) 1 0) 1
+  low-one i t = rw (le-leb (f i) a t)
+
+  low-zero : (i : ℕ) → a < f i → _≡_ {A = ℕ} (cond (leb (f i) a) 1 0) 0
+  low-zero i t = rw (lt-leb (f i) a t)
+
+  low-most : (i : ℕ) → cond (leb (f i) a) 1 0 ≤ 1
+  low-most i = ⊎-elim (λ t. rw (le-leb (f i) a t) (omega arith)) (λ t. rw (lt-leb (f i) a t) (omega arith)) (at-most-or-above i)
+
+  pub quarters-most : (b q : ℕ) → quartersIn f a b q ≤ 3
+  unfolding quartersIn
+  quarters-most b q = omega (arith, low-most (b + q), low-most (b + 2 * q), low-most (b + 3 * q))
+
+  -- where it leads, by how many of the three starts are at most the address
+  module _ (b n : ℕ) where
+    to-0 : a < f (b + n / 4) → a < f (b + 2 * (n / 4)) → a < f (b + 3 * (n / 4)) → next b n ≡ b
+    unfolding quartersIn
+    to-0 x y z = rw (low-zero (b + n / 4) x, low-zero (b + 2 * (n / 4)) y, low-zero (b + 3 * (n / 4)) z) (omega arith)
+
+    to-1 : f (b + n / 4) ≤ a → a < f (b + 2 * (n / 4)) → a < f (b + 3 * (n / 4)) → next b n ≡ b + n / 4
+    unfolding quartersIn
+    to-1 x y z = rw (low-one (b + n / 4) x, low-zero (b + 2 * (n / 4)) y, low-zero (b + 3 * (n / 4)) z) (omega arith)
+
+    to-2 : f (b + n / 4) ≤ a → f (b + 2 * (n / 4)) ≤ a → a < f (b + 3 * (n / 4)) → next b n ≡ b + 2 * (n / 4)
+    unfolding quartersIn
+    to-2 x y z = rw (low-one (b + n / 4) x, low-one (b + 2 * (n / 4)) y, low-zero (b + 3 * (n / 4)) z) (omega arith)
+
+    to-3 : f (b + n / 4) ≤ a → f (b + 2 * (n / 4)) ≤ a → f (b + 3 * (n / 4)) ≤ a → next b n ≡ b + 3 * (n / 4)
+    unfolding quartersIn
+    to-3 x y z = rw (low-one (b + n / 4) x, low-one (b + 2 * (n / 4)) y, low-one (b + 3 * (n / 4)) z) (omega arith)
 
   -- ── Where it ends ──
 
@@ -182,18 +221,29 @@ module _ (f : ℕ → ℕ) (a : ℕ) where
           above = λ j x y. ⊎-elim (λ z. C .above j (omega arith) (omega arith)) (λ z. above j z y) (below-or-past j (b + n));
         }
 
-    later : (b n j : ℕ) → a < f (b + n / 2) → b + (n - n / 2) ≤ j → j < m → a < f j
-    later b n j t x y = ⊎-elim (λ z. rw (← z) t) (λ z. let w = climbs (b + n / 2) j z y in omega arith) (meets (b + n / 2) j (omega arith))
+    -- after a start above the address come only such
+    later : (p j : ℕ) → a < f p → p ≤ j → j < m → a < f j
+    later p j t x y = ⊎-elim (λ z. rw (← z) t) (λ z. let w = climbs p j z y in omega arith) (meets p j x)
+
+    -- before a start at most the address too
+    earlier : (j p : ℕ) → f p ≤ a → j < p → p < m → f j ≤ a
+    earlier j p t x y = let w = climbs j p x y in omega arith
 
     ends : (k b n : ℕ) → n ≤ k → 0 < n → b + n ≤ m → (f b ≤ a) ⊎ (b ≡ 0) → ((j : ℕ) → b + n ≤ j → j < m → a < f j) → Ended m (searchIn f a k b n)
     ends zero b n h p l low above = absurd (omega arith)
     ends (suc k) b n h p l low above =
         ⊎-elim (λ z. rw (search-done (suc k) b n z) (few-ends b n p l low above))
-        (λ z. rw (search-half k b n z)
+        (λ z. rw (search-quarter k b n z)
         (⊎-elim
-        (λ t. rw (le-leb (f (b + n / 2)) a t) (ends k (b + n / 2) (n - n / 2) (omega arith) (omega arith) (omega arith) (inl t) (λ j x y. above j (omega arith) y)))
-        (λ t. rw (lt-leb (f (b + n / 2)) a t) (ends k b (n - n / 2) (omega arith) (omega arith) (omega arith) low (λ j x y. later b n j t x y)))
-        (at-most-or-above (b + n / 2))))
+        (λ t. rw (to-3 b n (earlier (b + n / 4) (b + 3 * (n / 4)) t (omega arith) (omega arith)) (earlier (b + 2 * (n / 4)) (b + 3 * (n / 4)) t (omega arith) (omega arith)) t) (ends k (b + 3 * (n / 4)) (n - 3 * (n / 4)) (omega arith) (omega arith) (omega arith) (inl t) (λ j x y. above j (omega arith) y)))
+        (λ t3. ⊎-elim
+        (λ t. rw (to-2 b n (earlier (b + n / 4) (b + 2 * (n / 4)) t (omega arith) (omega arith)) t t3) (ends k (b + 2 * (n / 4)) (n - 3 * (n / 4)) (omega arith) (omega arith) (omega arith) (inl t) (λ j x y. later (b + 3 * (n / 4)) j t3 (omega arith) y)))
+        (λ t2. ⊎-elim
+        (λ t. rw (to-1 b n t t2 t3) (ends k (b + n / 4) (n - 3 * (n / 4)) (omega arith) (omega arith) (omega arith) (inl t) (λ j x y. later (b + 2 * (n / 4)) j t2 (omega arith) y)))
+        (λ t1. rw (to-0 b n t1 t2 t3) (ends k b (n - 3 * (n / 4)) (omega arith) (omega arith) (omega arith) low (λ j x y. later (b + n / 4) j t1 (omega arith) y)))
+        (at-most-or-above (b + n / 4)))
+        (at-most-or-above (b + 2 * (n / 4))))
+        (at-most-or-above (b + 3 * (n / 4)))))
         (few-or-more n)
 
     pub search-ends : 0 < m → Ended m (searchIn f a m 0 m)
@@ -267,11 +317,8 @@ pub search-inside : (f : ℕ → ℕ) (a k b n : ℕ) → 0 < n → searchIn f a
 search-inside f a zero b n p = rw (search-stops f a b n) (few-inside f a b n p)
 search-inside f a (suc k) b n p =
     ⊎-elim (λ z. rw (search-done f a (suc k) b n z) (few-inside f a b n p))
-    (λ z. rw (search-half f a k b n z)
-    (⊎-elim
-    (λ t. rw (le-leb (f (b + n / 2)) a t) (omega (arith, search-inside f a k (b + n / 2) (n - n / 2) (omega arith))))
-    (λ t. rw (lt-leb (f (b + n / 2)) a t) (omega (arith, search-inside f a k b (n - n / 2) (omega arith))))
-    (at-most-or-above f a (b + n / 2))))
+    (λ z. rw (search-quarter f a k b n z)
+    (omega (arith, search-inside f a k (b + n / 4 * quartersIn f a b (n / 4)) (n - 3 * (n / 4)) (omega arith), times-three (n / 4) (quartersIn f a b (n / 4)) (quarters-most f a b (n / 4)))))
     (few-or-more f a n)
 
 none-among : (f : ℕ → ℕ) (m n a : ℕ) → n ≡ 0 → foundAmong f m n a ≡ max32

@@ -26,11 +26,15 @@ unfoldable pub countIn : (ℕ → ℕ) → ℕ → ℕ → ℕ → ℕ
 countIn f a i zero = 0
 countIn f a i (suc n) = cond (leb (f i) a) 1 0 + countIn f a (suc i) n
 
--- a binary search for `a` among `n` starts from index `b` on: halved as long as more than 8 are left, which are counted; `k` bounds the number of halvings
+-- how many of the three starts between the quarters, of `q` starts each, from index `b` on are at most the address
+unfoldable pub quartersIn : (ℕ → ℕ) → ℕ → ℕ → ℕ → ℕ
+quartersIn f a b q = cond (leb (f (b + q)) a) 1 0 + cond (leb (f (b + 2 * q)) a) 1 0 + cond (leb (f (b + 3 * q)) a) 1 0
+
+-- a search for `a` among `n` starts from index `b` on: quartered as long as more than 8 are left, which are counted; `k` bounds the number of turns
 unfoldable pub searchIn : (ℕ → ℕ) → ℕ → ℕ → ℕ → ℕ → ℕ
 searchIn f a zero b n = b + countIn f a (b + 1) (n - 1)
 searchIn f a (suc k) b n =
-    cond (leb n 8) (b + countIn f a (b + 1) (n - 1)) (searchIn f a k (cond (leb (f (b + n / 2)) a) (b + n / 2) b) (n - n / 2))
+    cond (leb n 8) (b + countIn f a (b + 1) (n - 1)) (searchIn f a k (b + n / 4 * quartersIn f a b (n / 4)) (n - 3 * (n / 4)))
 
 -- the location of the start that the search ends at, among `n` starts that belong to the last `n` of `m` locations; MAX where that start lies above the address
 unfoldable pub foundAmong : (ℕ → ℕ) → ℕ → ℕ → ℕ → ℕ

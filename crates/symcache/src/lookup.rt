@@ -6,7 +6,7 @@ ghost use lib.Dec.{leb};
 ghost use lib.ListN.{length};
 ghost use Rattle.symcache.specs.Answers.{gives, lookupAnswer, stepAnswer, fileAnswer, functionAnswer, functionsAnswer, filesAnswer};
 ghost use Rattle.symcache.specs.Reader.{startAt, Within};
-ghost use Rattle.symcache.specs.Lookup.{countIn, searchIn, usable, foundAt, locationIn, functionIn, fileIn, walkFrom, walkAt, lookedUp, met, entryOf, languageOf, fileOf, frameIn, ended, stepIn, stepped, gotFile, gotFunction, nextFunction, functionsNext, nextFile, filesNext};
+ghost use Rattle.symcache.specs.Lookup.{countIn, quartersIn, searchIn, usable, foundAt, locationIn, functionIn, fileIn, walkFrom, walkAt, lookedUp, met, entryOf, languageOf, fileOf, frameIn, ended, stepIn, stepped, gotFile, gotFunction, nextFunction, functionsNext, nextFile, filesNext};
 use super::ErrorKind;
 use super::Parsed;
 use super::SymCache;
@@ -113,8 +113,18 @@ fn count(s: &[u8], ranges: usize, from: usize, n: usize, addr: u32) -> usize
     found
 }
 
-// The index at which a binary search for `addr` among `n` starts ends: the last of those at most `addr`, or 0.
-// The last few are counted: there a test can't be foreseen, and nothing has to be fetched.
+// How many of the three starts between the quarters, of `quarter` starts each, from index `base` on are at most `addr`.
+fn quarters(s: &[u8], ranges: usize, base: usize, quarter: usize, addr: u32) -> usize
+    requires { ⌜ ranges + 4 * (base + 3 * quarter + 1) ≤ length (now s) ⌝ }
+    ensures { λ r. ⌜ (r ≡ quartersIn (startAt (now (s .entry)) ranges) addr base quarter) × (r ≤ 3) ⌝ }
+{
+    at_most(super::range_start(s, ranges, base + quarter), addr)
+        + at_most(super::range_start(s, ranges, base + 2 * quarter), addr)
+        + at_most(super::range_start(s, ranges, base + 3 * quarter), addr)
+}
+
+// The index at which a search for `addr` among `n` starts ends: the last of those at most `addr`, or 0.
+// Three starts are fetched at once, and no jump depends on them, which could not be foreseen. The last few are counted.
 fn search(s: &[u8], ranges: usize, n: usize, addr: u32) -> usize
     requires { ⌜ (0 < n) × (ranges + 4 * n ≤ length (now s)) ⌝ }
     ensures { λ r. ⌜ (r ≡ searchIn (startAt (now (s .entry)) ranges) addr n 0 n) × (r < n) ⌝ }
@@ -122,12 +132,10 @@ fn search(s: &[u8], ranges: usize, n: usize, addr: u32) -> usize
     let mut base: usize = 0;
     let mut size = n;
     while 8 < size {
-        let half = size / 2;
-        let mid = base + half;
-        if super::range_start(s, ranges, mid) <= addr {
-            base = mid;
-        }
-        size -= half;
+        let quarter = size / 4;
+        let low = quarters(s, ranges, base, quarter, addr);
+        base += quarter * low;
+        size -= 3 * quarter;
     }
     base + count(s, ranges, base + 1, size - 1, addr)
 }

@@ -1,11 +1,10 @@
 -- `search` meets its contract. The invariant: what is left of the search ends where all of it does.
 use native.Mathlib.Omega.{arith}
 use mathlib.Core.Path.{_≡_, refl, sym, _∙_}
-use Prim.Native.Nat.{_≤_, _+_}
-use mathlib.Core.Logic.{⊎-elim}
+use Prim.Native.Nat.{_≤_, _+_, _*_, _/_}
 use Rattle.symcache.specs.Lookup.{searchIn}
 use Rattle.symcache.specs.Reader.{startAt}
-use Rattle.symcache.proofs.SearchLaws.{turn-up, turn-down, search-done}
+use Rattle.symcache.proofs.SearchLaws.{times-three, turn, search-done}
 use Rattle.symcache.proofs.lookup.search.Statement.{statement}
 use Rattle.symcache.proofs.lookup.search.Tie as tie
 
@@ -15,54 +14,47 @@ Inv-loop s ranges n addr base₀ size₀ base size = (1 ≤ size) × (base + siz
 abbrev μ-loop : tie.MeasureT-loop
 μ-loop s ranges n addr base₀ size₀ base size = size
 
--- src/lookup.rt:120:5
 loop-holds : tie.Need-loop-holds Inv-loop μ-loop
 loop-holds c = (omega arith, omega arith, refl)
 
--- src/lookup.rt:122:19
-add-mid : tie.Need-add-mid Inv-loop μ-loop
-add-mid c = omega arith
+quarters-requires : tie.Need-quarters-requires Inv-loop μ-loop
+quarters-requires c κs = omega arith
 
--- src/lookup.rt:123:12
-range-start-requires : tie.Need-range-start-requires Inv-loop μ-loop
-range-start-requires c κs = omega arith
+mul-base : tie.Need-mul-base Inv-loop μ-loop
+mul-base c = omega (arith, times-three (c .before .before .loop .size / 4) (c .quarters .result) (c .quarters .ensures .1))
 
--- src/lookup.rt:126:9
+add-base : tie.Need-add-base Inv-loop μ-loop
+add-base c = omega (arith, times-three (c .before .before .loop .size / 4) (c .quarters .result) (c .quarters .ensures .1))
+
+mul-size : tie.Need-mul-size Inv-loop μ-loop
+mul-size c = omega arith
+
 sub-size : tie.Need-sub-size Inv-loop μ-loop
 sub-size c = omega arith
 
--- src/lookup.rt:120:5
 loop-less : tie.Need-loop-less Inv-loop μ-loop
 loop-less c = omega arith
 
--- src/lookup.rt:120:5
 loop-again : tie.Need-loop-again Inv-loop μ-loop
 loop-again c =
-    let a = c .before .before .before .before .before .args in
-    let l = c .before .before .before .loop in
+    let a = c .before .before .before .before .args in
+    let l = c .before .before .loop in
     let f = startAt (a .s .now) (a .ranges) in
-    let e = c .before .range-start .ensures in
-    ⊎-elim (λ w. (omega arith, omega arith, rw (w .1) (turn-up f (a .addr) (l .base) (l .size) (omega arith) (rw e at (w .0 .taken)) ∙ l .inv .2)))
-    (λ w. (omega arith, omega arith, rw (w .1) (turn-down f (a .addr) (l .base) (l .size) (omega arith) (rw e at (w .0 .left)) ∙ l .inv .2)))
-    (c .if1 .came)
+    let t : l .size / 4 * c .quarters .result ≤ 3 * (l .size / 4) = times-three (l .size / 4) (c .quarters .result) (c .quarters .ensures .1) in
+    (omega arith, omega (arith, t), rw (c .quarters .ensures .0) (turn f (a .addr) (l .base) (l .size) (omega arith) ∙ l .inv .2))
 
--- src/lookup.rt:128:29
 add-count : tie.Need-add-count Inv-loop μ-loop
 add-count c = omega arith
 
--- src/lookup.rt:128:39
 sub-count : tie.Need-sub-count Inv-loop μ-loop
 sub-count c = omega arith
 
--- src/lookup.rt:128:12
 count-requires : tie.Need-count-requires Inv-loop μ-loop
 count-requires c κs = omega arith
 
--- src/lookup.rt:128:5
 add-result : tie.Need-add-result Inv-loop μ-loop
 add-result c = omega (arith, c .count .ensures .1)
 
--- src/lookup.rt:114:1
 returns : tie.Need-returns Inv-loop μ-loop
 returns c =
     let a = c .before .before .before .before .args in
@@ -78,8 +70,10 @@ search-spec =
     Inv-loop
     μ-loop
     loop-holds
-    add-mid
-    range-start-requires
+    quarters-requires
+    mul-base
+    add-base
+    mul-size
     sub-size
     loop-less
     loop-again
