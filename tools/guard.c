@@ -33,20 +33,21 @@
 enum slot {
     RECORD, STRING_BYTES, STRINGS, FILES, FUNCTIONS, CALL_LOCATIONS, RANGES, SCRATCH, DEBUG_ID,
     FUNCTIONS64, FUNCTIONS32, LINES64, LINES32, TEXT, OUT, LENGTH, BYTES, CACHE, CURSOR, FRAME,
-    PART, ROW, SLOTS
+    PART, ROW, LINES, UNPACKED64, UNPACKED32, SLOTS
 };
 static const char *const slot_names[SLOTS] = {
     "record", "string_bytes", "strings", "files", "functions", "call_locations", "ranges", "scratch",
     "debug_id", "functions64", "functions32", "lines64", "lines32", "text", "out", "len", "bytes",
-    "cache", "cursor", "frame", "part", "row",
+    "cache", "cursor", "frame", "part", "row", "lines", "unpacked64", "unpacked32",
 };
 /* Bytes of an element. */
 static const size_t element[SLOTS] = {
     4, 1, 4, 4, 4, 4, 4, 4, 1, 8, 4, 8, 4, 1, 1, 8, 1, 8, 4, 4, 8, 4,
+    sizeof(struct symcache_line_row), 8, 4,
 };
 
 enum function {
-    BEGIN, TREE, SYMBOL, SERIALIZE, PARSE, OPEN, FIND, WALK, LOOKUP, NEXT, READ_STRING,
+    BEGIN, TREE, TREE_LINES, SYMBOL, SERIALIZE, PARSE, OPEN, FIND, WALK, LOOKUP, NEXT, READ_STRING,
     FUNCTION_NAME, GET_FUNCTION, GET_FILE, FUNCTIONS_NEXT, FILES_NEXT, NUM_FUNCTIONS
 };
 
@@ -69,6 +70,9 @@ static const struct {
     [BEGIN] = {"symcache_begin", BIT(RECORD) | TABLE_BITS, BIT(DEBUG_ID), {0, 0}},
     [TREE] = {"symcache_process_symbolic_function", BIT(RECORD) | TABLE_BITS | BIT(SCRATCH),
         COLUMN_BITS, {0, 0}},
+    [TREE_LINES] = {"symcache_process_symbolic_function_lines",
+        BIT(RECORD) | TABLE_BITS | BIT(SCRATCH) | BIT(UNPACKED64) | BIT(UNPACKED32),
+        BIT(FUNCTIONS64) | BIT(FUNCTIONS32) | BIT(LINES) | BIT(TEXT), {0, 0}},
     [SYMBOL] = {"symcache_process_symbolic_symbol", BIT(RECORD) | TABLE_BITS, BIT(TEXT), {0, 0}},
     [SERIALIZE] = {"symcache_serialize", BIT(OUT) | BIT(LENGTH), BIT(RECORD) | TABLE_BITS,
         {BIT(STRINGS) | BIT(FILES) | BIT(FUNCTIONS) | BIT(CALL_LOCATIONS), BIT(STRINGS)}},
@@ -150,7 +154,7 @@ static void *pointer(enum slot s)
 /* Moves the rest of a slice to where it lies in such a call, and back. */
 static void shift(enum slot s, int there)
 {
-    static unsigned char lacked[8];
+    static unsigned char lacked[sizeof(struct symcache_line_row)];
     size_t e = element[s], rest = (len[s] - 1) * e;
     unsigned char *p = at[s];
     if (there) {
@@ -165,6 +169,7 @@ static void shift(enum slot s, int there)
 #define P8(s) (uint8_t *)pointer(s), len[s]
 #define P32(s) (uint32_t *)pointer(s), len[s]
 #define P64(s) (uint64_t *)pointer(s), len[s]
+#define PROWS(s) (struct symcache_line_row *)pointer(s), len[s]
 #define TABLES                                                                                     \
     P8(STRING_BYTES), P32(STRINGS), P32(FILES), P32(FUNCTIONS), P32(CALL_LOCATIONS), P32(RANGES)
 
@@ -206,7 +211,8 @@ static int is_zero(int s)
 
 /*
  * A refusal leaves a written slice as it was; but 17 leaves zeros and a closed converter, and 10
- * has its counts. An accepted tree leaves zeros in scratch, a write what lies beyond the file.
+ * has its counts. An accepted tree leaves zeros in scratch and in what its rows were unpacked to,
+ * a write what lies beyond the file.
  */
 static void check_slice(int s, uint32_t answer)
 {
@@ -216,7 +222,8 @@ static void check_slice(int s, uint32_t answer)
         demand(((uint32_t *)at[s])[SYMCACHE_RECORD_OPEN] == 0, "is open", s, answer);
         return;
     }
-    if (answer == SYMCACHE_TABLE_FULL || (answer == 0 && s == SCRATCH)) {
+    if (answer == SYMCACHE_TABLE_FULL
+        || (answer == 0 && (s == SCRATCH || s == UNPACKED64 || s == UNPACKED32))) {
         demand(is_zero(s), "is not zero", s, answer);
         return;
     }
@@ -548,6 +555,52 @@ static uint32_t call_tree(void)
         P64(FUNCTIONS64), P32(FUNCTIONS32), P64(LINES64), P32(LINES32), P8(TEXT)));
 }
 
+static struct symcache_text_part part_of(const uint32_t *words)
+{
+    struct symcache_text_part part = {words[0], words[1]};
+    return part;
+}
+
+static struct symcache_optional_part optional_of(const uint32_t *words)
+{
+    struct symcache_optional_part part = {words[0] != 0, part_of(words + 1)};
+    return part;
+}
+
+/* The same tree with its line rows as a list. */
+static uint32_t call_tree_lines(void)
+{
+    size_t n;
+    any_rows();
+    n = len[LINES64] / SYMCACHE_LINES64_WORDS;
+    lend(LINES, n);
+    for (size_t j = 0; j < n; j++) {
+        const uint64_t *l64 = (uint64_t *)at[LINES64] + j * SYMCACHE_LINES64_WORDS;
+        const uint32_t *l32 = (uint32_t *)at[LINES32] + j * SYMCACHE_LINES32_WORDS;
+        struct symcache_line_row *row = (struct symcache_line_row *)at[LINES] + j;
+        memset(row, 0, sizeof *row);
+        row->address = l64[0];
+        row->has_size = l32[SYMCACHE_LINE_HAS_SIZE] != 0;
+        row->size = l64[1];
+        row->number = l64[2];
+        row->name = part_of(l32 + SYMCACHE_LINE_NAME_START);
+        row->directory = part_of(l32 + SYMCACHE_LINE_DIRECTORY_START);
+        row->srcsrv_name = optional_of(l32 + SYMCACHE_LINE_SRCSRV_NAME_PRESENT);
+        row->srcsrv_dir = optional_of(l32 + SYMCACHE_LINE_SRCSRV_DIR_PRESENT);
+        row->revision = optional_of(l32 + SYMCACHE_LINE_REVISION_PRESENT);
+    }
+    lend(UNPACKED64, about(n * SYMCACHE_LINES64_WORDS));
+    fill(UNPACKED64);
+    lend(UNPACKED32, about(n * SYMCACHE_LINES32_WORDS));
+    fill(UNPACKED32);
+    if (one_in(6))
+        spoil_rows();
+    enter(TREE_LINES);
+    return leave(symcache_process_symbolic_function_lines(P32(RECORD), TABLES, P32(SCRATCH),
+        P64(UNPACKED64), P32(UNPACKED32), P64(FUNCTIONS64), P32(FUNCTIONS32), PROWS(LINES),
+        P8(TEXT)));
+}
+
 static uint32_t call_symbol(void)
 {
     uint32_t name[2];
@@ -813,7 +866,7 @@ static void run_list(void)
             answer = call_serialize();
             break;
         default:
-            answer = call_tree();
+            answer = one_in(2) ? call_tree() : call_tree_lines();
             break;
         }
         if (answer == SYMCACHE_TABLE_FULL && !one_in(4))

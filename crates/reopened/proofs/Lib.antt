@@ -9,5 +9,6 @@ pub mod WrittenFile
 pub mod Claim
 pub mod Marked
 pub mod Tests
+pub mod Sized
 pub mod Worked
 pub mod Instance
