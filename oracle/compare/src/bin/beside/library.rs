@@ -134,6 +134,11 @@ impl<'a> Cache<'a> {
         ffi::walk(self.bytes, &self.cache, addr, &mut cursor)
     }
 
+    /// The index that the search ends at, or MAX.
+    pub fn find(&self, addr: u64) -> u32 {
+        ffi::find(self.bytes, &self.cache, addr)
+    }
+
     /// Calls `each` with the words of every frame; the number of frames.
     pub fn walk(&self, addr: u64, mut each: impl FnMut(&[u32; 13])) -> usize {
         let mut cursor = [0u32; 3];
