@@ -3,8 +3,8 @@
 
 mod common;
 
-use common::{totals, without_room, worked_file, worked_tree, Call, Random};
-use symcache::debuginfo::{FileInfo, Function, LineInfo, Symbol};
+use common::{line_file, totals, without_room, worked_file, worked_tree, Call, Random};
+use symcache::debuginfo::{Function, LineInfo, Symbol};
 use symcache::{Capacity, Converter, Error, Rows, SymCache};
 
 fn large() -> Converter {
@@ -156,13 +156,7 @@ fn capacities_that_are_all_used() {
             address: 2,
             size: Some(1),
             line: 1,
-            file: FileInfo {
-                name: "name".into(),
-                dir: "dir".into(),
-                srcsrv_name: Some("sname".into()),
-                srcsrv_dir: Some("sdir".into()),
-                srcsrv_revision: Some("rev".into()),
-            },
+            file: line_file(),
         }],
         ..Function::default()
     };

@@ -2,8 +2,8 @@
 
 mod common;
 
-use common::{worked_file, worked_tree};
-use symcache::debuginfo::{FileInfo, LineInfo, Symbol};
+use common::{line_file, worked_file, worked_tree};
+use symcache::debuginfo::{LineInfo, Symbol};
 use symcache::{Converter, Layout, Rows, Section, SymCache};
 
 /// The file that the original writes; the lister's.
@@ -187,13 +187,7 @@ fn the_six_texts() {
         address: 0x1000,
         size: None,
         line: 3,
-        file: FileInfo {
-            name: "name".into(),
-            dir: "dir".into(),
-            srcsrv_name: Some("sname".into()),
-            srcsrv_dir: Some("sdir".into()),
-            srcsrv_revision: Some("rev".into()),
-        },
+        file: line_file(),
     }];
     let mut converter = Converter::builder().build();
     converter.process_symbolic_function(&tree).unwrap();

@@ -13,6 +13,17 @@ pub fn line<'a>(address: u64, size: u64, line: u64, name: &'a str) -> LineInfo<'
     }
 }
 
+/// A file with all texts but the compilation directory, each another one.
+pub fn line_file() -> FileInfo<'static> {
+    FileInfo {
+        name: "name".into(),
+        dir: "dir".into(),
+        srcsrv_name: Some("sname".into()),
+        srcsrv_dir: Some("sdir".into()),
+        srcsrv_revision: Some("rev".into()),
+    }
+}
+
 /// Root trk with the inlinee pos.
 pub fn worked_tree() -> Function<'static> {
     Function {
