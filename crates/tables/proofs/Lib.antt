@@ -1,6 +1,7 @@
 pub mod Room
 pub mod Walk
 pub mod Chain
+pub mod Fours
 pub mod Items
 pub mod Rows
 pub mod Steps

@@ -77,9 +77,10 @@ sameWords (x ∷ xs) (y ∷ ys) = eqb x y && sameWords xs ys
 unfoldable pub sameRow : Row → Row → Bool
 sameRow x y = sameWords (rowWords x) (rowWords y)
 
--- any arithmetic would do. Every word counts, and 4,294,967,291 is prime: starts that are multiples of a large power of two are spread like others
+-- any arithmetic would do. Every word counts, and 4,294,966,769 is prime: starts that are multiples of a large power of two are spread like others. Of the first word the
+-- block of 4,096 is spread, and its place there is added by eights: near starts have near buckets
 unfoldable pub hashOf : Row → ℕ
-hashOf k = (k .a * 426336013 + k .b * 378551279 + k .c * 511286833 + k .d * 296414521 + k .e * 347229887 + k .f * 467201681) % 4294967291
+hashOf k = (k .a / 4096 * 426336013 + k .b * 378551279 + k .c * 511286833 + k .d * 296414521 + k .e * 347229887 + k .f * 467201681) % 4294966769 + k .a % 4096 / 8
 
 -- row i has the key k
 unfoldable pub hitAt : List ℕ → ℕ → Row → ℕ → Bool

@@ -194,17 +194,18 @@ fn same(x: Row, y: Row) -> bool
     false
 }
 
-// The words by factors that no power of two divides, modulo the greatest prime below 2^32.
+// The words by factors that no power of two divides, modulo a prime. Of the first word its block of 4,096 counts there; its place in the block is added, by eights, so that starts that
+// are near each other have buckets that are.
 fn hash(k: Row) -> u32
     ensures { λ r. ⌜ r ≡ hashOf k ⌝ }
 {
-    let s = (k.a as u64) * 426336013
+    let s = (k.a as u64 / 4096) * 426336013
         + (k.b as u64) * 378551279
         + (k.c as u64) * 511286833
         + (k.d as u64) * 296414521
         + (k.e as u64) * 347229887
         + (k.f as u64) * 467201681;
-    (s % 4294967291) as u32
+    (s % 4294966769) as u32 + k.a % 4096 / 8
 }
 
 // Whether row i has the key k: its first word is looked at first.

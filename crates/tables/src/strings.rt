@@ -228,7 +228,23 @@ fn same_at(text: &[u8], start: usize, t: &[u8]) -> bool
     same(&text[start..end], t)
 }
 
+// Four bytes at a time.
 fn same(x: &[u8], y: &[u8]) -> bool
+    requires { ⌜ length (now x) ≡ length (now y) ⌝ }
+    ensures { λ r. ⌜ r ≡ sameWords (now (x .entry)) (now (y .entry)) ⌝ }
+{
+    let mut i = 0;
+    while 4 <= x.len() - i {
+        if word(x, i) != word(y, i) {
+            return false;
+        }
+        i += 4;
+    }
+    same_rest(&x[i..], &y[i..])
+}
+
+// The last bytes, one by one.
+fn same_rest(x: &[u8], y: &[u8]) -> bool
     requires { ⌜ length (now x) ≡ length (now y) ⌝ }
     ensures { λ r. ⌜ r ≡ sameWords (now (x .entry)) (now (y .entry)) ⌝ }
 {
@@ -281,7 +297,7 @@ fn mix(x: u64, w: u64) -> u64
 // Four bytes as a number, the first one lowest.
 fn word(t: &[u8], i: usize) -> u64
     requires { ⌜ i + 4 ≤ length (now t) ⌝ }
-    ensures { λ r. ⌜ (r ≡ four (getD (now (t .entry)) i 0) (getD (now (t .entry)) (i + 1) 0) (getD (now (t .entry)) (i + 2) 0) (getD (now (t .entry)) (i + 3) 0)) × (r < 4294967296) ⌝ }
+    ensures { λ r. ⌜ (r ≡ four (getD (now (t .entry)) i 0) (getD (now (t .entry)) (i + 1) 0) (getD (now (t .entry)) (i + 2) 0) (getD (now (t .entry)) (i + 3) 0)) × (r < 4294967296) × (getD (now (t .entry)) i 0 < 256) × (getD (now (t .entry)) (i + 1) 0 < 256) × (getD (now (t .entry)) (i + 2) 0 < 256) × (getD (now (t .entry)) (i + 3) 0 < 256) ⌝ }
 {
     wide(t[i]) + wide(t[i + 1]) * 256 + wide(t[i + 2]) * 65536 + wide(t[i + 3]) * 16777216
 }

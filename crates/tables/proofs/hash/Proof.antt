@@ -1,5 +1,6 @@
 use mathlib.Core.Path.{refl}
 use borrow.Author.Needs.{needs}
+use native.Mathlib.Omega.{arith}
 use Rattle.tables.specs.Table.{hashOf}
 use Rattle.tables.proofs.hash.Statement.{statement}
 use Rattle.tables.proofs.hash.Tie as tie
@@ -78,6 +79,9 @@ add-s-5 c = search needs
 cast-result : tie.Need-cast-result
 cast-result c = search needs
 
+add-result : tie.Need-add-result
+add-result c = omega arith
+
 -- src/lib.rt:183:1
 returns : tie.Need-returns
 unfolding hashOf
@@ -105,4 +109,5 @@ hash-spec =
     mul-s-6
     add-s-5
     cast-result
+    add-result
     returns)

@@ -3,29 +3,15 @@ use Prim.Native.Nat.{ℕ, _+_, _-_, _%_, _<_, _≤_}
 use mathlib.Core.Path.{_≡_, refl, _∙_}
 use mathlib.Core.List.{List, _∷_}
 use native.Mathlib.Omega.{arith}
-use native.Mathlib.Numerals.{add-one}
 use lib.ListN.{length, getD, take, drop, length-drop}
-use lib.Seq.{drop-cons, take-all}
+use Rattle.tables.proofs.Fours.{four-left, rest-is}
 use Rattle.tables.specs.Strings.{mixed, four, hashFrom, textHash}
 use Rattle.tables.proofs.strings.hash.Statement.{statement}
 use Rattle.tables.proofs.strings.hash.Tie as tie
 
-next : (t : List ℕ) (i : ℕ) → i < length t → drop i t ≡ getD t i 0 ∷ drop (i + 1) t
-next t i h = rw (add-one i) (drop-cons t i 0 h)
-
-four-left : (t : List ℕ) (i : ℕ) → i + 4 ≤ length t → drop i t ≡ getD t i 0 ∷ (getD t (i + 1) 0 ∷ (getD t (i + 2) 0 ∷ (getD t (i + 3) 0 ∷ drop (i + 4) t)))
-four-left t i h =
-    let e₂ : i + 1 + 1 ≡ i + 2 = omega arith in
-    let e₃ : i + 2 + 1 ≡ i + 3 = omega arith in
-    let e₄ : i + 3 + 1 ≡ i + 4 = omega arith in
-    rw (next t i (omega arith), next t (i + 1) (omega arith), e₂, next t (i + 2) (omega arith), e₃, next t (i + 3) (omega arith), e₄)
-
 more : (t : List ℕ) (x i : ℕ) {w y : ℕ} → 4 ≤ length t - i → w ≡ four (getD t i 0) (getD t (i + 1) 0) (getD t (i + 2) 0) (getD t (i + 3) 0) → y ≡ mixed x w → hashFrom x (drop i t) ≡ hashFrom y (drop (i + 4) t)
 unfolding hashFrom
 more t x i h e f = rw (four-left t i (omega arith), f, e)
-
-rest-is : (t : List ℕ) (i : ℕ) → take (length t - i) (drop i t) ≡ drop i t
-rest-is t i = take-all (length t - i) (drop i t) (rw (length-drop i t) (omega arith))
 
 short : (t : List ℕ) (i : ℕ) → length t - i < 4 → length (take (length t - i) (drop i t)) < 4
 short t i h = rw (rest-is t i, length-drop i t) h

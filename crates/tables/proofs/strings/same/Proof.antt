@@ -2,25 +2,16 @@
 use Prim.Native.Nat.{ℕ, _+_, _-_, _<_, _≤_}
 use mathlib.Core.Path.{_≡_, refl, sym, _∙_}
 use mathlib.Core.List.{List}
-use mathlib.Core.Bool.{true, false}
+use mathlib.Core.Bool.{Bool}
 use native.Mathlib.Omega.{arith}
-use native.Mathlib.Numerals.{add-one}
-use lib.ListN.{length, getD, drop, drop-of-length-le}
-use lib.Seq.{drop-cons}
-use borrow.Author.Tests.{eq-eqb, ne-eqb}
+use lib.ListN.{length, take, drop, length-drop}
 use Rattle.tables.specs.Table.{sameWords}
+use Rattle.tables.proofs.Fours.{rest-is, fours-same, fours-differ}
 use Rattle.tables.proofs.strings.same.Statement.{statement}
 use Rattle.tables.proofs.strings.same.Tie as tie
 
-module _ (x y : List ℕ) (i : ℕ) where
-  more : i < length x → i < length y → getD x i 0 ≡ getD y i 0 → sameWords (drop i x) (drop i y) ≡ sameWords (drop (i + 1) x) (drop (i + 1) y)
-  more h k e = rw (add-one i, drop-cons x i 0 h, drop-cons y i 0 k, eq-eqb _ _ e)
-
-  differ : i < length x → i < length y → (getD x i 0 ≡ getD y i 0 → ⊥) → sameWords (drop i x) (drop i y) ≡ false
-  differ h k e = rw (drop-cons x i 0 h, drop-cons y i 0 k, ne-eqb _ _ e)
-
-  done : length x ≤ i → length y ≤ i → sameWords (drop i x) (drop i y) ≡ true
-  done h k = rw (drop-of-length-le x h, drop-of-length-le y k)
+rests : (x y : List ℕ) (i : ℕ) {r : Bool} → sameWords x y ≡ sameWords (drop i x) (drop i y) → r ≡ sameWords (take (length x - i) (drop i x)) (take (length y - i) (drop i y)) → r ≡ sameWords x y
+rests x y i inv e = rw (e, rest-is x i, rest-is y i, ← inv)
 
 abbrev Inv-loop : tie.InvT-loop
 Inv-loop x y i₀ i = (i ≤ length x) × (sameWords x y ≡ sameWords (drop i x) (drop i y))
@@ -31,17 +22,20 @@ abbrev μ-loop : tie.MeasureT-loop
 loop-holds : tie.Need-loop-holds Inv-loop μ-loop
 loop-holds c = (omega arith, refl)
 
-shared-slice-read-if1 : tie.Need-shared-slice-read-if1 Inv-loop μ-loop
-shared-slice-read-if1 c = omega arith
+sub-loop : tie.Need-sub-loop Inv-loop μ-loop
+sub-loop c = omega arith
 
-shared-slice-read-if1-2 : tie.Need-shared-slice-read-if1-2 Inv-loop μ-loop
-shared-slice-read-if1-2 c = omega arith
+word-requires : tie.Need-word-requires Inv-loop μ-loop
+word-requires c κs = omega arith
+
+word-requires-2 : tie.Need-word-requires-2 Inv-loop μ-loop
+word-requires-2 c κs = omega arith
 
 returns : tie.Need-returns Inv-loop μ-loop
 returns c =
-    let a = c .before .before .before .before .before .args in
+    let a = c .before .before .before .before .before .before .before .args in
     let l = c .before .before .before .before .loop in
-    sym (l .inv .1 ∙ differ (a .x .now) (a .y .now) (l .i) (omega arith) (omega arith) (c .if1 .taken))
+    sym (l .inv .1 ∙ fours-differ (a .x .now) (a .y .now) (l .i) (c .before .before .word .ensures) (c .before .word2 .ensures) (c .if1 .taken))
 
 add-i : tie.Need-add-i Inv-loop μ-loop
 add-i c = omega arith
@@ -51,15 +45,59 @@ loop-less c = omega arith
 
 loop-again : tie.Need-loop-again Inv-loop μ-loop
 loop-again c =
-    let a = c .before .before .before .before .before .args in
+    let a = c .before .before .before .before .before .before .before .args in
     let l = c .before .before .before .before .loop in
-    (omega arith, l .inv .1 ∙ more (a .x .now) (a .y .now) (l .i) (omega arith) (omega arith) (c .if1 .left))
+    (omega arith, l .inv .1 ∙ fours-same (a .x .now) (a .y .now) (l .i) (c .before .before .word .ensures) (c .before .word2 .ensures) (omega arith) (omega arith) (c .if1 .left))
+
+sub-same-rest : tie.Need-sub-same-rest Inv-loop μ-loop
+sub-same-rest c = omega arith
+
+part-same-rest-start : tie.Need-part-same-rest-start Inv-loop μ-loop
+part-same-rest-start c = omega arith
+
+part-same-rest-end : tie.Need-part-same-rest-end Inv-loop μ-loop
+part-same-rest-end c = omega arith
+
+sub-same-rest-2 : tie.Need-sub-same-rest-2 Inv-loop μ-loop
+sub-same-rest-2 c = omega arith
+
+part-same-rest-start-2 : tie.Need-part-same-rest-start-2 Inv-loop μ-loop
+part-same-rest-start-2 c = omega arith
+
+part-same-rest-end-2 : tie.Need-part-same-rest-end-2 Inv-loop μ-loop
+part-same-rest-end-2 c = omega arith
+
+same-rest-requires : tie.Need-same-rest-requires Inv-loop μ-loop
+same-rest-requires c κs =
+    let a = c .before .before .before .before .before .before .args in
+    let i = c .before .before .before .loop .i in
+    rw (rest-is (a .x .now) i, rest-is (a .y .now) i, length-drop i (a .x .now), length-drop i (a .y .now)) (omega arith)
 
 returns-2 : tie.Need-returns-2 Inv-loop μ-loop
 returns-2 c =
-    let a = c .before .before .args in
-    let l = c .before .loop in
-    sym (l .inv .1 ∙ done (a .x .now) (a .y .now) (l .i) (omega arith) (omega arith))
+    let a = c .before .before .before .before .before .before .before .args in
+    let l = c .before .before .before .before .loop in
+    rests (a .x .now) (a .y .now) (l .i) (l .inv .1) (c .same-rest .ensures)
 
 pub same-spec : {M : Type 1} → statement M
-same-spec = tie.close (tie.spec Inv-loop μ-loop loop-holds shared-slice-read-if1 shared-slice-read-if1-2 returns add-i loop-less loop-again returns-2)
+same-spec =
+    tie.close
+    (tie.spec
+    Inv-loop
+    μ-loop
+    loop-holds
+    sub-loop
+    word-requires
+    word-requires-2
+    returns
+    add-i
+    loop-less
+    loop-again
+    sub-same-rest
+    part-same-rest-start
+    part-same-rest-end
+    sub-same-rest-2
+    part-same-rest-start-2
+    part-same-rest-end-2
+    same-rest-requires
+    returns-2)
