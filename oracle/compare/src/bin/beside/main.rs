@@ -1,8 +1,9 @@
 //! The original and the proved library side by side: same input, same driver, one process. `beside [TREES]`.
 //!
-//! Conversion and writing are timed at TREES and at ten times TREES (trees of 16 line rows), in address order and shuffled; lookups on the
-//! larger file. What both are given is made before the clock starts; the library's memory is lent by the driver and zeroed by `begin`, inside
-//! the time. The original's output keeps its room from run to run, as the library's does. Times are those that the thread ran (CPU time), medians of five runs in turn.
+//! Conversion and writing are timed at ten times TREES (trees of 16 line rows), as one file and as ten files of TREES, in address order and shuffled; lookups on
+//! the large file. The tenths are the same trees as the whole, so that both sizes read the same input once: what differs is how much the tables hold. What both are given is made before the clock starts; the library's memory is lent by the driver and zeroed by `begin`, inside
+//! the time. The original's output keeps its room from run to run, as the library's does. Times are those that the thread ran (CPU time); a ratio is taken in each of seven
+//! runs, in which theirs and ours, the tenths and the whole come in turn, and its median counts.
 
 mod clock;
 mod library;
@@ -15,7 +16,7 @@ use oracle::random::Random;
 use oracle::trees::{Kind, tree};
 use oracle::*;
 
-const RUNS: usize = 5;
+const RUNS: usize = 7;
 const LOOKUPS: usize = 2_000_000;
 
 /// Least and median of some times.
@@ -24,63 +25,106 @@ fn least_median(mut times: Vec<f64>) -> (f64, f64) {
     (times[0], times[times.len() / 2])
 }
 
-/// Medians of converting and writing, theirs and ours, and the file.
-struct Made {
-    theirs: [f64; 2],
-    ours: [f64; 2],
-    file: Vec<u8>,
-}
-
 fn capacities(trees: usize) -> Capacities {
     Capacities { text: 260 * trees + 1_000_000, strings: 2 * trees + 40_000, files: 8_000, functions: 2 * trees + 40_000, call_locations: 4 * trees, ranges: 20 * trees }
 }
 
-fn convert(what: &str, rows: &[Vec<Row>]) -> Made {
-    let packed: Vec<Packed> = rows.iter().map(|t| Packed::new(t)).collect();
-    let mut library = Library::new(capacities(rows.len()));
-    let (mut tc, mut tw, mut oc, mut ow) = (vec![], vec![], vec![], vec![]);
-    let (mut theirs, mut ours) = (Vec::new(), Vec::new());
-    for _ in 0..RUNS {
-        let built: Vec<_> = rows.iter().map(|t| build(t)).collect();
-        let begun = Moment::now();
-        let mut converter = SymCacheConverter::new();
-        for function in &built {
-            converter.process_symbolic_function(function);
-        }
-        tc.push(begun.seconds());
-        theirs.clear();
-        let begun = Moment::now();
-        converter.serialize(&mut theirs).unwrap();
-        tw.push(begun.seconds());
-
-        let begun = Moment::now();
-        library.begin();
-        for tree in &packed {
-            let number = library.tree(tree);
-            assert_eq!(number, 0);
-        }
-        oc.push(begun.seconds());
-        ours.resize(theirs.len(), 0);
-        let begun = Moment::now();
-        let len = library.serialize(&mut ours).expect("a file");
-        ow.push(begun.seconds());
-        assert_eq!(len, theirs.len());
-    }
-    assert!(ours == theirs, "{what}: the files differ");
-    let [(tc0, tc), (tw0, tw), (oc0, oc), (ow0, ow)] = [tc, tw, oc, ow].map(least_median);
-    println!(
-        "{what}, {} trees: convert {tc:.3} s (least {tc0:.3}) and {oc:.3} s (least {oc0:.3}), ratio {:.2}; write {tw:.3} s (least {tw0:.3}) and {ow:.3} s (least {ow0:.3}), ratio {:.2}; together {:.2}; {} bytes, equal",
-        rows.len(),
-        oc / tc,
-        ow / tw,
-        (oc + ow) / (tc + tw),
-        ours.len()
-    );
-    Made { theirs: [tc, tw], ours: [oc, ow], file: ours }
+/// Trees that are made into files of `each` trees, one file after the other.
+struct Input<'a> {
+    each: usize,
+    rows: &'a [Vec<Row>],
+    packed: &'a [Packed],
+    library: Library,
+    theirs: Vec<u8>,
+    ours: Vec<u8>,
+    /// Seconds for all the files together, of each run: theirs (converting, writing) and ours.
+    times: Vec<[f64; 4]>,
 }
 
-fn sum(t: [f64; 2]) -> f64 {
-    t[0] + t[1]
+impl<'a> Input<'a> {
+    fn new(each: usize, rows: &'a [Vec<Row>], packed: &'a [Packed]) -> Self {
+        Input { each, rows, packed, library: Library::new(capacities(each)), theirs: Vec::new(), ours: Vec::new(), times: Vec::new() }
+    }
+
+    fn run(&mut self) {
+        let mut times = [0.0; 4];
+        for (rows, packed) in self.rows.chunks(self.each).zip(self.packed.chunks(self.each)) {
+            let built: Vec<_> = rows.iter().map(|t| build(t)).collect();
+            let begun = Moment::now();
+            let mut converter = SymCacheConverter::new();
+            for function in &built {
+                converter.process_symbolic_function(function);
+            }
+            times[0] += begun.seconds();
+            self.theirs.clear();
+            let begun = Moment::now();
+            converter.serialize(&mut self.theirs).unwrap();
+            times[1] += begun.seconds();
+            drop(built);
+
+            let begun = Moment::now();
+            self.library.begin();
+            for tree in packed {
+                let number = self.library.tree(tree);
+                assert_eq!(number, 0);
+            }
+            times[2] += begun.seconds();
+            self.ours.resize(self.theirs.len(), 0);
+            let begun = Moment::now();
+            let len = self.library.serialize(&mut self.ours).expect("a file");
+            times[3] += begun.seconds();
+            assert!(len == self.theirs.len() && self.ours == self.theirs, "the files differ");
+        }
+        self.times.push(times);
+    }
+
+    /// Least and median over the runs of what `f` makes of a run's times.
+    fn over(&self, f: impl Fn(&[f64; 4]) -> f64) -> (f64, f64) {
+        least_median(self.times.iter().map(f).collect())
+    }
+
+    fn report(&self, what: &str) {
+        let [(tc0, tc), (tw0, tw), (oc0, oc), (ow0, ow)] = [0, 1, 2, 3].map(|i| self.over(|t| t[i]));
+        println!(
+            "{what}, files of {} trees: convert {tc:.3} s (least {tc0:.3}) and {oc:.3} s (least {oc0:.3}), ratio {:.2}; write {tw:.3} s (least {tw0:.3}) and {ow:.3} s (least {ow0:.3}), ratio {:.2}; together {:.2}; the last has {} bytes, equal",
+            self.each,
+            self.over(|t| t[2] / t[0]).1,
+            self.over(|t| t[3] / t[1]).1,
+            self.over(ratio).1,
+            self.ours.len()
+        );
+    }
+}
+
+/// Ours over theirs, converting and writing together.
+fn ratio(t: &[f64; 4]) -> f64 {
+    (t[2] + t[3]) / (t[0] + t[1])
+}
+
+/// What converting and writing showed: ours over theirs in the whole, and the time of the whole over that of its tenths, theirs and ours.
+struct Made {
+    ratio: f64,
+    growth: [f64; 2],
+    file: Vec<u8>,
+}
+
+/// The trees as one file, and as ten files of a tenth each, in turn; every ratio is the median of those of the runs.
+fn convert(what: &str, rows: &[Vec<Row>]) -> Made {
+    let packed: Vec<Packed> = rows.iter().map(|t| Packed::new(t)).collect();
+    let mut tenths = Input::new(rows.len() / 10, rows, &packed);
+    let mut whole = Input::new(rows.len(), rows, &packed);
+    for _ in 0..RUNS {
+        tenths.run();
+        whole.run();
+    }
+    tenths.report(what);
+    whole.report(what);
+    let growth = [0, 2].map(|i| {
+        let each = whole.times.iter().zip(&tenths.times).map(|(w, t)| (w[i] + w[i + 1]) / (t[i] + t[i + 1]));
+        least_median(each.collect()).1
+    });
+    println!("{what}: time of the whole over that of its tenths: {:.2} and {:.2}", growth[0], growth[1]);
+    Made { ratio: whole.over(ratio).1, growth, file: whole.ours }
 }
 
 /// Times of both on one list of addresses: the first location, whole walks, whole walks with all texts; and of the library's search alone beside
@@ -152,24 +196,20 @@ fn main() {
             Kind::Alike => "names alike",
             Kind::Spread => "addresses of 4,096",
         };
-        let mut made = Vec::new();
-        for count in [trees, 10 * trees] {
-            let mut r = Random::new(3);
-            let mut rows: Vec<Vec<Row>> = (0..count as u64).map(|i| tree(&mut r, i, kind)).collect();
-            let ordered = convert(&format!("{name}, in order"), &rows);
-            r.shuffle(&mut rows);
-            let shuffled = convert(&format!("{name}, shuffled"), &rows);
-            made.push([ordered, shuffled]);
+        let mut r = Random::new(3);
+        let mut rows: Vec<Vec<Row>> = (0..10 * trees as u64).map(|i| tree(&mut r, i, kind)).collect();
+        let mut large = Vec::new();
+        for order in ["in order", "shuffled"] {
+            if order == "shuffled" {
+                r.shuffle(&mut rows);
+            }
+            let made = convert(&format!("{name}, {order}"), &rows);
+            growth = growth.max(made.growth[1]);
+            large.push(made);
         }
-        for (i, order) in ["in order", "shuffled"].into_iter().enumerate() {
-            let ratio = |t: fn(&Made) -> f64| t(&made[1][i]) / (10.0 * t(&made[0][i]));
-            let (theirs, ours) = (ratio(|m| sum(m.theirs)), ratio(|m| sum(m.ours)));
-            println!("{name}, {order}: ten times the trees, over ten times the time: {theirs:.2} and {ours:.2}");
-            growth = growth.max(ours);
-        }
-        last = made.pop();
+        last = Some(large);
     }
-    let [ordered, shuffled] = last.unwrap();
+    let [ordered, shuffled] = &last.unwrap()[..] else { unreachable!() };
     let file = Aligned::new(&ordered.file);
     let theirs = SymCache::parse(file.bytes()).unwrap();
     let ours = Cache::open(file.bytes()).expect("a cache");
@@ -184,8 +224,8 @@ fn main() {
     let a = lookups("random", &theirs, &ours, &random);
     let b = lookups("ascending", &theirs, &ours, &ascending);
     let worse = |i: usize| (a[i][1] / a[i][0]).max(b[i][1] / b[i][0]);
-    println!("convert-ratio {:.2}", sum(ordered.ours) / sum(ordered.theirs));
-    println!("shuffled-ratio {:.2}", sum(shuffled.ours) / sum(shuffled.theirs));
+    println!("convert-ratio {:.2}", ordered.ratio);
+    println!("shuffled-ratio {:.2}", shuffled.ratio);
     println!("lookup-ratio {:.2}", worse(0));
     println!("walk-ratio {:.2}", worse(2));
     println!("growth-ratio {growth:.2}");
