@@ -1,9 +1,10 @@
 //! The original and the proved library side by side: same input, same driver, one process. `beside [TREES]`.
 //!
-//! Conversion and writing are timed at ten times TREES (trees of 16 line rows), as one file and as ten files of TREES, in address order and shuffled; lookups on
-//! the large file. The tenths are the same trees as the whole, so that both sizes read the same input once: what differs is how much the tables hold. What both are given is made before the clock starts; the library's memory is lent by the driver and zeroed by `begin`, inside
-//! the time. The original's output keeps its room from run to run, as the library's does. Times are those that the thread ran (CPU time); a ratio is taken in each of seven
-//! runs, in which theirs and ours, the tenths and the whole come in turn, and its median counts.
+//! Conversion and writing are timed at ten times TREES (trees of 16 line rows), as one file and as ten files of TREES, in address order and
+//! shuffled; lookups on the large file. The tenths are the trees of the whole, so that both read the same input: what differs is how much the
+//! tables hold. What both are given is made before the clock starts; the library's memory is lent by the driver and zeroed by `begin`, inside
+//! the time. The original's output keeps its room from run to run, as the library's does. Times are those that the thread ran (CPU time). A
+//! ratio is taken in each of seven runs, in which theirs and ours, the tenths and the whole come in turn; its median counts.
 
 mod clock;
 mod library;
@@ -127,9 +128,9 @@ fn convert(what: &str, rows: &[Vec<Row>]) -> Made {
     Made { ratio: whole.over(ratio).1, growth, file: whole.ours }
 }
 
-/// Times of both on one list of addresses: the first location, whole walks, whole walks with all texts; and of the library's search alone beside
-/// the original's first location. In a walk without texts the library reads the function and the file row of each frame, the original neither.
-fn lookups(what: &str, theirs: &SymCache, ours: &Cache, list: &[u64]) -> [[f64; 2]; 4] {
+/// Ours over theirs (the median of the runs) on one list of addresses: the first location, whole walks, whole walks with all texts; and of the library's search
+/// alone beside the original's first location. In a walk without texts the library reads the function and the file row of each frame, the original neither.
+fn lookups(what: &str, theirs: &SymCache, ours: &Cache, list: &[u64]) -> [f64; 4] {
     let time = |f: &mut dyn FnMut(u64) -> u64| {
         let begun = Moment::now();
         let mut sum = 0u64;
@@ -138,7 +139,7 @@ fn lookups(what: &str, theirs: &SymCache, ours: &Cache, list: &[u64]) -> [[f64; 
         }
         (begun.seconds(), black_box(sum))
     };
-    let mut result = [[0.0; 2]; 4];
+    let mut result = [0.0; 4];
     for (i, name) in ["first location", "walk", "walk with texts", "first location and search alone"].into_iter().enumerate() {
         let (mut t, mut o) = (vec![], vec![]);
         for _ in 0..RUNS {
@@ -170,10 +171,10 @@ fn lookups(what: &str, theirs: &SymCache, ours: &Cache, list: &[u64]) -> [[f64; 
             t.push(a);
             o.push(b);
         }
+        result[i] = least_median(o.iter().zip(&t).map(|(o, t)| o / t).collect()).1;
         let ((t0, t), (o0, o)) = (least_median(t), least_median(o));
         let n = list.len() as f64 / 1e9;
-        println!("{what} lookups, {name}: {:.0} ns (least {:.0}) and {:.0} ns (least {:.0}), ratio {:.2}", t / n, t0 / n, o / n, o0 / n, o / t);
-        result[i] = [t, o];
+        println!("{what} lookups, {name}: {:.0} ns (least {:.0}) and {:.0} ns (least {:.0}), ratio {:.2}", t / n, t0 / n, o / n, o0 / n, result[i]);
     }
     result
 }
@@ -223,7 +224,7 @@ fn main() {
     ascending.sort();
     let a = lookups("random", &theirs, &ours, &random);
     let b = lookups("ascending", &theirs, &ours, &ascending);
-    let worse = |i: usize| (a[i][1] / a[i][0]).max(b[i][1] / b[i][0]);
+    let worse = |i: usize| a[i].max(b[i]);
     println!("convert-ratio {:.2}", ordered.ratio);
     println!("shuffled-ratio {:.2}", shuffled.ratio);
     println!("lookup-ratio {:.2}", worse(0));
