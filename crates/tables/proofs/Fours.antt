@@ -9,7 +9,7 @@ use lib.ListN.{length, getD, take, drop, length-drop}
 use lib.Seq.{drop-cons, take-all, getD-drop}
 use borrow.Author.Tests.{eq-eqb}
 use Rattle.tables.specs.Table.{sameWords}
-use Rattle.tables.specs.Strings.{four}
+use Rattle.tables.specs.Strings.{four, fourAt}
 use Rattle.tables.proofs.Rows.{words-eq}
 
 next : (t : List ℕ) (i : ℕ) → i < length t → drop i t ≡ getD t i 0 ∷ drop (i + 1) t
@@ -26,16 +26,12 @@ four-left t i h =
 pub rest-is : (t : List ℕ) (i : ℕ) → take (length t - i) (drop i t) ≡ drop i t
 rest-is t i = take-all (length t - i) (drop i t) (rw (length-drop i t) (omega arith))
 
--- The four bytes of t from i on, as a number, and each below 256: what `word` promises.
-abbrev pub Four : List ℕ → ℕ → ℕ → Type 0
-Four t i w = (w ≡ four (getD t i 0) (getD t (i + 1) 0) (getD t (i + 2) 0) (getD t (i + 3) 0)) × (w < 4294967296) × (getD t i 0 < 256) × (getD t (i + 1) 0 < 256) × (getD t (i + 2) 0 < 256) × (getD t (i + 3) 0 < 256)
-
 module _ {a b c d a' b' c' d' : ℕ} (ha : a < 256) (hb : b < 256) (hc : c < 256) (hd : d < 256) (ha' : a' < 256) (hb' : b' < 256) (hc' : c' < 256) (hd' : d' < 256) (e : four a b c d ≡ four a' b' c' d') where
   -- each by its place in the number
-  pub bytes-same : (a ≡ a') × (b ≡ b') × (c ≡ c') × (d ≡ d')
+  bytes-same : (a ≡ a') × (b ≡ b') × (c ≡ c') × (d ≡ d')
   bytes-same = (omega arith, omega arith, omega arith, omega arith)
 
-module _ (x y : List ℕ) (i : ℕ) {u v : ℕ} (fu : Four x i u) (fv : Four y i v) where
+module _ (x y : List ℕ) (i : ℕ) {u v : ℕ} (fu : fourAt x i u) (fv : fourAt y i v) where
   pub fours-same : i + 4 ≤ length x → i + 4 ≤ length y → u ≡ v → sameWords (drop i x) (drop i y) ≡ sameWords (drop (i + 4) x) (drop (i + 4) y)
   fours-same h k e =
       let s = bytes-same (fu .2) (fu .3) (fu .4) (fu .5) (fv .2) (fv .3) (fv .4) (fv .5) (sym (fu .0) ∙ e ∙ fv .0) in

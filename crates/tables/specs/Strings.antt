@@ -1,10 +1,11 @@
 -- The string table (document 01, "Texts"): the bytes of the string section, and an index of its texts, for any content and any counts. The Rust's `StringTable` keeps a
 -- hash map; here the index is one more table. A row of it says where the text's length prefix begins, where its bytes begin, how many there are, and its hash.
-use Prim.Native.Nat.{ℕ, _+_, _*_, _/_, _%_}
+use Prim.Native.Nat.{ℕ, _+_, _*_, _/_, _%_, _<_}
+use mathlib.Core.Path.{_≡_}
 use mathlib.Core.List.{List, [], _∷_, _++_}
 use mathlib.Core.Bool.{Bool, cond, _&&_}
 use lib.Dec.{ltb, leb, eqb}
-use lib.ListN.{length, take, drop}
+use lib.ListN.{length, getD, take, drop}
 use lib.Seq.{sets}
 use Rattle.text.specs.Leb128.{encoded}
 use Rattle.tables.specs.Table.{rowAt, linkAt, headAt, appendOf, overOf, capacityOf, bucketOf, sameWords, walk}
@@ -30,6 +31,16 @@ mixed x w = (x % 4294967296 + w) * 1791398085 + x / 4294967296
 
 abbrev pub four : ℕ → ℕ → ℕ → ℕ → ℕ
 four a b c d = a + b * 256 + c * 65536 + d * 16777216
+
+-- w is the number of the four bytes of t from i on, and each of them is a byte
+abbrev pub fourAt : List ℕ → ℕ → ℕ → Type 0
+fourAt t i w =
+    (w ≡ four (getD t i 0) (getD t (i + 1) 0) (getD t (i + 2) 0) (getD t (i + 3) 0))
+    × (w < 4294967296)
+    × (getD t i 0 < 256)
+    × (getD t (i + 1) 0 < 256)
+    × (getD t (i + 2) 0 < 256)
+    × (getD t (i + 3) 0 < 256)
 
 -- every byte counts; four at a time, and what is left at the end one by one
 unfoldable pub hashFrom : ℕ → List ℕ → ℕ

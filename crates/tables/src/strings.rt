@@ -11,7 +11,7 @@ ghost use lib.ListN.{length, getD, take, drop};
 ghost use lib.Seq.{sets};
 ghost use Rattle.text.specs.Leb128.{encoded};
 ghost use Rattle.tables.specs.Table.{linkAt, sameWords, walk};
-ghost use Rattle.tables.specs.Strings.{textCapacityOf, storedText, mixed, four, hashFrom, textHash, textAt, findText, indexOf, fullOf, storeOf, insertTextOf, stringsLeft};
+ghost use Rattle.tables.specs.Strings.{textCapacityOf, storedText, mixed, fourAt, hashFrom, textHash, textAt, findText, indexOf, fullOf, storeOf, insertTextOf, stringsLeft};
 
 pub struct Stored {
     // Where the prefix of the text begins.
@@ -294,10 +294,10 @@ fn mix(x: u64, w: u64) -> u64
     (x % 4294967296 + w) * 1791398085 + x / 4294967296
 }
 
-// Four bytes as a number, the first one lowest.
+// Four bytes as a number, the first one lowest; each is below 256.
 fn word(t: &[u8], i: usize) -> u64
     requires { ⌜ i + 4 ≤ length (now t) ⌝ }
-    ensures { λ r. ⌜ (r ≡ four (getD (now (t .entry)) i 0) (getD (now (t .entry)) (i + 1) 0) (getD (now (t .entry)) (i + 2) 0) (getD (now (t .entry)) (i + 3) 0)) × (r < 4294967296) × (getD (now (t .entry)) i 0 < 256) × (getD (now (t .entry)) (i + 1) 0 < 256) × (getD (now (t .entry)) (i + 2) 0 < 256) × (getD (now (t .entry)) (i + 3) 0 < 256) ⌝ }
+    ensures { λ r. ⌜ fourAt (now (t .entry)) i r ⌝ }
 {
     wide(t[i]) + wide(t[i + 1]) * 256 + wide(t[i + 2]) * 65536 + wide(t[i + 3]) * 16777216
 }

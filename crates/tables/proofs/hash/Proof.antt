@@ -1,3 +1,4 @@
+-- `hash` meets its contract: no product and no sum passes 64 bits, and the last sum none of 32.
 use mathlib.Core.Path.{refl}
 use borrow.Author.Needs.{needs}
 use native.Mathlib.Omega.{arith}
@@ -7,82 +8,63 @@ use Rattle.tables.proofs.hash.Tie as tie
 use Rattle.tables.proofs.hash.Reads as reads
 use Rattle.tables.proofs.hash.Lts as lts
 
--- src/lib.rt:186:14
 cast-s : tie.Need-cast-s
 cast-s c = search needs
 
--- src/lib.rt:186:13
 mul-s : tie.Need-mul-s
 mul-s c = search needs
 
--- src/lib.rt:187:12
 cast-s-2 : tie.Need-cast-s-2
 cast-s-2 c = search needs
 
--- src/lib.rt:187:11
 mul-s-2 : tie.Need-mul-s-2
 mul-s-2 c = search needs
 
--- src/lib.rt:186:13
 add-s : tie.Need-add-s
 add-s c = search needs
 
--- src/lib.rt:188:12
 cast-s-3 : tie.Need-cast-s-3
 cast-s-3 c = search needs
 
--- src/lib.rt:188:11
 mul-s-3 : tie.Need-mul-s-3
 mul-s-3 c = search needs
 
--- src/lib.rt:186:13
 add-s-2 : tie.Need-add-s-2
 add-s-2 c = search needs
 
--- src/lib.rt:189:12
 cast-s-4 : tie.Need-cast-s-4
 cast-s-4 c = search needs
 
--- src/lib.rt:189:11
 mul-s-4 : tie.Need-mul-s-4
 mul-s-4 c = search needs
 
--- src/lib.rt:186:13
 add-s-3 : tie.Need-add-s-3
 add-s-3 c = search needs
 
--- src/lib.rt:190:12
 cast-s-5 : tie.Need-cast-s-5
 cast-s-5 c = search needs
 
--- src/lib.rt:190:11
 mul-s-5 : tie.Need-mul-s-5
 mul-s-5 c = search needs
 
--- src/lib.rt:186:13
 add-s-4 : tie.Need-add-s-4
 add-s-4 c = search needs
 
--- src/lib.rt:191:12
 cast-s-6 : tie.Need-cast-s-6
 cast-s-6 c = search needs
 
--- src/lib.rt:191:11
 mul-s-6 : tie.Need-mul-s-6
 mul-s-6 c = search needs
 
--- src/lib.rt:186:13
 add-s-5 : tie.Need-add-s-5
 add-s-5 c = search needs
 
--- src/lib.rt:192:5
 cast-result : tie.Need-cast-result
 cast-result c = search needs
 
 add-result : tie.Need-add-result
 add-result c = omega arith
 
--- src/lib.rt:183:1
 returns : tie.Need-returns
 unfolding hashOf
 returns c = refl

@@ -1,7 +1,7 @@
 -- The loop's invariant: what the bytes that are left make of x is what all of them make of the length.
 use Prim.Native.Nat.{ℕ, _+_, _-_, _%_, _<_, _≤_}
 use mathlib.Core.Path.{_≡_, refl, _∙_}
-use mathlib.Core.List.{List, _∷_}
+use mathlib.Core.List.{List}
 use native.Mathlib.Omega.{arith}
 use lib.ListN.{length, getD, take, drop, length-drop}
 use Rattle.tables.proofs.Fours.{four-left, rest-is}
