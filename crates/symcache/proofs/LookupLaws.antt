@@ -1,9 +1,9 @@
 -- Laws that the functions of src/lookup.rt cite.
 use Prim.Native.Nat.{ℕ, zero, suc, _+_, _*_, _-_, _≤_, _<_}
-use mathlib.Core.Path.{_≡_, refl}
+use mathlib.Core.Path.{_≡_, refl, sym}
 use mathlib.Core.List.{List}
 use mathlib.Core.Option.{none, some}
-use mathlib.Core.Bool.{Bool, true, false, _||_}
+use mathlib.Core.Bool.{Bool, true, false, cond, _||_}
 use native.Mathlib.Omega.{arith}
 use native.Mathlib.Numerals.{add-one}
 use lib.Dec.{leb, eqb}
@@ -121,3 +121,8 @@ module _ (s : List ℕ) (c : SymCache) (a i : ℕ) (is : i ≡ foundAt s c a) wh
   pub walk-begins : (i ≡ max32 → ⊥) → isNoSourceLocation (locationIn s c i) ≡ false → walkFrom i ≡ walkAt s c a
   unfolding walkAt
   walk-begins n e = rw (← is, ne-eqb i max32 n, e)
+
+  -- either, by the test at hand
+  pub walk-tested : (i ≡ max32 → ⊥) → {t : Bool} {j : ℕ} → t ≡ isNoSourceLocation (locationIn s c i) → j ≡ cond t max32 i → walkFrom j ≡ walkAt s c a
+  walk-tested n {t = true} e f = rw f (walk-empty n (sym e))
+  walk-tested n {t = false} e f = rw f (walk-begins n (sym e))

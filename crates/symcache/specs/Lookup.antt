@@ -48,6 +48,21 @@ usable n c =
     leb (c .«num_ranges») (c .«num_source_locations»)
     && (leb (c .ranges + 4 * c .«num_ranges») n && leb (c .«source_locations» + 16 * c .«num_source_locations») n)
 
+-- of where the tables of a file lie, what a search needs
+abbrev pub lookupTables : ℕ → ℕ → ℕ → ℕ → SymCache
+lookupTables locations m ranges n = record {
+  files = 0;
+  «num_files» = 0;
+  functions = 0;
+  «num_functions» = 0;
+  «source_locations» = locations;
+  «num_source_locations» = m;
+  ranges = ranges;
+  «num_ranges» = n;
+  strings = 0;
+  «string_bytes» = 0;
+}
+
 -- the index of the location that an address belongs to, or MAX
 unfoldable pub foundAt : List ℕ → SymCache → ℕ → ℕ
 foundAt s c a =

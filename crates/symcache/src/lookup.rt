@@ -6,7 +6,7 @@ ghost use lib.Dec.{leb};
 ghost use lib.ListN.{length};
 ghost use Rattle.symcache.specs.Answers.{gives, lookupAnswer, stepAnswer, fileAnswer, functionAnswer, functionsAnswer, filesAnswer};
 ghost use Rattle.symcache.specs.Reader.{startAt, Within};
-ghost use Rattle.symcache.specs.Lookup.{countIn, quartersIn, searchIn, usable, foundAt, locationIn, functionIn, fileIn, walkFrom, walkAt, lookedUp, met, entryOf, languageOf, fileOf, frameIn, ended, stepIn, stepped, gotFile, gotFunction, nextFunction, functionsNext, nextFile, filesNext};
+ghost use Rattle.symcache.specs.Lookup.{countIn, quartersIn, searchIn, usable, lookupTables, foundAt, locationIn, functionIn, fileIn, walkFrom, walkAt, lookedUp, met, entryOf, languageOf, fileOf, frameIn, ended, stepIn, stepped, gotFile, gotFunction, nextFunction, functionsNext, nextFile, filesNext};
 use super::ErrorKind;
 use super::Parsed;
 use super::SymCache;
@@ -151,40 +151,68 @@ fn lies_in(len: usize, at: usize, n: usize) -> bool
 }
 
 // Whether the ranges and the source locations lie in `len` bytes. So they do where `open` gave the cache.
-fn is_usable(len: usize, c: SymCache) -> bool
-    ensures { λ r. ⌜ r ≡ usable len c ⌝ }
+fn is_usable(
+    len: usize,
+    source_locations: usize,
+    num_source_locations: u32,
+    ranges: usize,
+    num_ranges: u32,
+) -> bool
+    ensures { λ r. ⌜ r ≡ usable len (lookupTables «source_locations» «num_source_locations» ranges «num_ranges») ⌝ }
 {
-    if c.num_source_locations < c.num_ranges {
+    if num_source_locations < num_ranges {
         return false;
     }
-    if lies_in(len, c.ranges, 4 * (c.num_ranges as usize)) {
-        return lies_in(
-            len,
-            c.source_locations,
-            16 * (c.num_source_locations as usize),
-        );
+    if lies_in(len, ranges, 4 * (num_ranges as usize)) {
+        return lies_in(len, source_locations, 16 * (num_source_locations as usize));
     }
     false
 }
 
-// The index of the source location that an address belongs to, or MAX: that of the last start at most the address. `cache` is what `open` gave for these bytes.
-pub fn find(s: &[u8], cache: SymCache, addr: u64) -> u32
-    ensures { λ r. ⌜ r ≡ foundAt (now (s .entry)) cache addr ⌝ }
+// The index of the source location that an address belongs to, or MAX: that of the last start at most the address.
+fn find_in(
+    s: &[u8],
+    source_locations: usize,
+    num_source_locations: u32,
+    ranges: usize,
+    num_ranges: u32,
+    addr: u64,
+) -> u32
+    ensures { λ r. ⌜ r ≡ foundAt (now (s .entry)) (lookupTables «source_locations» «num_source_locations» ranges «num_ranges») addr ⌝ }
 {
     if 4294967295 < addr {
         return 4294967295;
     }
-    if cache.num_ranges == 0 {
+    if num_ranges == 0 {
         return 4294967295;
     }
-    if is_usable(s.len(), cache) {
-        let ranges = cache.ranges;
-        let i = search(s, ranges, cache.num_ranges as usize, addr as u32);
+    if is_usable(
+        s.len(),
+        source_locations,
+        num_source_locations,
+        ranges,
+        num_ranges,
+    ) {
+        let i = search(s, ranges, num_ranges as usize, addr as u32);
         if super::range_start(s, ranges, i) <= (addr as u32) {
-            return (cache.num_source_locations - cache.num_ranges) + (i as u32);
+            return (num_source_locations - num_ranges) + (i as u32);
         }
     }
     4294967295
+}
+
+// The same in a file that was opened: `cache` is what `open` gave for these bytes.
+pub fn find(s: &[u8], cache: SymCache, addr: u64) -> u32
+    ensures { λ r. ⌜ r ≡ foundAt (now (s .entry)) cache addr ⌝ }
+{
+    find_in(
+        s,
+        cache.source_locations,
+        cache.num_source_locations,
+        cache.ranges,
+        cache.num_ranges,
+        addr,
+    )
 }
 
 // The rows of a file that was read
@@ -208,6 +236,16 @@ fn walk_from(i: u32) -> SourceLocations
     }
 }
 
+// MAX where there is no location, else its index.
+fn unless(i: u32, none: bool) -> u32
+    ensures { λ r. ⌜ r ≡ cond none 4294967295 i ⌝ }
+{
+    if none {
+        return 4294967295;
+    }
+    i
+}
+
 // The walk of the frames of an address, in a file that was opened. `cache` is what `open` gave for these bytes.
 pub fn walk(s: &[u8], cache: SymCache, addr: u64) -> SourceLocations
     ensures { λ r. ⌜ r ≡ walkAt (now (s .entry)) cache addr ⌝ }
@@ -217,10 +255,7 @@ pub fn walk(s: &[u8], cache: SymCache, addr: u64) -> SourceLocations
         return walk_from(4294967295);
     }
     let location = location_in(s, cache, i);
-    if location.is_no_source_location() {
-        return walk_from(4294967295);
-    }
-    walk_from(i)
+    walk_from(unless(i, location.is_no_source_location()))
 }
 
 // Looks an address up: 1 to 12, or the walk of its frames.

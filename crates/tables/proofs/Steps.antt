@@ -1,5 +1,5 @@
 -- Chained rows, by any hash of rows: a walk finds the newest row that is hit, and a row appended, or overwritten by one with its hash, keeps the chains.
-use Prim.Native.Nat.{ℕ, zero, suc, _+_, _*_, _<_, _≤_}
+use Prim.Native.Nat.{ℕ, zero, suc, _+_, _*_, _/_, _%_, _<_, _≤_}
 use mathlib.Core.Path.{_≡_, refl, sym, _∙_, ap}
 use mathlib.Core.List.{List, [], _∷_, _++_}
 use mathlib.Core.Bool.{Bool, true, false}
@@ -18,7 +18,7 @@ use Rattle.tables.proofs.Rows.{set-row-other, set-row-link, set-row-hea
 
 bucket-lt : (k cap : ℕ) → 0 < cap → bucketOf k cap < cap
 unfolding bucketOf
-bucket-lt k cap h = rw (ne-eqb cap 0 (λ e. omega arith)) (mod-lt k h)
+bucket-lt k cap h = rw (ne-eqb cap 0 (λ e. omega arith)) (mod-lt (k / 512 * cap / 8388608 + k % 512) h)
 
 -- ---- what is found: a row that is hit, or none is
 pub data Look (hit : ℕ → Bool) (n i : ℕ) : Type 0 where

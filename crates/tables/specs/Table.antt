@@ -52,9 +52,9 @@ overOf n cap = cond (ltb cap n) n (cap + 1)
 
 -- ── Chains ─────────────────────────────────────────────────────────────────────────────────────────────────────────────
 
--- the bucket of a hash among as many as cap; 0 where there is none
+-- the bucket of a hash among as many as cap; 0 where there is none. All but the last nine bits of the hash say where from 0 to cap, and those are added
 unfoldable pub bucketOf : ℕ → ℕ → ℕ
-bucketOf hash cap = cond (eqb cap 0) 0 (hash % cap)
+bucketOf hash cap = cond (eqb cap 0) 0 ((hash / 512 * cap / 8388608 + hash % 512) % cap)
 
 -- the newest row below a bound that is hit, along the chain from link l; d where there is none. The rows are passed from the bound down, so
 -- it ends on any content; at row i the chain goes on if the link is i + 1. It knows nothing of rows: index sets, ranges and strings use it
@@ -78,9 +78,9 @@ unfoldable pub sameRow : Row → Row → Bool
 sameRow x y = sameWords (rowWords x) (rowWords y)
 
 -- any arithmetic would do. Every word counts, and 4,294,966,769 is prime: starts that are multiples of a large power of two are spread like others. Of the first word the
--- block of 4,096 is spread, and its place there is added by eights: near starts have near buckets
+-- block of 4,096 is spread, by the golden section of the prime, and its place there is added by sixteens: near starts have near buckets, and blocks hardly overlap
 unfoldable pub hashOf : Row → ℕ
-hashOf k = (k .a / 4096 * 426336013 + k .b * 378551279 + k .c * 511286833 + k .d * 296414521 + k .e * 347229887 + k .f * 467201681) % 4294966769 + k .a % 4096 / 8
+hashOf k = (k .a / 4096 * 2654435443 + k .b * 378551279 + k .c * 511286833 + k .d * 296414521 + k .e * 347229887 + k .f * 467201681) % 4294966769 / 512 * 512 + k .a % 4096 / 16
 
 -- row i has the key k
 unfoldable pub hitAt : List ℕ → ℕ → Row → ℕ → Bool

@@ -129,14 +129,19 @@ fn head_at(t: &[u32], cap: u32, h: u32) -> u32
     word(t, (cap as usize) * 7 + (h as usize))
 }
 
-// The bucket of a hash among as many as cap; 0 where there is none.
+// The bucket of a hash among as many as cap; 0 where there is none. All but its last nine bits say where from 0 to cap, and those are added.
 fn bucket(hash: u32, cap: u32) -> u32
     ensures { λ r. ⌜ r ≡ bucketOf hash cap ⌝ }
 {
     if cap == 0 {
         return 0;
     }
-    hash % cap
+    let all = cap as u64;
+    let at = (hash as u64 / 512) * all / 8388608 + hash as u64 % 512;
+    if at < all {
+        return at as u32;
+    }
+    (at % all) as u32
 }
 
 // Row n, with its link, at the head of bucket h.
@@ -194,18 +199,18 @@ fn same(x: Row, y: Row) -> bool
     false
 }
 
-// The words by factors that no power of two divides, modulo a prime. Of the first word its block of 4,096 counts there; its place in the block is added, by eights, so that starts that
-// are near each other have buckets that are.
+// The words by factors that no power of two divides, modulo a prime. Of the first word its block of 4,096 counts there, and its place in the block is added by sixteens, so that starts
+// that are near each other have buckets that are. Blocks go by the golden section: those that follow each other lie apart, and hardly overlap.
 fn hash(k: Row) -> u32
     ensures { λ r. ⌜ r ≡ hashOf k ⌝ }
 {
-    let s = (k.a as u64 / 4096) * 426336013
+    let s = (k.a as u64 / 4096) * 2654435443
         + (k.b as u64) * 378551279
         + (k.c as u64) * 511286833
         + (k.d as u64) * 296414521
         + (k.e as u64) * 347229887
         + (k.f as u64) * 467201681;
-    (s % 4294966769) as u32 + k.a % 4096 / 8
+    (s % 4294966769) as u32 / 512 * 512 + k.a % 4096 / 16
 }
 
 // Whether row i has the key k: its first word is looked at first.

@@ -1,27 +1,67 @@
-use Prim.Native.Nat.{ℕ, _%_}
-use mathlib.Core.Path.{_≡_}
+-- `bucket` meets its contract: a place below cap is its own remainder.
+use Prim.Native.Nat.{ℕ, _+_, _*_, _/_, _%_, _<_, _≤_}
+use mathlib.Core.Path.{_≡_, sym, _∙_}
+use native.Mathlib.Nat.{mod-lt, mod-eq-of-lt, mul-le-mul-right}
+use native.Mathlib.Omega.{arith}
 use borrow.Author.Needs.{needs}
 use borrow.Author.Tests.{eq-eqb, ne-eqb}
 use Rattle.tables.specs.Table.{bucketOf}
 use Rattle.tables.proofs.bucket.Statement.{statement}
 use Rattle.tables.proofs.bucket.Tie as tie
 
+-- where from 0 to m
+abbrev placed : ℕ → ℕ → ℕ
+placed k m = k / 512 * m / 8388608 + k % 512
+
 none : (k m : ℕ) → m ≡ 0 → 0 ≡ bucketOf k m
 unfolding bucketOf
 none k m e = rw (eq-eqb m 0 e)
 
-some : (k m : ℕ) → (m ≡ 0 → ⊥) → k % m ≡ bucketOf k m
+some : (k m : ℕ) → (m ≡ 0 → ⊥) → placed k m % m ≡ bucketOf k m
 unfolding bucketOf
 some k m e = rw (ne-eqb m 0 e)
 
+below : (k m : ℕ) → (m ≡ 0 → ⊥) → placed k m < m → placed k m ≡ bucketOf k m
+below k m e h = sym (mod-eq-of-lt h) ∙ some k m e
+
+less : (k m : ℕ) → (m ≡ 0 → ⊥) → placed k m % m < m
+less k m e = mod-lt (placed k m) (omega (arith, e))
+
+-- a hash of 32 bits by a capacity of 32 bits
+product : (k m : ℕ) → k < 4294967296 → m < 4294967296 → k / 512 * m ≤ 8388608 * 4294967296
+product k m p q = let h : k / 512 * m ≤ 8388608 * m = mul-le-mul-right m (omega arith) in omega (arith, h)
+
+-- src/lib.rt:137:9
 returns : tie.Need-returns
 returns c = none (c .before .args .hash) (c .before .args .cap) (c .if1 .taken)
 
+-- src/lib.rt:140:14
+mul-at : tie.Need-mul-at
+mul-at c = let p = product (c .before .args .hash) (c .before .args .cap) (omega arith) (omega arith) in omega (arith, p)
+
+-- src/lib.rt:140:14
+add-at : tie.Need-add-at
+add-at c = let p = product (c .before .args .hash) (c .before .args .cap) (omega arith) (omega arith) in omega (arith, p)
+
+-- src/lib.rt:142:16
+cast-result : tie.Need-cast-result
+cast-result c = search needs
+
+-- src/lib.rt:142:9
+returns-2 : tie.Need-returns-2
+returns-2 c = below (c .before .before .args .hash) (c .before .before .args .cap) (c .before .if1 .left) (c .if2 .taken)
+
+-- src/lib.rt:144:6
 rem-result : tie.Need-rem-result
 rem-result c = search needs
 
-returns-2 : tie.Need-returns-2
-returns-2 c = some (c .before .args .hash) (c .before .args .cap) (c .if1 .left)
+-- src/lib.rt:144:5
+cast-result-2 : tie.Need-cast-result-2
+cast-result-2 c = let p = less (c .before .before .args .hash) (c .before .before .args .cap) (c .before .if1 .left) in omega (arith, p)
+
+-- src/lib.rt:133:1
+returns-3 : tie.Need-returns-3
+returns-3 c = some (c .before .before .args .hash) (c .before .before .args .cap) (c .before .if1 .left)
 
 pub bucket-spec : {M : Type 1} → statement M
-bucket-spec = tie.close (tie.spec returns rem-result returns-2)
+bucket-spec = tie.close (tie.spec returns mul-at add-at cast-result returns-2 rem-result cast-result-2 returns-3)

@@ -62,6 +62,9 @@ add-s-5 c = search needs
 cast-result : tie.Need-cast-result
 cast-result c = search needs
 
+mul-result : tie.Need-mul-result
+mul-result c = omega arith
+
 add-result : tie.Need-add-result
 add-result c = omega arith
 
@@ -91,5 +94,6 @@ hash-spec =
     mul-s-6
     add-s-5
     cast-result
+    mul-result
     add-result
     returns)

@@ -1,28 +1,82 @@
--- `is_no_source_location` meets its contract: the four tests, in order.
-use borrow.Author.Tests.{eq-eqb, ne-eqb}
-use Rattle.raw.specs.Rows.{isNoSourceLocation}
+-- `is_no_source_location` meets its contract: four equal fields are all of them.
+use Prim.Native.Nat.{ℕ, _+_}
+use mathlib.Core.Path.{_≡_, refl}
+use mathlib.Core.Bool.{Bool, true, false, cond, _&&_}
+use native.Mathlib.Omega.{arith}
+use lib.Dec.{eqb}
+use borrow.Author.Needs.{needs}
+use Rattle.raw.specs.Rows.{max32, isNoSourceLocation}
+use Rattle.raw.specs.declared.SourceLocation.{SourceLocation}
 use Rattle.raw.proofs.SourceLocation.is_no_source_location.Statement.{statement}
 use Rattle.raw.proofs.SourceLocation.is_no_source_location.Tie as tie
 
--- src/lib.rt:83:21
+abbrev one : Bool → ℕ
+one b = cond b 1 0
+
+four : (a b c d : Bool) → eqb (one a + one b + one c + one d) 4 ≡ (a && (b && (c && d)))
+four true true true true = refl
+four true true true false = refl
+four true true false true = refl
+four true true false false = refl
+four true false true true = refl
+four true false true false = refl
+four true false false true = refl
+four true false false false = refl
+four false true true true = refl
+four false true true false = refl
+four false true false true = refl
+four false true false false = refl
+four false false true true = refl
+four false false true false = refl
+four false false false true = refl
+four false false false false = refl
+
+counted : (l : SourceLocation) {w x y z : ℕ} → w ≡ one (eqb (l .«file_idx») max32) → x ≡ one (eqb (l .line) max32) → y ≡ one (eqb (l .«function_idx») max32) → z ≡ one (eqb (l .«inlined_into_idx») max32)
+    → eqb (w + x + y + z) 4 ≡ isNoSourceLocation l
+unfolding isNoSourceLocation
+counted l e f g h = rw (e, f, g, h) (four (eqb (l .«file_idx») max32) (eqb (l .line) max32) (eqb (l .«function_idx») max32) (eqb (l .«inlined_into_idx») max32))
+
+-- src/lib.rt:82:20
+equal-requires : tie.Need-equal-requires
+equal-requires c κs = search needs
+
+-- src/lib.rt:83:15
+equal-requires-2 : tie.Need-equal-requires-2
+equal-requires-2 c κs = search needs
+
+-- src/lib.rt:82:20
+add-same : tie.Need-add-same
+add-same c = omega arith
+
+-- src/lib.rt:84:15
+equal-requires-3 : tie.Need-equal-requires-3
+equal-requires-3 c κs = search needs
+
+-- src/lib.rt:82:20
+add-same-2 : tie.Need-add-same-2
+add-same-2 c = omega arith
+
+-- src/lib.rt:85:15
+equal-requires-4 : tie.Need-equal-requires-4
+equal-requires-4 c κs = search needs
+
+-- src/lib.rt:82:20
+add-same-3 : tie.Need-add-same-3
+add-same-3 c = omega arith
+
+-- src/lib.rt:78:5
 returns : tie.Need-returns
-unfolding isNoSourceLocation
-returns c = simp (eq-eqb _ _ (c .before .before .before .before .before .before .before .before .if1 .taken), eq-eqb _ _ (c .before .before .before .before .before .if2 .taken), eq-eqb _ _ (c .before .before .if3 .taken))
-
--- src/lib.rt:76:5
-returns-2 : tie.Need-returns-2
-unfolding isNoSourceLocation
-returns-2 c = simp (eq-eqb _ _ (c .before .before .before .before .before .before .if1 .taken), eq-eqb _ _ (c .before .before .before .if2 .taken), ne-eqb _ _ (c .if3 .left))
-
--- src/lib.rt:76:5
-returns-3 : tie.Need-returns-3
-unfolding isNoSourceLocation
-returns-3 c = simp (eq-eqb _ _ (c .before .before .before .if1 .taken), ne-eqb _ _ (c .if2 .left))
-
--- src/lib.rt:76:5
-returns-4 : tie.Need-returns-4
-unfolding isNoSourceLocation
-returns-4 c = simp (ne-eqb _ _ (c .if1 .left))
+returns c = counted (c .before .before .before .before .args .self) (c .before .before .before .equal .ensures .0) (c .before .before .equal2 .ensures .0) (c .before .equal3 .ensures .0) (c .equal4 .ensures .0)
 
 pub is-no-source-location-spec : {M : Type 1} → statement M
-is-no-source-location-spec = tie.close (tie.spec returns returns-2 returns-3 returns-4)
+is-no-source-location-spec =
+    tie.close
+    (tie.spec
+    equal-requires
+    equal-requires-2
+    add-same
+    equal-requires-3
+    add-same-2
+    equal-requires-4
+    add-same-3
+    returns)

@@ -8,52 +8,27 @@ use Rattle.symcache.proofs.lookup.is_usable.Tie as tie
 
 returns : tie.Need-returns
 unfolding usable
-returns c = rw (lt-leb (c .before .before .args .c .«num_ranges») (c .before .before .args .c .«num_source_locations») (c .if1 .taken))
+returns c = rw (lt-leb (c .before .args .num-ranges) (c .before .args .num-source-locations) (c .if1 .taken))
 
--- src/lookup.rt:123:36
-cast-lies-in : tie.Need-cast-lies-in
-cast-lies-in c = search needs
-
--- src/lookup.rt:123:31
 mul-lies-in : tie.Need-mul-lies-in
 mul-lies-in c = search needs
 
--- src/lookup.rt:123:8
 lies-in-requires : tie.Need-lies-in-requires
 lies-in-requires c κs = search needs
 
--- src/lookup.rt:124:55
-cast-lies-in-2 : tie.Need-cast-lies-in-2
-cast-lies-in-2 c = search needs
-
--- src/lookup.rt:124:49
 mul-lies-in-2 : tie.Need-mul-lies-in-2
 mul-lies-in-2 c = search needs
 
--- src/lookup.rt:124:9
 lies-in-requires-2 : tie.Need-lies-in-requires-2
 lies-in-requires-2 c κs = search needs
 
--- src/lookup.rt:124:9
 returns-2 : tie.Need-returns-2
 unfolding usable
-returns-2 c = rw (le-leb (c .before .before .before .before .before .before .before .args .c .«num_ranges») (c .before .before .before .before .before .before .before .args .c .«num_source_locations») (c .before .before .before .before .before .if1 .left), sym (c .before .before .before .lies-in .ensures) ∙ c .before .before .if2 .taken) (c .lies-in2 .ensures)
+returns-2 c = rw (le-leb (c .before .before .before .before .args .num-ranges) (c .before .before .before .before .args .num-source-locations) (c .before .before .before .if1 .left), sym (c .before .before .lies-in .ensures) ∙ c .before .if2 .taken) (c .lies-in2 .ensures)
 
--- src/lookup.rt:117:1
 returns-3 : tie.Need-returns-3
 unfolding usable
-returns-3 c = rw (le-leb (c .before .before .before .before .before .args .c .«num_ranges») (c .before .before .before .before .before .args .c .«num_source_locations») (c .before .before .before .if1 .left), sym (c .before .lies-in .ensures) ∙ c .if2 .left)
+returns-3 c = rw (le-leb (c .before .before .before .args .num-ranges) (c .before .before .before .args .num-source-locations) (c .before .before .if1 .left), sym (c .before .lies-in .ensures) ∙ c .if2 .left)
 
 pub is-usable-spec : {M : Type 1} → statement M
-is-usable-spec =
-    tie.close
-    (tie.spec
-    returns
-    cast-lies-in
-    mul-lies-in
-    lies-in-requires
-    cast-lies-in-2
-    mul-lies-in-2
-    lies-in-requires-2
-    returns-2
-    returns-3)
+is-usable-spec = tie.close (tie.spec returns mul-lies-in lies-in-requires mul-lies-in-2 lies-in-requires-2 returns-2 returns-3)

@@ -2,7 +2,7 @@
 use native.Mathlib.Omega.{arith}
 use mathlib.Core.Path.{sym, _∙_}
 use Rattle.symcache.proofs.SearchLaws.{found-inside}
-use Rattle.symcache.proofs.LookupLaws.{walk-nowhere, walk-empty, walk-begins}
+use Rattle.symcache.proofs.LookupLaws.{walk-nowhere, walk-tested}
 use borrow.Author.Needs.{needs}
 use Rattle.symcache.proofs.lookup.walk.Statement.{statement}
 use Rattle.symcache.proofs.lookup.walk.Tie as tie
@@ -26,21 +26,14 @@ location-in-requires c κs = let f = found-inside (c .before .before .before .ar
 is-no-source-location-requires : tie.Need-is-no-source-location-requires
 is-no-source-location-requires c κs = search needs
 
--- src/lookup.rt:180:9
+unless-requires : tie.Need-unless-requires
+unless-requires c κs = search needs
+
 walk-from-requires-2 : tie.Need-walk-from-requires-2
 walk-from-requires-2 c κs = search needs
 
--- src/lookup.rt:180:9
 returns-2 : tie.Need-returns-2
-returns-2 c = c .walk-from2 .ensures ∙ walk-empty (c .before .before .before .before .before .before .before .args .s .now) (c .before .before .before .before .before .before .before .args .cache) (c .before .before .before .before .before .before .before .args .addr) (c .before .before .before .before .before .find .result) (c .before .before .before .before .before .find .ensures) (c .before .before .before .before .if1 .left) (rw (c .before .before .before .location-in .ensures) at (sym (c .before .before .is-no-source-location .ensures) ∙ c .before .if2 .taken))
-
--- src/lookup.rt:182:5
-walk-from-requires-3 : tie.Need-walk-from-requires-3
-walk-from-requires-3 c κs = search needs
-
--- src/lookup.rt:171:1
-returns-3 : tie.Need-returns-3
-returns-3 c = c .walk-from3 .ensures ∙ walk-begins (c .before .before .before .before .before .before .before .args .s .now) (c .before .before .before .before .before .before .before .args .cache) (c .before .before .before .before .before .before .before .args .addr) (c .before .before .before .before .before .find .result) (c .before .before .before .before .before .find .ensures) (c .before .before .before .before .if1 .left) (rw (c .before .before .before .location-in .ensures) at (sym (c .before .before .is-no-source-location .ensures) ∙ c .before .if2 .left))
+returns-2 c = c .walk-from2 .ensures ∙ walk-tested (c .before .before .before .before .before .before .before .args .s .now) (c .before .before .before .before .before .before .before .args .cache) (c .before .before .before .before .before .before .before .args .addr) (c .before .before .before .before .before .find .result) (c .before .before .before .before .before .find .ensures) (c .before .before .before .before .if1 .left) (rw (c .before .before .before .location-in .ensures) at (c .before .before .is-no-source-location .ensures)) (c .before .unless .ensures)
 
 pub walk-spec : {M : Type 1} → statement M
 walk-spec =
@@ -51,7 +44,6 @@ walk-spec =
     returns
     location-in-requires
     is-no-source-location-requires
+    unless-requires
     walk-from-requires-2
-    returns-2
-    walk-from-requires-3
-    returns-3)
+    returns-2)
