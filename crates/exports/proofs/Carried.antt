@@ -22,7 +22,8 @@ use Rattle.steps.specs.declared.LastAddr.{LastAddr}
 use Rattle.steps.specs.declared.LastAddr.the-variants.{Unset, Set}
 use Rattle.steps.specs.declared.State.{State}
 use Rattle.steps.specs.declared.Converter.{Converter}
-use Rattle.writer.specs.Calls.{Called, called, setup, words-of, symbolRow, usable?, finished, beginOf, rows-converted, treeOf, symbolOf}
+use Rattle.writer.specs.Calls.{Called, called, setup, words-of, usable?, finished, beginOf, rows-converted, treeOf, symbolOf}
+use Rattle.symbols.specs.Symbols.{symbolRow}
 use Rattle.line_rows.specs.Calls.{LinesCalled, unpackRoom?, linesOf}
 use Rattle.words.proofs.StoreLaws.{sets-at}
 use Rattle.words.specs.Words.{stored, yes, flagOf}

@@ -13,7 +13,8 @@ use Rattle.model.specs.Rows.{Given, symbol-row}
 use Rattle.model.specs.Converter.{Setup}
 use Rattle.steps.specs.Words.{Memory}
 use Rattle.steps.specs.declared.Converter.{Converter}
-use Rattle.writer.specs.Calls.{beginOf, treeOf, symbolOf, symbolRow}
+use Rattle.writer.specs.Calls.{beginOf, treeOf, symbolOf}
+use Rattle.symbols.specs.Symbols.{symbolRow}
 use Rattle.line_rows.specs.Lines.{lineColumns}
 use Rattle.line_rows.specs.Calls.{linesOf}
 use Rattle.serialize.specs.File.{serializeOf}

@@ -8,7 +8,7 @@ use lib.Dec.{eqb}
 use lib.ListN.{length, take, getD}
 use Rattle.model.specs.Basics.{_∈_}
 use Rattle.model.specs.Rows.{MAX, Given, symbol-row}
-use Rattle.writer.specs.Calls.{symbolRow}
+use Rattle.symbols.specs.Symbols.{symbolRow}
 use Rattle.steps.specs.Words.{Memory}
 use Rattle.line_rows.specs.Lines.{lineColumns}
 use Rattle.reopened.specs.Lists.{Call, tree, lines-tree, symbol, write, givenTree, Typed}

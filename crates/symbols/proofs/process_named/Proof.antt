@@ -1,11 +1,11 @@
 -- `process_named` meets its contract: `named-law`.
 use Rattle.steps.specs.Words.{words}
-use Rattle.writer.specs.Walk.{switches}
-use Rattle.writer.specs.Calls.{namedRow}
-use Rattle.writer.proofs.SymbolLaws.{named-law}
+use Rattle.symbols.specs.Symbols.{switches}
+use Rattle.symbols.specs.Symbols.{namedRow}
+use Rattle.symbols.proofs.SymbolLaws.{named-law}
 use borrow.Author.Needs.{needs}
-use Rattle.writer.proofs.calls.process_named.Statement.{statement}
-use Rattle.writer.proofs.calls.process_named.Tie as tie
+use Rattle.symbols.proofs.process_named.Statement.{statement}
+use Rattle.symbols.proofs.process_named.Tie as tie
 
 shown-name-requires : tie.Need-shown-name-requires
 shown-name-requires c κs = search needs

@@ -1,4 +1,4 @@
--- A symbol's steps, one after the other, are those of the machine's `named-symbolM` and `convert-symbolM`.
+-- The record of a beginning. A symbol's steps, one after the other, are those of the machine's `named-symbolM` and `convert-symbolM`.
 use mathlib.Core.Path.{_≡_, _∙_, ap}
 use mathlib.Core.Bool.{Bool, true, false}
 use Prim.Native.Nat.{ℕ, _+_, _<_, _≤_}
@@ -14,7 +14,13 @@ use Rattle.tables.specs.Ranges.{getOf}
 use Rattle.steps.specs.declared.State.{State}
 use Rattle.steps.specs.Words.{Words, gave, store, add-function, put-range, location, free, with-last, cleared-of, over-words}
 use Rattle.steps.proofs.Ranges.{put-where-free, kept-where-held}
-use Rattle.writer.specs.Calls.{symbolRow, symbol-put, end-put, namedRow}
+use Rattle.symbols.specs.Symbols.{unused, begun, symbolRow, symbol-put, end-put, namedRow}
+
+-- ── The record of a beginning ──────────────────────────────────────────────────────────────────────────────────────────
+
+pub opened-law : (id : List ℕ) (arch : ℕ) (f g : Bool) {u : State} → u ≡ unused
+    → record { «debug_id» = id; arch = arch; «undecorate_functions» = f; «undecorate_symbols» = g; «open» = true; state = u } ≡ begun id arch f g
+opened-law id arch f g e = rw e
 
 -- ── The location at the start ──────────────────────────────────────────────────────────────────────────────────────────
 
