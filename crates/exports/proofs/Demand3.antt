@@ -15,7 +15,7 @@ use Rattle.steps.specs.Words.{Memory}
 use Rattle.steps.specs.declared.Converter.{Converter}
 use Rattle.writer.specs.Calls.{beginOf, treeOf, symbolOf}
 use Rattle.symbols.specs.Symbols.{symbolRow}
-use Rattle.line_rows.specs.Lines.{lineColumns}
+use Rattle.unpacked.specs.Lines.{lineColumns}
 use Rattle.line_rows.specs.Calls.{linesOf}
 use Rattle.serialize.specs.File.{serializeOf}
 use Rattle.reopened.specs.Lists.{Call, tree, lines-tree, symbol, write, givenTree, Standing as PlainStanding, next as plain-next, run as plain-run, begun as plain-begun}

@@ -10,7 +10,7 @@ use Rattle.model.specs.Basics.{_∈_}
 use Rattle.model.specs.Rows.{MAX, Given, symbol-row}
 use Rattle.symbols.specs.Symbols.{symbolRow}
 use Rattle.steps.specs.Words.{Memory}
-use Rattle.line_rows.specs.Lines.{lineColumns}
+use Rattle.unpacked.specs.Lines.{lineColumns}
 use Rattle.reopened.specs.Lists.{Call, tree, lines-tree, symbol, write, givenTree, Typed}
 use Rattle.reopened.specs.Demand3.{Reopened}
 use Rattle.words.specs.Words.{yes}

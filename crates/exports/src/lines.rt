@@ -1,7 +1,7 @@
 // A tree whose line rows are one lent list of rows.
 ghost use mathlib.Core.Path.{_≡_};
 ghost use Rattle.steps.specs.Words.{memory};
-ghost use Rattle.line_rows.specs.Lines.{lineColumns};
+ghost use Rattle.unpacked.specs.Lines.{lineColumns};
 ghost use Rattle.words.specs.Record.{converterOf, kept};
 ghost use Rattle.exports.specs.Writing.{left, linesLeft, linesCall};
 use rows::LineRow;

@@ -44,7 +44,7 @@ lineColumns f64 f32 ls t = columns f64 f32 (packed words64 ls) (packed words32 l
 abbrev pub linesTexts? : List ℕ → List LineRow → Bool
 linesTexts? t ls = each (λ (j : ℕ). lineTexts? t (getD ls j noLine)) (length ls)
 
--- ── Unpacking (private contracts cite it) ──
+-- ── Unpacking ──
 
 -- the w words vs of row j into t, where the call isn't refused and there is room
 unfoldable pub putRow : ℕ → ℕ → List ℕ → ℕ → List ℕ → List ℕ

@@ -2,8 +2,8 @@
 use mathlib.Core.Path.{sym, _∙_}
 use borrow.Author.Needs.{needs}
 use Rattle.rows.proofs.Laws.{and-stop, and-then}
-use Rattle.line_rows.proofs.is_usable.Statement.{statement}
-use Rattle.line_rows.proofs.is_usable.Tie as tie
+use Rattle.unpacked.proofs.is_usable.Statement.{statement}
+use Rattle.unpacked.proofs.is_usable.Tie as tie
 
 text-within-requires : tie.Need-text-within-requires
 text-within-requires c κs = search needs

@@ -1,11 +1,11 @@
 -- `put_words64` meets its contract.
 use native.Mathlib.Omega.{arith}
 use lib.ListN.{length-set}
-use Rattle.line_rows.specs.Lines.{words64}
-use Rattle.line_rows.proofs.Words.{stored64, row-out, row-refused}
+use Rattle.unpacked.specs.Lines.{words64}
+use Rattle.unpacked.proofs.Words.{stored64, row-out, row-refused}
 use borrow.Author.Needs.{needs}
-use Rattle.line_rows.proofs.put_words64.Statement.{statement}
-use Rattle.line_rows.proofs.put_words64.Tie as tie
+use Rattle.unpacked.proofs.put_words64.Statement.{statement}
+use Rattle.unpacked.proofs.put_words64.Tie as tie
 
 mul-k : tie.Need-mul-k
 mul-k c = search needs

@@ -1,11 +1,11 @@
 -- `put_words32` meets its contract.
 use native.Mathlib.Omega.{arith}
 use lib.ListN.{length-set}
-use Rattle.line_rows.specs.Lines.{words32}
-use Rattle.line_rows.proofs.Words.{stored32, row-out, row-refused}
+use Rattle.unpacked.specs.Lines.{words32}
+use Rattle.unpacked.proofs.Words.{stored32, row-out, row-refused}
 use borrow.Author.Needs.{needs}
-use Rattle.line_rows.proofs.put_words32.Statement.{statement}
-use Rattle.line_rows.proofs.put_words32.Tie as tie
+use Rattle.unpacked.proofs.put_words32.Statement.{statement}
+use Rattle.unpacked.proofs.put_words32.Tie as tie
 
 flag-word-requires : tie.Need-flag-word-requires
 flag-word-requires c κs = search needs
