@@ -581,14 +581,15 @@ fn call_write(memory: Memory, c: Case, converter: Converter) -> Done {
     }
 }
 
-// The number of a tree of many function rows; whether its scratch is zero where it is accepted, and as it was where it is refused. The rows are lent shared, so no call can change them.
+// The number of a tree of many function rows, and the record after it; whether its scratch is zero where it is accepted, and as it was where it is refused. The rows are lent shared, so no call
+// can change them.
 struct Many {
     pub code: u32,
     pub converter: Converter,
     pub same: bool,
 }
 
-fn compared_many(
+fn many_in(
     c: Case,
     converter: Converter,
     string_bytes: &mut [u8],
@@ -597,13 +598,13 @@ fn compared_many(
     functions: &mut [u32],
     call_locations: &mut [u32],
     ranges: &mut [u32],
-    functions64: &[u64],
-    functions32: &[u32],
+    scratch: &mut [u32; 262144],
+    functions64: &[u64; 131074],
+    functions32: &[u32; 524296],
 ) -> Many {
     let none64 = [0u64; 1];
     let none32 = [0u32; 1];
     let text: [u8; 3] = [116, 114, 107];
-    let mut scratch = [2779096485u32; 262144];
     let answer = tree_on(
         c,
         converter,
@@ -613,14 +614,14 @@ fn compared_many(
         functions,
         call_locations,
         ranges,
-        &mut scratch,
+        scratch,
         functions64,
         functions32,
         &none64,
         &none32,
         &text,
     );
-    let same = is_filled(&scratch, left_in_scratch(answer.code));
+    let same = is_filled(scratch, left_in_scratch(answer.code));
     let after = answer.converter;
     Many {
         code: answer.code,
@@ -649,9 +650,10 @@ fn many_on(
 ) -> Many {
     let mut functions64 = [0u64; 131074];
     let mut functions32 = [0u32; 524296];
+    let mut scratch = [2779096485u32; 262144];
     set_root(&mut functions64);
     set_depths(&mut functions32);
-    compared_many(
+    many_in(
         c,
         converter,
         string_bytes,
@@ -660,6 +662,7 @@ fn many_on(
         functions,
         call_locations,
         ranges,
+        &mut scratch,
         &functions64,
         &functions32,
     )

@@ -170,17 +170,15 @@ pub(crate) fn is_filled(t: &[u32], v: u32) -> bool {
 }
 
 // The address and the size of a root.
-pub(crate) fn set_root(t: &mut [u64]) {
-    if 1 < t.len() {
-        t[0] = 12288;
-        t[1] = 16;
-    }
+pub(crate) fn set_root(t: &mut [u64; 131074]) {
+    t[0] = 12288;
+    t[1] = 16;
 }
 
 // A root whose name has three bytes, and inlinees of depth 1 in every row after it.
-pub(crate) fn set_depths(t: &mut [u32]) {
-    let mut i = 0;
-    while i < t.len() {
+pub(crate) fn set_depths(t: &mut [u32; 524296]) {
+    let mut i: usize = 0;
+    while i < 524296 {
         t[i] = depth_word(i);
         i += 1;
     }
