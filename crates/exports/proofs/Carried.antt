@@ -22,12 +22,14 @@ use Rattle.steps.specs.declared.LastAddr.{LastAddr}
 use Rattle.steps.specs.declared.LastAddr.the-variants.{Unset, Set}
 use Rattle.steps.specs.declared.State.{State}
 use Rattle.steps.specs.declared.Converter.{Converter}
-use Rattle.writer.specs.Calls.{Called, called, setup, words-of, symbolRow, usable?, finished, beginOf, rows-converted, treeOf, symbolOf}
+use Rattle.writer.specs.Calls.{Called, called, setup, words-of, usable?, finished, beginOf, rows-converted, treeOf, symbolOf}
+use Rattle.symbols.specs.Symbols.{symbolRow}
 use Rattle.line_rows.specs.Calls.{LinesCalled, unpackRoom?, linesOf}
-use Rattle.exports.proofs.StoreLaws.{sets-at}
-use Rattle.exports.specs.Words.{stored, yes, flagOf}
-use Rattle.exports.specs.Record.{lastOf, idOf, stateOf, converterOf, lastWords, idWords, countWords, switchWords, wordsOf, Bytes, IdFits}
-use Rattle.exports.specs.Writing.{kept, leaves, beginCall, treeCall, linesCall, symbolCall}
+use Rattle.words.proofs.StoreLaws.{sets-at}
+use Rattle.words.specs.Words.{stored, yes, flagOf}
+use Rattle.words.specs.Record.{lastOf, idOf, stateOf, converterOf, lastWords, idWords, countWords, switchWords, wordsOf, Bytes, IdFits}
+use Rattle.exports.specs.Writing.{leaves, beginCall, treeCall, linesCall, symbolCall}
+use Rattle.words.specs.Record.{kept}
 
 -- ── Bytes ──────────────────────────────────────────────────────────────────────────────────────────────────────────────
 

@@ -22,12 +22,12 @@ use Rattle.symcache.specs.Lookup.{foundAt, walkAt, lookedUp, stepped}
 use Rattle.symcache.proofs.ReaderLaws.{parsed-within}
 use Rattle.reads.specs.Shown.{Shown, ends, goes}
 use Rattle.reads.specs.Shown.{Walked as PlainWalked, Found as PlainFound}
-use Rattle.exports.specs.Words.{stored}
-use Rattle.exports.specs.Record.{Bytes}
-use Rattle.exports.specs.Reading.{filled, answered, stepsTo, cacheWords, cacheOf, cached, openCall, findCall, walkWords, walkOf, walkCall, lookupCall, frameWords, nextCall, indexOf}
+use Rattle.words.specs.Words.{stored}
+use Rattle.words.specs.Record.{Bytes}
+use Rattle.words.specs.Reading.{filled, answered, stepsTo, cacheWords, cacheOf, cached, openCall, findCall, walkWords, walkOf, walkCall, lookupCall, frameWords, nextCall, indexOf}
 use Rattle.exports.specs.Walks.{Walked, Found}
 use Rattle.exports.specs.Walks as words
-use Rattle.exports.proofs.StoreLaws.{sets-at}
+use Rattle.words.proofs.StoreLaws.{sets-at}
 use Rattle.exports.proofs.Carried.{byte-below}
 
 -- ── Cursors ────────────────────────────────────────────────────────────────────────────────────────────────────────────

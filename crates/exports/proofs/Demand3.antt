@@ -13,16 +13,18 @@ use Rattle.model.specs.Rows.{Given, symbol-row}
 use Rattle.model.specs.Converter.{Setup}
 use Rattle.steps.specs.Words.{Memory}
 use Rattle.steps.specs.declared.Converter.{Converter}
-use Rattle.writer.specs.Calls.{beginOf, treeOf, symbolOf, symbolRow}
-use Rattle.line_rows.specs.Lines.{lineColumns}
+use Rattle.writer.specs.Calls.{beginOf, treeOf, symbolOf}
+use Rattle.symbols.specs.Symbols.{symbolRow}
+use Rattle.unpacked.specs.Lines.{lineColumns}
 use Rattle.line_rows.specs.Calls.{linesOf}
 use Rattle.serialize.specs.File.{serializeOf}
 use Rattle.reopened.specs.Lists.{Call, tree, lines-tree, symbol, write, givenTree, Standing as PlainStanding, next as plain-next, run as plain-run, begun as plain-begun}
 use Rattle.reopened.specs.Demand3.{Reopened}
 use Rattle.reopened.proofs.Claim.{demand3}
-use Rattle.exports.specs.Words.{yes}
-use Rattle.exports.specs.Record.{converterOf, Bytes}
-use Rattle.exports.specs.Writing.{beginCall, treeCall, linesCall, symbolCall, lenWords, serializeCall}
+use Rattle.words.specs.Words.{yes}
+use Rattle.words.specs.Record.{converterOf, Bytes}
+use Rattle.exports.specs.Writing.{beginCall, treeCall, linesCall, symbolCall, serializeCall}
+use Rattle.words.specs.Record.{lenWords}
 use Rattle.exports.specs.Lists.{Standing, next, run, begun, ExportedDemand3}
 use Rattle.exports.proofs.Carried.{tree-carried, lines-carried, symbol-carried, begin-carried}
 

@@ -1,8 +1,5 @@
-pub mod StoreLaws
-pub mod RecordLaws
 pub mod WriteLaws
 pub mod LinesLaws
-pub mod ReadLaws
 pub mod Carried
 pub mod Names
 pub mod Worked

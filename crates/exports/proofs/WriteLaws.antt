@@ -15,9 +15,10 @@ use Rattle.steps.specs.Words.{Memory}
 use Rattle.steps.specs.declared.Converter.{Converter}
 use Rattle.writer.specs.Calls.{Called, called, beginOf, treeOf, symbolOf}
 use Rattle.serialize.specs.File.{Wrote, wrote, serializeOf}
-use Rattle.exports.specs.Words.{stored, yes}
-use Rattle.exports.specs.Record.{converterOf, wordsOf}
-use Rattle.exports.specs.Writing.{Left, left, kept, leaves, beginCall, treeCall, nameAt, symbolCall, LeftFile, leftFile, lenWords, serializeCall}
+use Rattle.words.specs.Words.{stored, yes}
+use Rattle.words.specs.Record.{converterOf, wordsOf}
+use Rattle.exports.specs.Writing.{Left, left, leaves, beginCall, treeCall, nameAt, symbolCall, LeftFile, leftFile, serializeCall}
+use Rattle.words.specs.Record.{kept, lenWords}
 
 pub id-bytes : (s : List ℕ) (h : Header) → h ≡ headerAt s 0 → h .«debug_id» ≡ bytesAt 32 s 0
 unfolding headerAt
@@ -50,14 +51,6 @@ symbol-law r m t address size named start len n c m₁ {p = p} ew ep e er =
     (e
     ∙ (ap (λ (x : Converter). symbolOf x m t address size (record { present = p; part = record { start = start; len = len } })) ew
     ∙ ap (λ (b : Bool). symbolOf (converterOf r) m t address size (record { present = b; part = record { start = start; len = len } })) ep)))
-
-pub len-given : (n len : ℕ) (l : List ℕ) {l₁ : List ℕ} → n ≡ 0 → l₁ ≡ set l 0 len → l₁ ≡ lenWords n len l
-unfolding lenWords
-len-given n len l e h = rw (e, h)
-
-pub len-kept : (n len : ℕ) (l : List ℕ) → (n ≡ 0 → ⊥) → l ≡ lenWords n len l
-unfolding lenWords
-len-kept n len l h = rw (ne-eqb n 0 h)
 
 pub serialize-law : (r : List ℕ) (m : Memory) (out l : List ℕ) (n len : ℕ) (out₁ : List ℕ) {w : Converter} {l₁ : List ℕ}
     → w ≡ converterOf r → wrote n len out₁ ≡ serializeOf w m out → l₁ ≡ lenWords n len l → leftFile n out₁ l₁ ≡ serializeCall r m out l

@@ -8,13 +8,13 @@ use lib.Dec.{eqb}
 use lib.ListN.{length, take, getD}
 use Rattle.model.specs.Basics.{_∈_}
 use Rattle.model.specs.Rows.{MAX, Given, symbol-row}
-use Rattle.writer.specs.Calls.{symbolRow}
+use Rattle.symbols.specs.Symbols.{symbolRow}
 use Rattle.steps.specs.Words.{Memory}
-use Rattle.line_rows.specs.Lines.{lineColumns}
+use Rattle.unpacked.specs.Lines.{lineColumns}
 use Rattle.reopened.specs.Lists.{Call, tree, lines-tree, symbol, write, givenTree, Typed}
 use Rattle.reopened.specs.Demand3.{Reopened}
-use Rattle.exports.specs.Words.{yes}
-use Rattle.exports.specs.Record.{Bytes}
+use Rattle.words.specs.Words.{yes}
+use Rattle.words.specs.Record.{Bytes}
 use Rattle.exports.specs.Writing.{Left, beginCall, treeCall, linesCall, symbolCall, LeftFile, serializeCall}
 
 -- where a list stands: the record's words and the tables as the call before left them, and the calls accepted since the beginning

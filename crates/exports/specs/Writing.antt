@@ -13,8 +13,8 @@ use Rattle.steps.specs.declared.Converter.{Converter}
 use Rattle.writer.specs.Calls.{Called, beginOf, treeOf, symbolOf}
 use Rattle.line_rows.specs.Calls.{LinesCalled, linesOf}
 use Rattle.serialize.specs.File.{Wrote, serializeOf}
-use Rattle.exports.specs.Words.{stored, yes}
-use Rattle.exports.specs.Record.{converterOf, wordsOf}
+use Rattle.words.specs.Words.{stored, yes}
+use Rattle.words.specs.Record.{converterOf, wordsOf, kept, lenWords}
 
 -- what a call leaves: document 01's number, the record's words, the six tables, scratch
 pub record Left : Type 0 where
@@ -25,10 +25,6 @@ pub record Left : Type 0 where
 
 abbrev pub left : ℕ → List ℕ → Memory → List ℕ → Left
 left n r m s = record { code = n; words = r; memory = m; scratch = s }
-
--- "On a refusal other than 17 no word of the record changes"
-unfoldable pub kept : ℕ → Converter → List ℕ → List ℕ
-kept n c r = cond (eqb n 0 || eqb n 17) (stored (wordsOf c) r) r
 
 abbrev pub leaves : List ℕ → Called → Left
 leaves r o = left (o .code) (kept (o .code) (o .converter) r) (o .memory) (o .scratch)
@@ -74,10 +70,6 @@ pub record LeftFile : Type 0 where
 
 abbrev pub leftFile : ℕ → List ℕ → List ℕ → LeftFile
 leftFile n o l = record { code = n; output = o; len = l }
-
--- "Writing stores in len[0] the file's length where it answers 0; else len is untouched"
-unfoldable pub lenWords : ℕ → ℕ → List ℕ → List ℕ
-lenWords n len l = cond (eqb n 0) (stored (len ∷ []) l) l
 
 unfoldable pub serializeCall : List ℕ → Memory → List ℕ → List ℕ → LeftFile
 serializeCall r m out l =

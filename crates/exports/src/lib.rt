@@ -2,6 +2,4 @@
 // Every function takes any content and any length. A word that a lent slice lacks is read as 0, and one that it has no room for is not stored.
 pub mod lines;
 pub mod reading;
-mod record;
-mod words;
 pub mod writing;

@@ -1,13 +1,13 @@
 // A tree whose line rows are one lent list of rows.
 ghost use mathlib.Core.Path.{_≡_};
 ghost use Rattle.steps.specs.Words.{memory};
-ghost use Rattle.line_rows.specs.Lines.{lineColumns};
-ghost use Rattle.exports.specs.Record.{converterOf};
-ghost use Rattle.exports.specs.Writing.{left, kept, linesLeft, linesCall};
-use crate::record::load;
-use crate::record::store_answer;
+ghost use Rattle.unpacked.specs.Lines.{lineColumns};
+ghost use Rattle.words.specs.Record.{converterOf, kept};
+ghost use Rattle.exports.specs.Writing.{left, linesLeft, linesCall};
 use rows::LineRow;
 use steps::Converter;
+use words::record::load;
+use words::record::store_answer;
 use writer::calls::Answer;
 
 // The record as a converter; its words stay.

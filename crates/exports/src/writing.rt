@@ -4,14 +4,14 @@ ghost use mathlib.Core.List.{[]};
 ghost use Rattle.raw.specs.Bytes.{bytesAt};
 ghost use Rattle.rows.specs.Columns.{columns};
 ghost use Rattle.steps.specs.Words.{memory};
-ghost use Rattle.exports.specs.Writing.{left, beginCall, treeCall, nameAt, symbolCall, lenWords, leftFile, serializeCall};
-use crate::record::load;
-use crate::record::store;
-use crate::record::store_answer;
-use crate::words::is_set;
-use crate::words::put64;
+ghost use Rattle.exports.specs.Writing.{left, beginCall, treeCall, nameAt, symbolCall, leftFile, serializeCall};
 use rows::OptionalPart;
 use rows::TextPart;
+use words::file::put_len;
+use words::record::load;
+use words::record::store;
+use words::record::store_answer;
+use words::slices::is_set;
 
 // The first 32 bytes, zeros past the end: a header row begins with its debug id.
 fn debug_id_of(bytes: &[u8]) -> [u8; 32]
@@ -138,15 +138,6 @@ pub extern "C" fn symcache_process_symbolic_symbol(
     let c = answer.converter;
     store_answer(record, answer.code, c);
     answer.code
-}
-
-// The length of a file that was written.
-fn put_len(len: &mut [u64], code: u32, n: usize)
-    ensures { λ _. ⌜ now (len .exit) ≡ lenWords code n (now (len .entry)) ⌝ }
-{
-    if code == 0 {
-        put64(len, 0, n as u64);
-    }
 }
 
 // The file: 0, or 19, 18.

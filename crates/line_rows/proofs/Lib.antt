@@ -1,6 +1,3 @@
-pub mod Words
-pub mod Turns
-pub mod Again
 pub mod Packed
 pub mod Entry
 pub mod AsTree

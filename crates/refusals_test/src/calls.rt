@@ -26,9 +26,6 @@ use crate::words::is_filled;
 use crate::words::is_left;
 use crate::words::is_left_bytes;
 use crate::words::is_left_numbers;
-use crate::words::keep;
-use crate::words::keep_bytes;
-use crate::words::keep_numbers;
 use crate::words::low;
 use crate::words::put;
 use crate::words::put_number;
@@ -37,10 +34,23 @@ use crate::words::set_root;
 use steps::Converter;
 use writer::calls::Answer;
 
-// What a call answered, the record after it, and whether the rows and the text lent to it are as they were.
+// All that a case lends and that a call may change.
+pub(crate) struct Memory {
+    pub string_bytes: [u8; 64],
+    pub strings: [u32; 96],
+    pub files: [u32; 64],
+    pub functions: [u32; 64],
+    pub call_locations: [u32; 64],
+    pub ranges: [u32; 96],
+    pub scratch: [u32; 32],
+    pub out: [u8; 400],
+}
+
+// What a call answered, the record and lent memory after it, and whether the rows and the text lent to it are as they were.
 pub(crate) struct Done {
     pub code: u32,
     pub converter: Converter,
+    pub memory: Memory,
     pub same: bool,
 }
 
@@ -51,7 +61,7 @@ fn lent_of(c: Case, slice: u32, n: u32) -> u32 {
     n
 }
 
-pub(crate) fn begin(
+fn begin_on(
     c: Case,
     string_bytes: &mut [u8],
     strings: &mut [u32],
@@ -81,6 +91,43 @@ pub(crate) fn begin(
     )
 }
 
+// A beginning.
+pub(crate) fn begin(memory: Memory, c: Case) -> Done {
+    let mut string_bytes = memory.string_bytes;
+    let mut strings = memory.strings;
+    let mut files = memory.files;
+    let mut functions = memory.functions;
+    let mut call_locations = memory.call_locations;
+    let mut ranges = memory.ranges;
+    let scratch = memory.scratch;
+    let out = memory.out;
+    let converter = begin_on(
+        c,
+        &mut string_bytes,
+        &mut strings,
+        &mut files,
+        &mut functions,
+        &mut call_locations,
+        &mut ranges,
+    );
+    let after = Memory {
+        string_bytes,
+        strings,
+        files,
+        functions,
+        call_locations,
+        ranges,
+        scratch,
+        out,
+    };
+    Done {
+        code: 0,
+        converter,
+        memory: after,
+        same: true,
+    }
+}
+
 fn change_word(t: &mut [u32], slice: u32, c: Change) {
     if c.slice == slice {
         put(t, c.index as usize, low(c.value));
@@ -105,7 +152,7 @@ fn change_numbers(t: &mut [u64], slice: u32, c: Case) {
     change_number(t, slice, c.c);
 }
 
-fn call_tree(
+fn tree_on(
     c: Case,
     converter: Converter,
     string_bytes: &mut [u8],
@@ -145,59 +192,41 @@ fn call_tree(
     )
 }
 
-fn rows_same(
-    copy: &[u32],
-    functions64: &[u64],
-    functions32: &[u32],
-    lines64: &[u64],
-    lines32: &[u32],
-    text: &[u8],
-) -> bool {
-    let a = is_left_numbers(copy, 0, functions64);
-    let b = is_left(copy, 32, functions32, 0);
-    let c = is_left_numbers(copy, 64, lines64);
-    let d = is_left(copy, 96, lines32, 0);
-    let e = is_left_bytes(copy, 160, text, 0);
-    both(a, both(b, both(c, both(d, e))))
-}
-
-fn keep_rows(
-    copy: &mut [u32],
-    functions64: &[u64],
-    functions32: &[u32],
-    lines64: &[u64],
-    lines32: &[u32],
-    text: &[u8],
-) {
-    keep_numbers(copy, 0, functions64);
-    keep(copy, 32, functions32);
-    keep_numbers(copy, 64, lines64);
-    keep(copy, 96, lines32);
-    keep_bytes(copy, 160, text);
-}
-
-// A tree, and whether its rows are as they were.
-fn compared_tree(
+fn call_tree(
+    memory: Memory,
     c: Case,
     converter: Converter,
-    string_bytes: &mut [u8],
-    strings: &mut [u32],
-    files: &mut [u32],
-    functions: &mut [u32],
-    call_locations: &mut [u32],
-    ranges: &mut [u32],
-    scratch: &mut [u32],
-    copy: &mut [u32],
     functions64: &[u64],
     functions32: &[u32],
     lines64: &[u64],
     lines32: &[u32],
     text: &[u8],
 ) -> Done {
-    keep_rows(copy, functions64, functions32, lines64, lines32, text);
-    let answer = call_tree(
+    let mut string_bytes = memory.string_bytes;
+    let mut strings = memory.strings;
+    let mut files = memory.files;
+    let mut functions = memory.functions;
+    let mut call_locations = memory.call_locations;
+    let mut ranges = memory.ranges;
+    let mut scratch = memory.scratch;
+    let out = memory.out;
+    let answer = tree_on(
         c,
         converter,
+        &mut string_bytes,
+        &mut strings,
+        &mut files,
+        &mut functions,
+        &mut call_locations,
+        &mut ranges,
+        &mut scratch,
+        functions64,
+        functions32,
+        lines64,
+        lines32,
+        text,
+    );
+    let after = Memory {
         string_bytes,
         strings,
         files,
@@ -205,33 +234,69 @@ fn compared_tree(
         call_locations,
         ranges,
         scratch,
+        out,
+    };
+    let record = answer.converter;
+    Done {
+        code: answer.code,
+        converter: record,
+        memory: after,
+        same: true,
+    }
+}
+
+// The rows of a tree call.
+struct Rows {
+    pub functions64: [u64; 6],
+    pub functions32: [u32; 24],
+    pub lines64: [u64; 12],
+    pub lines32: [u32; 56],
+    pub text: [u8; 20],
+}
+
+// A tree, and whether its rows are as they were.
+fn compared_tree(rows: Rows, memory: Memory, c: Case, converter: Converter) -> Done {
+    let functions64 = rows.functions64;
+    let functions32 = rows.functions32;
+    let lines64 = rows.lines64;
+    let lines32 = rows.lines32;
+    let text = rows.text;
+    let done = call_tree(
+        memory,
+        c,
+        converter,
+        &functions64,
+        &functions32,
+        &lines64,
+        &lines32,
+        &text,
+    );
+    let after = Rows {
         functions64,
         functions32,
         lines64,
         lines32,
         text,
-    );
-    let same = rows_same(copy, functions64, functions32, lines64, lines32, text);
-    let after = answer.converter;
-    Done {
-        code: answer.code,
-        converter: after,
-        same,
-    }
+    };
+    with_rows(done, rows_same(rows, after))
+}
+
+fn rows_same(before: Rows, after: Rows) -> bool {
+    let a = is_left_numbers(&before.functions64, &after.functions64);
+    let b = is_left(&before.functions32, &after.functions32, 0);
+    let c = is_left_numbers(&before.lines64, &after.lines64);
+    let d = is_left(&before.lines32, &after.lines32, 0);
+    let e = is_left_bytes(&before.text, &after.text, 0);
+    both(a, both(b, both(c, both(d, e))))
+}
+
+fn with_rows(mut done: Done, same: bool) -> Done {
+    done.same = same;
+    done
 }
 
 // The worked tree of document 01, changed as the case says. Texts: trk /b a.rs src pos p.rs, then a byte that is not UTF-8. 0xDEADBEEF stands where nobody may look.
-pub(crate) fn tree(
-    c: Case,
-    converter: Converter,
-    string_bytes: &mut [u8],
-    strings: &mut [u32],
-    files: &mut [u32],
-    functions: &mut [u32],
-    call_locations: &mut [u32],
-    ranges: &mut [u32],
-    scratch: &mut [u32],
-) -> Done {
+pub(crate) fn tree(memory: Memory, c: Case, converter: Converter) -> Done {
     let mut functions64: [u64; 6] = [4096, 16, 4098, 4, 0, 0];
     let mut functions32: [u32; 24] = [
         0,
@@ -340,31 +405,21 @@ pub(crate) fn tree(
         115,
         255,
     ];
-    let mut copy = [0u32; 192];
     change_numbers(&mut functions64, FUNCTIONS64, c);
     change_all(&mut functions32, FUNCTIONS32, c);
     change_numbers(&mut lines64, LINES64, c);
     change_all(&mut lines32, LINES32, c);
-    compared_tree(
-        c,
-        converter,
-        string_bytes,
-        strings,
-        files,
-        functions,
-        call_locations,
-        ranges,
-        scratch,
-        &mut copy,
-        &functions64,
-        &functions32,
-        &lines64,
-        &lines32,
-        &text,
-    )
+    let rows = Rows {
+        functions64,
+        functions32,
+        lines64,
+        lines32,
+        text,
+    };
+    compared_tree(rows, memory, c, converter)
 }
 
-fn call_symbol(
+fn symbol_on(
     c: Case,
     converter: Converter,
     string_bytes: &mut [u8],
@@ -396,16 +451,46 @@ fn call_symbol(
     )
 }
 
-fn call_named(
-    c: Case,
-    converter: Converter,
-    string_bytes: &mut [u8],
-    strings: &mut [u32],
-    files: &mut [u32],
-    functions: &mut [u32],
-    call_locations: &mut [u32],
-    ranges: &mut [u32],
-) -> Done {
+fn call_symbol(memory: Memory, c: Case, converter: Converter, text: &[u8]) -> Done {
+    let mut string_bytes = memory.string_bytes;
+    let mut strings = memory.strings;
+    let mut files = memory.files;
+    let mut functions = memory.functions;
+    let mut call_locations = memory.call_locations;
+    let mut ranges = memory.ranges;
+    let scratch = memory.scratch;
+    let out = memory.out;
+    let answer = symbol_on(
+        c,
+        converter,
+        &mut string_bytes,
+        &mut strings,
+        &mut files,
+        &mut functions,
+        &mut call_locations,
+        &mut ranges,
+        text,
+    );
+    let after = Memory {
+        string_bytes,
+        strings,
+        files,
+        functions,
+        call_locations,
+        ranges,
+        scratch,
+        out,
+    };
+    let record = answer.converter;
+    Done {
+        code: answer.code,
+        converter: record,
+        memory: after,
+        same: true,
+    }
+}
+
+fn call_named(memory: Memory, c: Case, converter: Converter) -> Done {
     let text: [u8; 20] = [
         116,
         114,
@@ -428,29 +513,12 @@ fn call_named(
         115,
         255,
     ];
-    let mut copy = [0u32; 32];
-    keep_bytes(&mut copy, 0, &text);
-    let answer = call_symbol(
-        c,
-        converter,
-        string_bytes,
-        strings,
-        files,
-        functions,
-        call_locations,
-        ranges,
-        &text,
-    );
-    let same = is_left_bytes(&copy, 0, &text, 0);
-    let after = answer.converter;
-    Done {
-        code: answer.code,
-        converter: after,
-        same,
-    }
+    let before = text;
+    let done = call_symbol(memory, c, converter, &text);
+    with_rows(done, is_left_bytes(&before, &text, 0))
 }
 
-fn call_write(
+fn write_on(
     c: Case,
     converter: Converter,
     string_bytes: &[u8],
@@ -460,7 +528,7 @@ fn call_write(
     call_locations: &[u32],
     ranges: &[u32],
     out: &mut [u8],
-) -> Done {
+) -> u32 {
     let n = count_bytes(c.out, out);
     let written = serialize::serialize(
         converter,
@@ -472,15 +540,56 @@ fn call_write(
         first_words(ranges, lent_of(c, RANGES, c.ranges)),
         &mut out[..n],
     );
-    Done {
-        code: written.code,
+    written.code
+}
+
+fn call_write(memory: Memory, c: Case, converter: Converter) -> Done {
+    let string_bytes = memory.string_bytes;
+    let strings = memory.strings;
+    let files = memory.files;
+    let functions = memory.functions;
+    let call_locations = memory.call_locations;
+    let ranges = memory.ranges;
+    let scratch = memory.scratch;
+    let mut out = memory.out;
+    let code = write_on(
+        c,
         converter,
+        &string_bytes,
+        &strings,
+        &files,
+        &functions,
+        &call_locations,
+        &ranges,
+        &mut out,
+    );
+    let after = Memory {
+        string_bytes,
+        strings,
+        files,
+        functions,
+        call_locations,
+        ranges,
+        scratch,
+        out,
+    };
+    Done {
+        code,
+        converter,
+        memory: after,
         same: true,
     }
 }
 
-// The number of a tree of many function rows; whether its scratch is zero where it is accepted, and as it was where it is refused. The rows are lent shared, so no call can change them.
-fn compared_many(
+// The number of a tree of many function rows, and the record after it; whether its scratch is zero where it is accepted, and as it was where it is refused. The rows are lent shared, so no call
+// can change them.
+struct Many {
+    pub code: u32,
+    pub converter: Converter,
+    pub same: bool,
+}
+
+fn many_in(
     c: Case,
     converter: Converter,
     string_bytes: &mut [u8],
@@ -489,14 +598,14 @@ fn compared_many(
     functions: &mut [u32],
     call_locations: &mut [u32],
     ranges: &mut [u32],
-    functions64: &[u64],
-    functions32: &[u32],
-) -> Done {
+    scratch: &mut [u32; 262144],
+    functions64: &[u64; 131074],
+    functions32: &[u32; 524296],
+) -> Many {
     let none64 = [0u64; 1];
     let none32 = [0u32; 1];
     let text: [u8; 3] = [116, 114, 107];
-    let mut scratch = [2779096485u32; 262144];
-    let answer = call_tree(
+    let answer = tree_on(
         c,
         converter,
         string_bytes,
@@ -505,16 +614,16 @@ fn compared_many(
         functions,
         call_locations,
         ranges,
-        &mut scratch,
+        scratch,
         functions64,
         functions32,
         &none64,
         &none32,
         &text,
     );
-    let same = is_filled(&scratch, left_in_scratch(answer.code));
+    let same = is_filled(scratch, left_in_scratch(answer.code));
     let after = answer.converter;
-    Done {
+    Many {
         code: answer.code,
         converter: after,
         same,
@@ -529,7 +638,7 @@ fn left_in_scratch(code: u32) -> u32 {
 }
 
 // A root at 0x3000 for 16 with the name trk, and 65,536 inlinees without a size.
-fn many_rows(
+fn many_on(
     c: Case,
     converter: Converter,
     string_bytes: &mut [u8],
@@ -538,12 +647,13 @@ fn many_rows(
     functions: &mut [u32],
     call_locations: &mut [u32],
     ranges: &mut [u32],
-) -> Done {
+) -> Many {
     let mut functions64 = [0u64; 131074];
     let mut functions32 = [0u32; 524296];
+    let mut scratch = [2779096485u32; 262144];
     set_root(&mut functions64);
     set_depths(&mut functions32);
-    compared_many(
+    many_in(
         c,
         converter,
         string_bytes,
@@ -552,96 +662,32 @@ fn many_rows(
         functions,
         call_locations,
         ranges,
+        &mut scratch,
         &functions64,
         &functions32,
     )
 }
 
-// The call under test.
-pub(crate) fn call(
-    c: Case,
-    converter: Converter,
-    string_bytes: &mut [u8],
-    strings: &mut [u32],
-    files: &mut [u32],
-    functions: &mut [u32],
-    call_locations: &mut [u32],
-    ranges: &mut [u32],
-    scratch: &mut [u32],
-    out: &mut [u8],
-) -> Done {
-    if c.call == TREE {
-        return tree(
-            c,
-            converter,
-            string_bytes,
-            strings,
-            files,
-            functions,
-            call_locations,
-            ranges,
-            scratch,
-        );
-    }
-    if c.call == SYMBOL {
-        return call_named(
-            c,
-            converter,
-            string_bytes,
-            strings,
-            files,
-            functions,
-            call_locations,
-            ranges,
-        );
-    }
-    if c.call == MANY {
-        return many_rows(
-            c,
-            converter,
-            string_bytes,
-            strings,
-            files,
-            functions,
-            call_locations,
-            ranges,
-        );
-    }
-    call_write(
+fn call_many(memory: Memory, c: Case, converter: Converter) -> Done {
+    let mut string_bytes = memory.string_bytes;
+    let mut strings = memory.strings;
+    let mut files = memory.files;
+    let mut functions = memory.functions;
+    let mut call_locations = memory.call_locations;
+    let mut ranges = memory.ranges;
+    let scratch = memory.scratch;
+    let out = memory.out;
+    let many = many_on(
         c,
         converter,
-        string_bytes,
-        strings,
-        files,
-        functions,
-        call_locations,
-        ranges,
-        out,
-    )
-}
-
-// The worked tree before the call under test, where the case has one. It is lent what the case lends of the tables.
-pub(crate) fn first_tree(
-    c: Case,
-    converter: Converter,
-    string_bytes: &mut [u8],
-    strings: &mut [u32],
-    files: &mut [u32],
-    functions: &mut [u32],
-    call_locations: &mut [u32],
-    ranges: &mut [u32],
-    scratch: &mut [u32],
-) -> Done {
-    if c.trees == 0 {
-        return Done {
-            code: 0,
-            converter,
-            same: true,
-        };
-    }
-    tree(
-        with_tables_of(again(), c),
-        converter,
+        &mut string_bytes,
+        &mut strings,
+        &mut files,
+        &mut functions,
+        &mut call_locations,
+        &mut ranges,
+    );
+    let after = Memory {
         string_bytes,
         strings,
         files,
@@ -649,5 +695,40 @@ pub(crate) fn first_tree(
         call_locations,
         ranges,
         scratch,
-    )
+        out,
+    };
+    let record = many.converter;
+    Done {
+        code: many.code,
+        converter: record,
+        memory: after,
+        same: many.same,
+    }
+}
+
+// The call under test.
+pub(crate) fn call(memory: Memory, c: Case, converter: Converter) -> Done {
+    if c.call == TREE {
+        return tree(memory, c, converter);
+    }
+    if c.call == SYMBOL {
+        return call_named(memory, c, converter);
+    }
+    if c.call == MANY {
+        return call_many(memory, c, converter);
+    }
+    call_write(memory, c, converter)
+}
+
+// The worked tree before the call under test, where the case has one. It is lent what the case lends of the tables.
+pub(crate) fn first_tree(memory: Memory, c: Case, converter: Converter) -> Done {
+    if c.trees == 0 {
+        return Done {
+            code: 0,
+            converter,
+            memory,
+            same: true,
+        };
+    }
+    tree(memory, with_tables_of(again(), c), converter)
 }

@@ -1,106 +1,61 @@
-// What a call leaves in lent memory and in the record, held against a copy made before it.
+// What a call leaves in lent memory and in the record, held against what was there before it.
 use crate::calls::Done;
+use crate::calls::Memory;
 use crate::cases::Case;
 use crate::cases::TREE;
 use crate::cases::WRITE;
 use crate::words::both;
+use crate::words::byte;
 use crate::words::is_left;
 use crate::words::is_left_bytes;
-use crate::words::keep;
-use crate::words::keep_bytes;
-use crate::words::place;
 use crate::words::same_bytes;
-use crate::words::wide;
-use crate::words::word;
 use steps::Converter;
 use steps::LastAddr;
 use steps::State;
 
-pub(crate) fn keep_tables(
-    copy: &mut [u32],
-    string_bytes: &[u8],
-    strings: &[u32],
-    files: &[u32],
-    functions: &[u32],
-    call_locations: &[u32],
-    ranges: &[u32],
-) {
-    keep_bytes(copy, 0, string_bytes);
-    keep(copy, 64, strings);
-    keep(copy, 160, files);
-    keep(copy, 224, functions);
-    keep(copy, 288, call_locations);
-    keep(copy, 352, ranges);
+// Whether the tables are as before.
+fn tables_same(before: Memory, after: Memory) -> bool {
+    let text = is_left_bytes(&before.string_bytes, &after.string_bytes, 0);
+    let strings = is_left(&before.strings, &after.strings, 0);
+    let files = is_left(&before.files, &after.files, 0);
+    let functions = is_left(&before.functions, &after.functions, 0);
+    let calls = is_left(&before.call_locations, &after.call_locations, 0);
+    let ranges = is_left(&before.ranges, &after.ranges, 0);
+    both(
+        text,
+        both(strings, both(files, both(functions, both(calls, ranges)))),
+    )
 }
 
-// All that a case lends and that a call may change.
-pub(crate) fn keep_all(
-    copy: &mut [u32],
-    string_bytes: &[u8],
-    strings: &[u32],
-    files: &[u32],
-    functions: &[u32],
-    call_locations: &[u32],
-    ranges: &[u32],
-    scratch: &[u32],
-    out: &[u8],
-) {
-    keep_tables(
-        copy,
-        string_bytes,
-        strings,
-        files,
-        functions,
-        call_locations,
-        ranges,
+// Whether what was lent of the tables is 0, and what wasn't is as before.
+pub(crate) fn tables_zero(before: Memory, after: Memory, c: Case) -> bool {
+    let text = is_left_bytes(
+        &before.string_bytes,
+        &after.string_bytes,
+        c.string_bytes as usize,
     );
-    keep(copy, 448, scratch);
-    keep_bytes(copy, 480, out);
-}
-
-// Whether the tables are as in the copy.
-fn tables_same(
-    copy: &[u32],
-    string_bytes: &[u8],
-    strings: &[u32],
-    files: &[u32],
-    functions: &[u32],
-    call_locations: &[u32],
-    ranges: &[u32],
-) -> bool {
-    let text = is_left_bytes(copy, 0, string_bytes, 0);
-    let strings = is_left(copy, 64, strings, 0);
-    let files = is_left(copy, 160, files, 0);
-    let functions = is_left(copy, 224, functions, 0);
-    let calls = is_left(copy, 288, call_locations, 0);
-    let ranges = is_left(copy, 352, ranges, 0);
+    let strings = is_left(&before.strings, &after.strings, c.strings as usize);
+    let files = is_left(&before.files, &after.files, c.files as usize);
+    let functions = is_left(&before.functions, &after.functions, c.functions as usize);
+    let calls = is_left(
+        &before.call_locations,
+        &after.call_locations,
+        c.call_locations as usize,
+    );
+    let ranges = is_left(&before.ranges, &after.ranges, c.ranges as usize);
     both(
         text,
         both(strings, both(files, both(functions, both(calls, ranges)))),
     )
 }
 
-// Whether what was lent of the tables is 0, and what wasn't is as in the copy.
-pub(crate) fn tables_zero(
-    c: Case,
-    copy: &[u32],
-    string_bytes: &[u8],
-    strings: &[u32],
-    files: &[u32],
-    functions: &[u32],
-    call_locations: &[u32],
-    ranges: &[u32],
-) -> bool {
-    let text = is_left_bytes(copy, 0, string_bytes, c.string_bytes as usize);
-    let strings = is_left(copy, 64, strings, c.strings as usize);
-    let files = is_left(copy, 160, files, c.files as usize);
-    let functions = is_left(copy, 224, functions, c.functions as usize);
-    let calls = is_left(copy, 288, call_locations, c.call_locations as usize);
-    let ranges = is_left(copy, 352, ranges, c.ranges as usize);
-    both(
-        text,
-        both(strings, both(files, both(functions, both(calls, ranges)))),
-    )
+// Whether the first `zeros` words of scratch are 0, and the others as before.
+fn scratch_left(before: Memory, after: Memory, zeros: usize) -> bool {
+    is_left(&before.scratch, &after.scratch, zeros)
+}
+
+fn out_same(before: Memory, after: Memory) -> bool {
+    is_left_bytes(&before.out, &after.out, 0)
 }
 
 // The record
@@ -192,8 +147,8 @@ pub(crate) fn closed_record(c: Case, converter: Converter) -> Converter {
     }
 }
 
-// Whether the output begins with the file, and goes on as in the copy.
-fn is_written(copy: &[u32], out: &[u8], file: &[u8]) -> bool {
+// Whether the output begins with the file, and goes on as before.
+fn is_written(before: &[u8], out: &[u8], file: &[u8]) -> bool {
     let mut i = 0;
     while i < out.len() {
         if i < file.len() {
@@ -201,7 +156,7 @@ fn is_written(copy: &[u32], out: &[u8], file: &[u8]) -> bool {
                 return false;
             }
         } else {
-            if wide(out[i]) != word(copy, place(480, i)) {
+            if out[i] != byte(before, i) {
                 return false;
             }
         }
@@ -210,71 +165,35 @@ fn is_written(copy: &[u32], out: &[u8], file: &[u8]) -> bool {
     true
 }
 
+fn out_written(before: Memory, after: Memory, file: &[u8]) -> bool {
+    is_written(&before.out, &after.out, file)
+}
+
 // An accepted call. After a tree scratch is 0; a write leaves the tables and the record as they were, and the worked file at the front of the output.
-fn is_accepted(
-    c: Case,
-    before: Converter,
-    done: Done,
-    copy: &[u32],
-    string_bytes: &[u8],
-    strings: &[u32],
-    files: &[u32],
-    functions: &[u32],
-    call_locations: &[u32],
-    ranges: &[u32],
-    scratch: &[u32],
-    out: &[u8],
-    file: &[u8],
-) -> bool {
+fn is_accepted(c: Case, before: Converter, memory: Memory, done: Done, file: &[u8]) -> bool {
+    let after = done.memory;
     if c.call == TREE {
-        let zero = is_left(copy, 448, scratch, c.scratch as usize);
-        let kept = is_left_bytes(copy, 480, out, 0);
+        let zero = scratch_left(memory, after, c.scratch as usize);
+        let kept = out_same(memory, after);
         return both(zero, both(kept, both(done.same, done.converter.open)));
     }
-    let scratch = is_left(copy, 448, scratch, 0);
+    let scratch = scratch_left(memory, after, 0);
     if c.call != WRITE {
-        let kept = is_left_bytes(copy, 480, out, 0);
+        let kept = out_same(memory, after);
         return both(scratch, both(kept, both(done.same, done.converter.open)));
     }
-    let written = is_written(copy, out, file);
+    let written = out_written(memory, after, file);
     let record = same_record(before, done.converter);
-    let tables = tables_same(
-        copy,
-        string_bytes,
-        strings,
-        files,
-        functions,
-        call_locations,
-        ranges,
-    );
+    let tables = tables_same(memory, after);
     both(scratch, both(written, both(record, tables)))
 }
 
 // A refused call: nothing is changed.
-fn is_refused(
-    before: Converter,
-    done: Done,
-    copy: &[u32],
-    string_bytes: &[u8],
-    strings: &[u32],
-    files: &[u32],
-    functions: &[u32],
-    call_locations: &[u32],
-    ranges: &[u32],
-    scratch: &[u32],
-    out: &[u8],
-) -> bool {
-    let tables = tables_same(
-        copy,
-        string_bytes,
-        strings,
-        files,
-        functions,
-        call_locations,
-        ranges,
-    );
-    let scratch = is_left(copy, 448, scratch, 0);
-    let out = is_left_bytes(copy, 480, out, 0);
+fn is_refused(before: Converter, memory: Memory, done: Done) -> bool {
+    let after = done.memory;
+    let tables = tables_same(memory, after);
+    let scratch = scratch_left(memory, after, 0);
+    let out = out_same(memory, after);
     let record = same_record(before, done.converter);
     both(tables, both(scratch, both(out, both(record, done.same))))
 }
@@ -288,32 +207,11 @@ fn lent_scratch(c: Case) -> usize {
 }
 
 // 17: all that was lent of tables and scratch is 0, and the converter is closed.
-fn is_overfull(
-    c: Case,
-    before: Converter,
-    done: Done,
-    copy: &[u32],
-    string_bytes: &[u8],
-    strings: &[u32],
-    files: &[u32],
-    functions: &[u32],
-    call_locations: &[u32],
-    ranges: &[u32],
-    scratch: &[u32],
-    out: &[u8],
-) -> bool {
-    let tables = tables_zero(
-        c,
-        copy,
-        string_bytes,
-        strings,
-        files,
-        functions,
-        call_locations,
-        ranges,
-    );
-    let scratch = is_left(copy, 448, scratch, lent_scratch(c));
-    let out = is_left_bytes(copy, 480, out, 0);
+fn is_overfull(c: Case, before: Converter, memory: Memory, done: Done) -> bool {
+    let after = done.memory;
+    let tables = tables_zero(memory, after, c);
+    let scratch = scratch_left(memory, after, lent_scratch(c));
+    let out = out_same(memory, after);
     let record = is_closed(before, done.converter);
     both(tables, both(scratch, both(out, both(record, done.same))))
 }
@@ -321,62 +219,15 @@ fn is_overfull(
 pub(crate) fn is_as_said(
     c: Case,
     before: Converter,
+    memory: Memory,
     done: Done,
-    copy: &[u32],
-    string_bytes: &[u8],
-    strings: &[u32],
-    files: &[u32],
-    functions: &[u32],
-    call_locations: &[u32],
-    ranges: &[u32],
-    scratch: &[u32],
-    out: &[u8],
     file: &[u8],
 ) -> bool {
     if done.code == 0 {
-        return is_accepted(
-            c,
-            before,
-            done,
-            copy,
-            string_bytes,
-            strings,
-            files,
-            functions,
-            call_locations,
-            ranges,
-            scratch,
-            out,
-            file,
-        );
+        return is_accepted(c, before, memory, done, file);
     }
     if done.code == 17 {
-        return is_overfull(
-            c,
-            before,
-            done,
-            copy,
-            string_bytes,
-            strings,
-            files,
-            functions,
-            call_locations,
-            ranges,
-            scratch,
-            out,
-        );
+        return is_overfull(c, before, memory, done);
     }
-    is_refused(
-        before,
-        done,
-        copy,
-        string_bytes,
-        strings,
-        files,
-        functions,
-        call_locations,
-        ranges,
-        scratch,
-        out,
-    )
+    is_refused(before, memory, done)
 }

@@ -37,6 +37,24 @@ use crate::cases::whole;
 use crate::cases::write;
 use crate::run::run;
 
+// A case of a tree, a symbol or a write.
+
+fn run_tree(file: &[u8], what: &[u8], c: Case) {
+    run(file, b"tree, ", what, c);
+}
+
+fn run_symbol(file: &[u8], what: &[u8], c: Case) {
+    run(file, b"symbol, ", what, c);
+}
+
+fn run_symbol_text(file: &[u8], what: &[u8], c: Case) {
+    run(file, b"symbol", what, c);
+}
+
+fn run_write(file: &[u8], what: &[u8], c: Case) {
+    run(file, b"write, ", what, c);
+}
+
 // 13
 
 fn no_rows() -> Case {
@@ -47,178 +65,112 @@ fn no_rows() -> Case {
 }
 
 fn depths(file: &[u8]) {
-    run(file, b"tree, ", b"no function rows", no_rows());
-    run(
+    run_tree(file, b"no function rows", no_rows());
+    run_tree(file, b"first depth 1", changed(again(), FUNCTIONS32, 0, 1));
+    run_tree(
         file,
-        b"tree, ",
-        b"first depth 1",
-        changed(again(), FUNCTIONS32, 0, 1),
-    );
-    run(
-        file,
-        b"tree, ",
         b"a later depth 0",
         changed(again(), FUNCTIONS32, 8, 0),
     );
-    run(
+    run_tree(file, b"a depth of its predecessor's plus 1", whole(again()));
+    run_tree(
         file,
-        b"tree, ",
-        b"a depth of its predecessor's plus 1",
-        whole(again()),
-    );
-    run(
-        file,
-        b"tree, ",
         b"a depth of its predecessor's plus 2",
         changed(again(), FUNCTIONS32, 8, 2),
     );
 }
 
 fn line_counts(file: &[u8]) {
-    run(
+    run_tree(
         file,
-        b"tree, ",
         b"line counts that sum to one less",
         changed(again(), FUNCTIONS32, 15, 0),
     );
-    run(
+    run_tree(
         file,
-        b"tree, ",
         b"line counts that sum to one more",
         changed(again(), FUNCTIONS32, 15, 2),
     );
     let c = changed(again(), FUNCTIONS32, 7, 3);
-    run(
+    run_tree(
         file,
-        b"tree, ",
         b"line counts that sum to the line rows",
         changed(c, FUNCTIONS32, 15, 0),
     );
     let c = changed(again(), FUNCTIONS32, 7, 4294967295);
-    run(
+    run_tree(
         file,
-        b"tree, ",
         b"line counts that sum to the line rows plus 2^32",
         changed(c, FUNCTIONS32, 15, 4),
     );
 }
 
 fn parts_of_rows(file: &[u8]) {
-    run(
+    run_tree(
         file,
-        b"tree, ",
         b"functions64 of 3 words",
         lent(again(), FUNCTIONS64, 3),
     );
-    run(
+    run_tree(
         file,
-        b"tree, ",
         b"functions64 of 5 words",
         lent(again(), FUNCTIONS64, 5),
     );
-    run(
+    run_tree(
         file,
-        b"tree, ",
         b"functions32 of 15 words",
         lent(again(), FUNCTIONS32, 15),
     );
-    run(
+    run_tree(
         file,
-        b"tree, ",
         b"functions32 of 17 words",
         lent(again(), FUNCTIONS32, 17),
     );
-    run(
-        file,
-        b"tree, ",
-        b"lines64 of 8 words",
-        lent(again(), LINES64, 8),
-    );
-    run(
-        file,
-        b"tree, ",
-        b"lines64 of 10 words",
-        lent(again(), LINES64, 10),
-    );
-    run(
-        file,
-        b"tree, ",
-        b"lines32 of 41 words",
-        lent(again(), LINES32, 41),
-    );
-    run(
-        file,
-        b"tree, ",
-        b"lines32 of 43 words",
-        lent(again(), LINES32, 43),
-    );
+    run_tree(file, b"lines64 of 8 words", lent(again(), LINES64, 8));
+    run_tree(file, b"lines64 of 10 words", lent(again(), LINES64, 10));
+    run_tree(file, b"lines32 of 41 words", lent(again(), LINES32, 41));
+    run_tree(file, b"lines32 of 43 words", lent(again(), LINES32, 43));
 }
 
 // The line counts sum to the rows of the first of two slices that disagree.
 fn rows_that_disagree(file: &[u8]) {
-    run(
+    run_tree(
         file,
-        b"tree, ",
         b"a row less in functions64",
         changed(lent(again(), FUNCTIONS64, 2), FUNCTIONS32, 7, 3),
     );
-    run(
+    run_tree(
         file,
-        b"tree, ",
         b"a row more in functions64",
         lent(again(), FUNCTIONS64, 6),
     );
-    run(
+    run_tree(
         file,
-        b"tree, ",
         b"a row less in functions32",
         changed(lent(again(), FUNCTIONS32, 8), FUNCTIONS32, 7, 3),
     );
-    run(
+    run_tree(
         file,
-        b"tree, ",
         b"a row more in functions32",
         lent(again(), FUNCTIONS32, 24),
     );
-    run(
+    run_tree(
         file,
-        b"tree, ",
         b"a row less in lines64",
         changed(lent(again(), LINES64, 6), FUNCTIONS32, 15, 0),
     );
-    run(
+    run_tree(
         file,
-        b"tree, ",
         b"a row more in lines64",
         changed(lent(again(), LINES64, 12), FUNCTIONS32, 15, 2),
     );
-    run(
-        file,
-        b"tree, ",
-        b"a row less in lines32",
-        lent(again(), LINES32, 28),
-    );
-    run(
-        file,
-        b"tree, ",
-        b"a row more in lines32",
-        lent(again(), LINES32, 56),
-    );
+    run_tree(file, b"a row less in lines32", lent(again(), LINES32, 28));
+    run_tree(file, b"a row more in lines32", lent(again(), LINES32, 56));
 }
 
 fn many_rows(file: &[u8]) {
-    run(
-        file,
-        b"tree, ",
-        b"65,536 function rows",
-        many(131072, 524288),
-    );
-    run(
-        file,
-        b"tree, ",
-        b"65,537 function rows",
-        many(131074, 524296),
-    );
+    run_tree(file, b"65,536 function rows", many(131072, 524288));
+    run_tree(file, b"65,537 function rows", many(131074, 524296));
 }
 
 // 14
@@ -315,47 +267,40 @@ fn optional_texts(file: &[u8], which: &[u8], index: u32) {
 }
 
 fn symbol_texts(file: &[u8]) {
-    run(
+    run_symbol_text(
         file,
-        b"symbol",
         b" whose name ends with the lent text",
         named(symbol(), true, 15, 4),
     );
-    run(
+    run_symbol_text(
         file,
-        b"symbol",
         b" whose name ends one byte past the lent text",
         named(symbol(), true, 16, 4),
     );
-    run(
+    run_symbol_text(
         file,
-        b"symbol",
         b" whose name is empty, where the lent text ends",
         named(symbol(), true, 19, 0),
     );
-    run(
+    run_symbol_text(
         file,
-        b"symbol",
         b" whose name is empty, one byte past that",
         named(symbol(), true, 20, 0),
     );
-    run(
+    run_symbol_text(
         file,
-        b"symbol",
         b" whose name is not UTF-8",
         named(lent(symbol(), TEXT, 20), true, 19, 1),
     );
-    run(
+    run_symbol_text(
         file,
-        b"symbol",
         b" without a name, outside the lent text",
         named(symbol(), false, 20, 4294967295),
     );
     let mut c = named(symbol(), true, 16, 4);
     c.address = 4294967296;
-    run(
+    run_symbol_text(
         file,
-        b"symbol",
         b" above MAX whose name ends one byte past the lent text",
         c,
     );
@@ -414,19 +359,13 @@ fn ends(file: &[u8]) {
 }
 
 fn scratch_words(file: &[u8]) {
-    run(
+    run_tree(
         file,
-        b"tree, ",
         b"scratch of four words a row",
         whole(lent(again(), SCRATCH, 20)),
     );
-    run(
-        file,
-        b"tree, ",
-        b"scratch one word short",
-        lent(again(), SCRATCH, 19),
-    );
-    run(file, b"tree, ", b"no scratch", lent(again(), SCRATCH, 0));
+    run_tree(file, b"scratch one word short", lent(again(), SCRATCH, 19));
+    run_tree(file, b"no scratch", lent(again(), SCRATCH, 0));
 }
 
 // 17
@@ -491,20 +430,14 @@ fn tables(file: &[u8]) {
 // 18
 
 fn outputs(file: &[u8]) {
-    run(file, b"write, ", b"output longer than the file", write());
-    run(
+    run_write(file, b"output longer than the file", write());
+    run_write(
         file,
-        b"write, ",
         b"output of the file's length",
         lent(write(), OUT, 305),
     );
-    run(
-        file,
-        b"write, ",
-        b"output one byte short",
-        lent(write(), OUT, 304),
-    );
-    run(file, b"write, ", b"no output", lent(write(), OUT, 0));
+    run_write(file, b"output one byte short", lent(write(), OUT, 304));
+    run_write(file, b"no output", lent(write(), OUT, 0));
 }
 
 // 19
@@ -564,59 +497,46 @@ fn less_scratch(c: Case) -> Case {
 }
 
 fn two_at_once(file: &[u8]) {
-    run(
+    run_tree(file, b"closed, and no function rows", closed(no_rows()));
+    run_tree(
         file,
-        b"tree, ",
-        b"closed, and no function rows",
-        closed(no_rows()),
-    );
-    run(
-        file,
-        b"tree, ",
         b"no function rows, and a text past the lent text",
         shorter_text(no_rows()),
     );
     let c = changed(again(), FUNCTIONS32, 8, 2);
-    run(
+    run_tree(
         file,
-        b"tree, ",
         b"a depth too deep, and a text past the lent text",
         shorter_text(c),
     );
-    run(
+    run_tree(
         file,
-        b"tree, ",
         b"a text past the lent text, and an end of 2^64",
         long_root(shorter_text(again())),
     );
-    run(
+    run_tree(
         file,
-        b"tree, ",
         b"an end of 2^64, and scratch one word short",
         less_scratch(long_root(again())),
     );
-    run(
+    run_tree(
         file,
-        b"tree, ",
         b"scratch one word short, and a range too many",
         less_scratch(lent(once(), RANGES, 39)),
     );
-    run(
+    run_symbol(
         file,
-        b"symbol, ",
         b"closed, and a name past the lent text",
         closed(named(symbol(), true, 16, 4)),
     );
     let c = lent(symbol(), RANGES, 40);
-    run(
+    run_symbol(
         file,
-        b"symbol, ",
         b"a name past the lent text, and a range too many",
         named(c, true, 16, 4),
     );
-    run(
+    run_write(
         file,
-        b"write, ",
         b"closed, and no output",
         closed(lent(write(), OUT, 0)),
     );

@@ -1,20 +1,8 @@
-// Words, copies of lent memory, and their comparison.
+// Words of lent slices, and their comparison.
 ghost use Rattle.io.specs.Counts.{Counts};
-
-pub(crate) fn place(at: usize, offset: usize) -> usize {
-    std::num::wrapping_add_u64(at as u64, offset as u64) as usize
-}
 
 pub(crate) fn low(n: u64) -> u32 {
     (n % 4294967296) as u32
-}
-
-fn high(n: u64) -> u32 {
-    (n / 4294967296) as u32
-}
-
-pub(crate) fn wide(b: u8) -> u32 {
-    b as u32
 }
 
 pub(crate) fn both(a: bool, b: bool) -> bool {
@@ -69,22 +57,6 @@ pub(crate) fn first_numbers<'a>(t: &'a [u64], n: u32) -> &'a [u64] {
     t
 }
 
-pub(crate) fn fill(t: &mut [u32], v: u32) {
-    let mut i = 0;
-    while i < t.len() {
-        t[i] = v;
-        i += 1;
-    }
-}
-
-fn fill_bytes(t: &mut [u8], v: u8) {
-    let mut i = 0;
-    while i < t.len() {
-        t[i] = v;
-        i += 1;
-    }
-}
-
 pub(crate) fn put(t: &mut [u32], at: usize, v: u32) {
     if at < t.len() {
         t[at] = v;
@@ -97,53 +69,49 @@ pub(crate) fn put_number(t: &mut [u64], at: usize, v: u64) {
     }
 }
 
-pub(crate) fn word(t: &[u32], at: usize) -> u32 {
+fn word(t: &[u32], at: usize) -> u32 {
     if at < t.len() {
         return t[at];
     }
     0
 }
 
-// Copies
-
-pub(crate) fn keep(copy: &mut [u32], at: usize, t: &[u32]) {
-    let mut i = 0;
-    while i < t.len() {
-        put(copy, place(at, i), t[i]);
-        i += 1;
+pub(crate) fn byte(t: &[u8], at: usize) -> u8 {
+    if at < t.len() {
+        return t[at];
     }
+    0
 }
 
-pub(crate) fn keep_bytes(copy: &mut [u32], at: usize, t: &[u8]) {
-    let mut i = 0;
-    while i < t.len() {
-        put(copy, place(at, i), wide(t[i]));
-        i += 1;
+fn number(t: &[u64], at: usize) -> u64 {
+    if at < t.len() {
+        return t[at];
     }
+    0
 }
 
-pub(crate) fn keep_numbers(copy: &mut [u32], at: usize, t: &[u64]) {
-    let mut i = 0;
-    while i < t.len() {
-        put(copy, place(at, i), low(t[i]));
-        put(copy, place(place(at, 16), i), high(t[i]));
-        i += 1;
-    }
-}
+// What is left of lent memory, held against what it was
 
-// What stands at i: 0 below `zeros`, else what the copy has.
-fn expected(copy: &[u32], at: usize, i: usize, zeros: usize) -> u32 {
+// What stands at i: 0 below `zeros`, else what was there.
+fn expected(before: &[u32], i: usize, zeros: usize) -> u32 {
     if i < zeros {
         return 0;
     }
-    word(copy, place(at, i))
+    word(before, i)
 }
 
-// Whether the first `zeros` words are 0, and the others as in the copy.
-pub(crate) fn is_left(copy: &[u32], at: usize, t: &[u32], zeros: usize) -> bool {
+fn expected_byte(before: &[u8], i: usize, zeros: usize) -> u8 {
+    if i < zeros {
+        return 0;
+    }
+    byte(before, i)
+}
+
+// Whether the first `zeros` words are 0, and the others as before.
+pub(crate) fn is_left(before: &[u32], t: &[u32], zeros: usize) -> bool {
     let mut i = 0;
     while i < t.len() {
-        if t[i] != expected(copy, at, i, zeros) {
+        if t[i] != expected(before, i, zeros) {
             return false;
         }
         i += 1;
@@ -151,10 +119,10 @@ pub(crate) fn is_left(copy: &[u32], at: usize, t: &[u32], zeros: usize) -> bool 
     true
 }
 
-pub(crate) fn is_left_bytes(copy: &[u32], at: usize, t: &[u8], zeros: usize) -> bool {
+pub(crate) fn is_left_bytes(before: &[u8], t: &[u8], zeros: usize) -> bool {
     let mut i = 0;
     while i < t.len() {
-        if wide(t[i]) != expected(copy, at, i, zeros) {
+        if t[i] != expected_byte(before, i, zeros) {
             return false;
         }
         i += 1;
@@ -162,13 +130,10 @@ pub(crate) fn is_left_bytes(copy: &[u32], at: usize, t: &[u8], zeros: usize) -> 
     true
 }
 
-pub(crate) fn is_left_numbers(copy: &[u32], at: usize, t: &[u64]) -> bool {
+pub(crate) fn is_left_numbers(before: &[u64], t: &[u64]) -> bool {
     let mut i = 0;
     while i < t.len() {
-        if low(t[i]) != expected(copy, at, i, 0) {
-            return false;
-        }
-        if high(t[i]) != expected(copy, place(at, 16), i, 0) {
+        if t[i] != number(before, i) {
             return false;
         }
         i += 1;
@@ -205,17 +170,15 @@ pub(crate) fn is_filled(t: &[u32], v: u32) -> bool {
 }
 
 // The address and the size of a root.
-pub(crate) fn set_root(t: &mut [u64]) {
-    if 1 < t.len() {
-        t[0] = 12288;
-        t[1] = 16;
-    }
+pub(crate) fn set_root(t: &mut [u64; 131074]) {
+    t[0] = 12288;
+    t[1] = 16;
 }
 
 // A root whose name has three bytes, and inlinees of depth 1 in every row after it.
-pub(crate) fn set_depths(t: &mut [u32]) {
-    let mut i = 0;
-    while i < t.len() {
+pub(crate) fn set_depths(t: &mut [u32; 524296]) {
+    let mut i: usize = 0;
+    while i < 524296 {
         t[i] = depth_word(i);
         i += 1;
     }

@@ -33,8 +33,9 @@ use Rattle.symcache.specs.Reader.{layoutOf, opened}
 use Rattle.reads.specs.Bytes.{header-of, file-bytes}
 use Rattle.reads.specs.Shown.{with-stand-in, Found}
 use Rattle.reads.proofs.Written.{file-shows, file-opened, file-demand}
-use Rattle.writer.specs.Calls.{setup, words-of, usable?, treeOf, symbolRow, symbolOf, beginOf}
-use Rattle.line_rows.specs.Lines.{lineColumns}
+use Rattle.writer.specs.Calls.{setup, words-of, usable?, treeOf, symbolOf, beginOf}
+use Rattle.symbols.specs.Symbols.{symbolRow}
+use Rattle.unpacked.specs.Lines.{lineColumns}
 use Rattle.reopened.specs.Lists.{Call, tree, lines-tree, symbol, write, Standing, givenTree, next, run, begun, Typed}
 use Rattle.reopened.specs.Demand3.{Nested, Premises, asked, Shows, Reopened, file-of, Demand3}
 use Rattle.reopened.proofs.Encoding.{capacities, capacities-lent}

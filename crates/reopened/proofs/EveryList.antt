@@ -29,8 +29,9 @@ use Rattle.rows.proofs.Accepted.{Accepted, accepted, given-fits}
 use Rattle.steps.specs.Words.{Memory, Words, over-words}
 use Rattle.steps.specs.declared.Converter.{Converter}
 use Rattle.steps.proofs.Lengths.{Lens}
-use Rattle.writer.specs.Calls.{Called, called, zeros, unused, with-state, setup, words-of, usable?, finished, beginOf, rows-converted, treeOf, symbolRow, symbolOf}
-use Rattle.line_rows.specs.Lines.{lineColumns}
+use Rattle.writer.specs.Calls.{Called, called, zeros, with-state, setup, words-of, usable?, finished, beginOf, rows-converted, treeOf, symbolOf}
+use Rattle.symbols.specs.Symbols.{unused, symbolRow}
+use Rattle.unpacked.specs.Lines.{lineColumns}
 use Rattle.line_rows.specs.Calls.{linesOf}
 use Rattle.line_rows.proofs.AsTree.{scratch-had, kept, lines-tree as lines-tree-is}
 use Rattle.reopened.specs.Lists.{Call, tree, lines-tree, symbol, write, Standing, givenTree, after, next, run, begun, due, Typed}

@@ -18,7 +18,7 @@ use Rattle.tables.proofs.TextTables as text-tables
 use Rattle.steps.specs.Words.{Memory, Words, fits?, over-words}
 use Rattle.steps.proofs.Lengths.{Lens, lens, lens-kept}
 use Rattle.steps.proofs.Loops.{op-keeps}
-use Rattle.writer.specs.Calls.{unused}
+use Rattle.symbols.specs.Symbols.{unused}
 use Rattle.reopened.proofs.Encoding.{capacities, Enc, encoding, any, has-room, enc-room, enc-fits}
 use Rattle.reopened.proofs.OverWords.{words-encode}
 

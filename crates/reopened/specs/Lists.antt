@@ -15,8 +15,9 @@ use Rattle.rows.specs.declared.OptionalPart.{OptionalPart}
 use Rattle.rows.specs.declared.LineRow.{LineRow}
 use Rattle.steps.specs.Words.{Memory}
 use Rattle.steps.specs.declared.Converter.{Converter}
-use Rattle.writer.specs.Calls.{Called, beginOf, treeOf, symbolOf, symbolRow}
-use Rattle.line_rows.specs.Lines.{lineColumns}
+use Rattle.writer.specs.Calls.{Called, beginOf, treeOf, symbolOf}
+use Rattle.symbols.specs.Symbols.{symbolRow}
+use Rattle.unpacked.specs.Lines.{lineColumns}
 use Rattle.line_rows.specs.Calls.{linesOf}
 
 pub data Call : Type 0 where

@@ -13,7 +13,8 @@ use Rattle.rows.specs.declared.OptionalPart.{OptionalPart}
 use Rattle.steps.specs.declared.State.{State}
 use Rattle.steps.specs.declared.Converter.{Converter}
 use Rattle.steps.specs.Words.{Memory, Words, fits?, over-words}
-use Rattle.writer.specs.Calls.{Called, called, zeros, zeroed, unused, with-state, setup, words-of, usable?, finished, beginOf, rows-converted, treeOf, symbolRow, symbolOf}
+use Rattle.writer.specs.Calls.{Called, called, zeros, zeroed, with-state, setup, words-of, usable?, finished, beginOf, rows-converted, treeOf, symbolOf}
+use Rattle.symbols.specs.Symbols.{unused, begun, symbolRow}
 
 -- ── The end of a call ──────────────────────────────────────────────────────────────────────────────────────────────────
 
@@ -29,8 +30,7 @@ module _ (c : Converter) (w : Words) {b : Bool} (e : b ≡ fits? w) where
 
 -- ── Beginning ──────────────────────────────────────────────────────────────────────────────────────────────────────────
 
-pub begin-law : (id : List ℕ) (arch : ℕ) (f s : Bool) (m₀ : Memory) {u : State} {m : Memory} → m ≡ zeroed m₀ → u ≡ unused
-    → (record { «debug_id» = id; arch = arch; «undecorate_functions» = f; «undecorate_symbols» = s; «open» = true; state = u }, m) ≡ beginOf id arch f s m₀
+pub begin-law : (id : List ℕ) (arch : ℕ) (f s : Bool) (m₀ : Memory) {c : Converter} {m : Memory} → m ≡ zeroed m₀ → c ≡ begun id arch f s → (c, m) ≡ beginOf id arch f s m₀
 unfolding beginOf
 begin-law id arch f s m₀ d e = rw (d, e)
 

@@ -1,5 +1,4 @@
 pub mod Fill
-pub mod SymbolLaws
 pub mod CallLaws
 pub mod ScratchLaws
 pub mod LineLaws

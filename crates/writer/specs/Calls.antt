@@ -1,21 +1,19 @@
 -- The public calls of the converter, for every input: document 01 "Converter" and "Who causes which number". A tree, a symbol and a beginning; each gives its number, the record, and every lent
 -- slice as it leaves it.
 use mathlib.Core.Bool.{Bool, true, false, cond, _&&_}
-use mathlib.Core.Option.{Option, none, some}
 use mathlib.Core.List.{List, [], map}
 use Prim.Native.Nat.{ℕ}
 use lib.Dec.{eqb}
 use lib.ListN.{length, replicate}
-use Rattle.model.specs.Rows.{MAX, Text, SymbolRow}
-use Rattle.model.specs.Machine.{convertM, startM, unless-held, put-end, convert-symbolM}
+use Rattle.model.specs.Machine.{convertM, startM, convert-symbolM}
 use Rattle.model.specs.Converter.{Setup, input, deep}
-use Rattle.rows.specs.Columns.{Columns, treeRows, optionalOf}
+use Rattle.rows.specs.Columns.{Columns, treeRows}
 use Rattle.rows.specs.Refusals.{refusalOf, optional?}
 use Rattle.rows.specs.declared.OptionalPart.{OptionalPart}
-use Rattle.steps.specs.Words.{Memory, Words, fits?, location, add-function, put-range, over-words}
+use Rattle.steps.specs.Words.{Memory, Words, fits?, over-words}
 use Rattle.steps.specs.declared.State.{State}
-use Rattle.steps.specs.declared.LastAddr.the-variants.{Unset}
 use Rattle.steps.specs.declared.Converter.{Converter}
+use Rattle.symbols.specs.Symbols.{unused, begun, symbolRow}
 
 -- ── What a call leaves ─────────────────────────────────────────────────────────────────────────────────────────────────
 
@@ -33,10 +31,6 @@ zeros s = replicate (length s) 0
 
 abbrev pub zeroed : Memory → Memory
 zeroed m = record { text = zeros (m .text); strings = zeros (m .strings); files = zeros (m .files); functions = zeros (m .functions); calls = zeros (m .calls); ranges = zeros (m .ranges) }
-
--- nothing in use
-abbrev pub unused : State
-unused = record { «string_bytes» = 0; strings = 0; files = 0; functions = 0; «call_locations» = 0; ranges = 0; «last_addr» = Unset }
 
 abbrev pub with-state : Converter → Bool → State → Converter
 with-state c o s = record {
@@ -68,7 +62,7 @@ finished c s w =
 -- "Beginning takes the debug id, the arch number and the two switches, and zeroes the lent tables"
 unfoldable pub beginOf : List ℕ → ℕ → Bool → Bool → Memory → Converter × Memory
 beginOf id arch f s m =
-    (record { «debug_id» = id; arch = arch; «undecorate_functions» = f; «undecorate_symbols» = s; «open» = true; state = unused }, zeroed m)
+    (begun id arch f s, zeroed m)
 
 -- ── A tree ─────────────────────────────────────────────────────────────────────────────────────────────────────────────
 
@@ -85,26 +79,9 @@ treeOf c m s k =
 
 -- ── A symbol ───────────────────────────────────────────────────────────────────────────────────────────────────────────
 
--- a symbol's row; its name is a part of the lent text, where it has one
-abbrev pub symbolRow : List ℕ → ℕ → ℕ → OptionalPart → SymbolRow
-symbolRow t address size name = record { address = address; size = size; name = optionalOf t name }
-
 -- "Symbols: 19, 14, 17"; "a symbol call lends no scratch"
 unfoldable pub symbolOf : Converter → Memory → List ℕ → ℕ → ℕ → OptionalPart → Called
 symbolOf c m t address size name =
     cond (usable? c m)
     (cond (optional? t name) (finished c [] (convert-symbolM input (over-words (setup c)) (symbolRow t address size name) (words-of c m))) (called 14 c m []))
     (called 19 c m [])
-
--- its two steps on the ranges (private contracts cite them): the function and the location at its start, where that is vacant or holds the empty mapping
-abbrev pub symbol-put : Setup → ℕ → ℕ → Words → Words
-symbol-put X name address s =
-    let f = add-function name address MAX s in
-    unless-held input (over-words X) address (put-range address (location MAX 0 (f .0) MAX) (f .1)) s
-
--- and the empty mapping at its end, if it has one
-abbrev pub end-put : Setup → Option ℕ → Words → Words
-end-put X end s = elim end [ none ↦ s | some e ↦ put-end input (over-words X) e s ]
-
-abbrev pub namedRow : ℕ → ℕ → Text → SymbolRow
-namedRow address size name = record { address = address; size = size; name = some name }

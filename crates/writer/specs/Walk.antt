@@ -12,10 +12,6 @@ use Rattle.rows.specs.Refusals.{firstLine}
 use Rattle.steps.specs.Words.{Words, over-words}
 use Rattle.loops.specs.Scratch.{pairsAt, refsAt, callsOf, topOf, kid-spans, LinesWithin, RowDone}
 
--- the switches of a converter
-abbrev pub switches : Bool → Bool → Setup
-switches functions symbols = record { functions-on = functions; symbols-on = symbols }
-
 -- ── Call locations ──
 
 -- the current call location, and those after it

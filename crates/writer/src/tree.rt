@@ -27,7 +27,8 @@ ghost use Rattle.rows.specs.Columns.{columns, functionRow, functionAt, textOf, 
 ghost use Rattle.rows.specs.Refusals.{firstLine, refusalOf};
 ghost use Rattle.steps.specs.Words.{words, gave, begin-named, over-words};
 ghost use Rattle.loops.specs.Scratch.{refsAt, callsOf, topOf, kid-spans, LinesWithin};
-ghost use Rattle.writer.specs.Walk.{switches, OwnCalls, Sorted, RowReady, RowLeft, ref};
+ghost use Rattle.writer.specs.Walk.{OwnCalls, Sorted, RowReady, RowLeft, ref};
+ghost use Rattle.symbols.specs.Symbols.{switches};
 
 // Functions of size 0, and those whose address is too large for 32 bits, are skipped.
 fn is_skipped(q: FunctionRow) -> bool

@@ -49,16 +49,17 @@ use Rattle.writer.specs.Calls.{called}
 use Rattle.writer.specs.declared.calls.Answer.{Answer}
 use Rattle.writer.proofs.calls.Answer as TA
 use Rattle.writer.proofs.calls.Answer.Laws as TA′
-use Rattle.line_rows.specs.Lines.{lineColumns}
+use Rattle.unpacked.specs.Lines.{lineColumns}
 use Rattle.line_rows.specs.Calls.{linesOf}
 use Rattle.line_rows.specs.Calls as lines-spec
-use Rattle.line_rows.proofs.Again.{LentAgain, lends-again, comes-back}
+use Rattle.unpacked.proofs.Again.{LentAgain, lends-again, comes-back}
 use Rattle.line_rows.proofs.process_function_lines as process
 use Rattle.line_rows.proofs.process_function_lines.Symbol as process-def
 use Rattle.line_rows.proofs.process_function_lines.Symbol.{name as #line-rows·process-function-lines}
 use Rattle.line_rows.proofs.process_function_lines.Met as process-thm
-use Rattle.exports.specs.Record.{converterOf}
-use Rattle.exports.specs.Writing.{left, kept, linesLeft, linesCall}
+use Rattle.words.specs.Record.{converterOf}
+use Rattle.exports.specs.Writing.{left, linesLeft, linesCall}
+use Rattle.words.specs.Record.{kept}
 use Rattle.exports.proofs.LinesLaws.{lines-stored}
 use Rattle.exports.proofs.lines.read_record as read-record
 use Rattle.exports.proofs.lines.read_record.Symbol as read-record-def

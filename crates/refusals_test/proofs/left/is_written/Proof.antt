@@ -1,4 +1,4 @@
--- The loop passes each byte once.
+-- The loop passes each place once.
 use Prim.Native.Nat.{_≤_, _-_}
 use lib.ListN.{length}
 use borrow.Author.Needs.{needs}
@@ -6,10 +6,10 @@ use Rattle.refusals_test.proofs.left.is_written.Statement.{statement}
 use Rattle.refusals_test.proofs.left.is_written.Tie as tie
 
 abbrev Inv-loop : tie.InvT-loop
-Inv-loop copy out file i₀ i = i ≤ length out
+Inv-loop before out file i₀ i = i ≤ length out
 
 abbrev μ-loop : tie.MeasureT-loop
-μ-loop copy out file i₀ i = length out - i
+μ-loop before out file i₀ i = length out - i
 
 loop-holds : tie.Need-loop-holds Inv-loop μ-loop
 loop-holds c = search needs
@@ -23,17 +23,11 @@ shared-slice-read-if2-2 c = search needs
 returns : tie.Need-returns Inv-loop μ-loop
 returns c = search needs
 
-shared-slice-read-wide : tie.Need-shared-slice-read-wide Inv-loop μ-loop
-shared-slice-read-wide c = search needs
+shared-slice-read-if3 : tie.Need-shared-slice-read-if3 Inv-loop μ-loop
+shared-slice-read-if3 c = search needs
 
-wide-requires : tie.Need-wide-requires Inv-loop μ-loop
-wide-requires c κs = search needs
-
-place-requires : tie.Need-place-requires Inv-loop μ-loop
-place-requires c κs = search needs
-
-word-requires : tie.Need-word-requires Inv-loop μ-loop
-word-requires c κs = search needs
+byte-requires : tie.Need-byte-requires Inv-loop μ-loop
+byte-requires c κs = search needs
 
 returns-2 : tie.Need-returns-2 Inv-loop μ-loop
 returns-2 c = search needs
@@ -60,10 +54,8 @@ is-written-spec =
     shared-slice-read-if2
     shared-slice-read-if2-2
     returns
-    shared-slice-read-wide
-    wide-requires
-    place-requires
-    word-requires
+    shared-slice-read-if3
+    byte-requires
     returns-2
     add-i
     loop-less

@@ -1,4 +1,4 @@
--- The loop passes each word once.
+-- The loop passes each place once.
 use Prim.Native.Nat.{_≤_, _-_}
 use lib.ListN.{length}
 use borrow.Author.Needs.{needs}
@@ -6,10 +6,10 @@ use Rattle.refusals_test.proofs.words.is_left.Statement.{statement}
 use Rattle.refusals_test.proofs.words.is_left.Tie as tie
 
 abbrev Inv-loop : tie.InvT-loop
-Inv-loop copy at t zeros i₀ i = i ≤ length t
+Inv-loop before t zeros i₀ i = i ≤ length t
 
 abbrev μ-loop : tie.MeasureT-loop
-μ-loop copy at t zeros i₀ i = length t - i
+μ-loop before t zeros i₀ i = length t - i
 
 loop-holds : tie.Need-loop-holds Inv-loop μ-loop
 loop-holds c = search needs

@@ -1,4 +1,4 @@
--- The loop passes each byte once.
+-- The loop passes each place once.
 use Prim.Native.Nat.{_≤_, _-_}
 use lib.ListN.{length}
 use borrow.Author.Needs.{needs}
@@ -6,22 +6,19 @@ use Rattle.refusals_test.proofs.words.is_left_bytes.Statement.{statemen
 use Rattle.refusals_test.proofs.words.is_left_bytes.Tie as tie
 
 abbrev Inv-loop : tie.InvT-loop
-Inv-loop copy at t zeros i₀ i = i ≤ length t
+Inv-loop before t zeros i₀ i = i ≤ length t
 
 abbrev μ-loop : tie.MeasureT-loop
-μ-loop copy at t zeros i₀ i = length t - i
+μ-loop before t zeros i₀ i = length t - i
 
 loop-holds : tie.Need-loop-holds Inv-loop μ-loop
 loop-holds c = search needs
 
-shared-slice-read-wide : tie.Need-shared-slice-read-wide Inv-loop μ-loop
-shared-slice-read-wide c = search needs
+shared-slice-read-if1 : tie.Need-shared-slice-read-if1 Inv-loop μ-loop
+shared-slice-read-if1 c = search needs
 
-wide-requires : tie.Need-wide-requires Inv-loop μ-loop
-wide-requires c κs = search needs
-
-expected-requires : tie.Need-expected-requires Inv-loop μ-loop
-expected-requires c κs = search needs
+expected-byte-requires : tie.Need-expected-byte-requires Inv-loop μ-loop
+expected-byte-requires c κs = search needs
 
 returns : tie.Need-returns Inv-loop μ-loop
 returns c = search needs
@@ -45,9 +42,8 @@ is-left-bytes-spec =
     Inv-loop
     μ-loop
     loop-holds
-    shared-slice-read-wide
-    wide-requires
-    expected-requires
+    shared-slice-read-if1
+    expected-byte-requires
     returns
     add-i
     loop-less

@@ -8,8 +8,8 @@ use Rattle.writer.proofs.calls.begin.Tie as tie
 zero-tables-requires : tie.Need-zero-tables-requires
 zero-tables-requires c κs = search needs
 
-nothing-used-requires : tie.Need-nothing-used-requires
-nothing-used-requires c κs = search needs
+opened-requires : tie.Need-opened-requires
+opened-requires c κs = search needs
 
 same-length : tie.Need-same-length
 same-length c = search needs
@@ -35,7 +35,7 @@ returns c =
     let z = c .before .before .before .before .before .before .before .before .before .before .before .before .before .zero-tables in
     begin-law (a .debug-id) (a .arch) (a .undecorate-functions) (a .undecorate-symbols) (memory (a .string-bytes .now) (a .strings .now) (a .files .now) (a .functions .now) (a .call-locations .now) (a .ranges .now))
     {m = memory (z .last .0) (z .last .1 .0) (z .last .1 .1 .0) (z .last .1 .1 .1 .0) (z .last .1 .1 .1 .1 .0) (z .last .1 .1 .1 .1 .1 .0)}
-    (z .ensures) (c .nothing-used .ensures)
+    (z .ensures) (c .opened .ensures)
 
 pub begin-spec : {M : Type 1} → statement M
-begin-spec = tie.close (tie.spec zero-tables-requires nothing-used-requires same-length same-length-2 same-length-3 same-length-4 same-length-5 same-length-6 returns)
+begin-spec = tie.close (tie.spec zero-tables-requires opened-requires same-length same-length-2 same-length-3 same-length-4 same-length-5 same-length-6 returns)

@@ -14,7 +14,7 @@ use Rattle.steps.specs.Words.{words, over-words}
 use Rattle.loops.specs.Scratch.{turned}
 use Rattle.loops.proofs.Walks.{Inner, begins, turn-less, turn-more, turn-done}
 use Rattle.loops.proofs.Lines.{starts}
-use Rattle.writer.specs.Walk.{switches}
+use Rattle.symbols.specs.Symbols.{switches}
 use Rattle.writer.proofs.LineLaws.{falls-more, dir-is, lines-low, Goes, goes-same, line-passed, line-walked, lines-ended}
 use Rattle.writer.proofs.lines.process_lines.Statement.{statement}
 use Rattle.writer.proofs.lines.process_lines.Tie as tie

@@ -1,0 +1,15 @@
+-- `opened` meets its contract: `opened-law`.
+use Rattle.symbols.proofs.SymbolLaws.{opened-law}
+use borrow.Author.Needs.{needs}
+use Rattle.symbols.proofs.opened.Statement.{statement}
+use Rattle.symbols.proofs.opened.Tie as tie
+
+nothing-used-requires : tie.Need-nothing-used-requires
+nothing-used-requires c κs = search needs
+
+returns : tie.Need-returns
+returns c = let a = c .before .args in
+    opened-law (a .debug-id) (a .arch) (a .undecorate-functions) (a .undecorate-symbols) (c .nothing-used .ensures)
+
+pub opened-spec : {M : Type 1} → statement M
+opened-spec = tie.close (tie.spec nothing-used-requires returns)

@@ -1,0 +1,53 @@
+-- `process_named` meets its contract: `named-law`.
+use Rattle.steps.specs.Words.{words}
+use Rattle.symbols.specs.Symbols.{switches}
+use Rattle.symbols.specs.Symbols.{namedRow}
+use Rattle.symbols.proofs.SymbolLaws.{named-law}
+use borrow.Author.Needs.{needs}
+use Rattle.symbols.proofs.process_named.Statement.{statement}
+use Rattle.symbols.proofs.process_named.Tie as tie
+
+shown-name-requires : tie.Need-shown-name-requires
+shown-name-requires c κs = search needs
+
+insert-string-requires : tie.Need-insert-string-requires
+insert-string-requires c κs = search needs
+
+insert-symbol-requires : tie.Need-insert-symbol-requires
+insert-symbol-requires c κs = search needs
+
+mark-symbol-requires : tie.Need-mark-symbol-requires
+mark-symbol-requires c κs = search needs
+
+insert-symbol-end-requires : tie.Need-insert-symbol-end-requires
+insert-symbol-end-requires c κs = search needs
+
+same-length : tie.Need-same-length
+same-length c = search needs
+
+same-length-2 : tie.Need-same-length-2
+same-length-2 c = search needs
+
+same-length-3 : tie.Need-same-length-3
+same-length-3 c = search needs
+
+same-length-4 : tie.Need-same-length-4
+same-length-4 c = search needs
+
+returns : tie.Need-returns
+returns c =
+    let a = c .before .before .before .before .before .before .before .before .before .before .before .before .before .before .before .before .before .before .before .before .before .before .before .before .before .args in
+    let t = c .before .before .before .before .before .before .before .before .before .before .before .before .before .before .before .before .insert-string in
+    let l = c .before .before .before .before .before .before .before .before .before .insert-symbol in
+    let m = c .before .before .before .before .mark-symbol in
+    let e = c .before .before .insert-symbol-end in
+    λ b f k.
+    named-law (switches b (a .undecorate)) (namedRow (a .address) (a .size) (a .name .now)) (words (a .state) (a .string-bytes .now) (a .strings .now) f (a .functions .now) k (a .ranges .now))
+    {p = t .result .index} {t = words (t .result .state) (t .last .1 .0) (t .last .1 .1 .0) f (a .functions .now) k (a .ranges .now)}
+    {u = words (l .result) (t .last .1 .0) (t .last .1 .1 .0) f (l .last .1 .0) k (l .last .1 .1 .0)}
+    {v = words (e .result) (t .last .1 .0) (t .last .1 .1 .0) f (l .last .1 .0) k (e .last .1 .0)} {st = m .result}
+    (c .before .before .before .before .before .before .before .before .before .before .before .before .before .before .before .before .before .before .before .shown-name .ensures) (t .ensures f (a .functions .now) k (a .ranges .now)) (l .ensures (switches b (a .undecorate)) (t .last .1 .0) (t .last .1 .1 .0) f k)
+    (m .ensures) (e .ensures (switches b (a .undecorate)) (a .name .now) (t .last .1 .0) (t .last .1 .1 .0) f (l .last .1 .0) k)
+
+pub process-named-spec : {M : Type 1} → statement M
+process-named-spec = tie.close (tie.spec shown-name-requires insert-string-requires insert-symbol-requires mark-symbol-requires insert-symbol-end-requires same-length same-length-2 same-length-3 same-length-4 returns)

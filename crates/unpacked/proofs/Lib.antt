@@ -1,0 +1,4 @@
+pub mod Words
+pub mod Turns
+pub mod Again
+pub mod Numbers

@@ -1,0 +1,220 @@
+-- `put_words32` meets its contract.
+use native.Mathlib.Omega.{arith}
+use lib.ListN.{length-set}
+use Rattle.unpacked.specs.Lines.{words32}
+use Rattle.unpacked.proofs.Words.{stored32, row-out, row-refused}
+use borrow.Author.Needs.{needs}
+use Rattle.unpacked.proofs.put_words32.Statement.{statement}
+use Rattle.unpacked.proofs.put_words32.Tie as tie
+
+flag-word-requires : tie.Need-flag-word-requires
+flag-word-requires c κs = search needs
+
+flag-word-requires-2 : tie.Need-flag-word-requires-2
+flag-word-requires-2 c κs = search needs
+
+flag-word-requires-3 : tie.Need-flag-word-requires-3
+flag-word-requires-3 c κs = search needs
+
+flag-word-requires-4 : tie.Need-flag-word-requires-4
+flag-word-requires-4 c κs = search needs
+
+mul-k : tie.Need-mul-k
+mul-k c = search needs
+
+mul-unpacked32 : tie.Need-mul-unpacked32
+mul-unpacked32 c = search needs
+
+slice-write-unpacked32 : tie.Need-slice-write-unpacked32
+slice-write-unpacked32 c = search needs
+
+add-unpacked32 : tie.Need-add-unpacked32
+add-unpacked32 c = search needs
+
+mul-unpacked32-2 : tie.Need-mul-unpacked32-2
+mul-unpacked32-2 c = search needs
+
+slice-write-unpacked32-2 : tie.Need-slice-write-unpacked32-2
+slice-write-unpacked32-2 c = simp length-set (omega arith)
+
+add-unpacked32-2 : tie.Need-add-unpacked32-2
+add-unpacked32-2 c = search needs
+
+mul-unpacked32-3 : tie.Need-mul-unpacked32-3
+mul-unpacked32-3 c = search needs
+
+slice-write-unpacked32-3 : tie.Need-slice-write-unpacked32-3
+slice-write-unpacked32-3 c = simp length-set (omega arith)
+
+add-unpacked32-3 : tie.Need-add-unpacked32-3
+add-unpacked32-3 c = search needs
+
+mul-unpacked32-4 : tie.Need-mul-unpacked32-4
+mul-unpacked32-4 c = search needs
+
+slice-write-unpacked32-4 : tie.Need-slice-write-unpacked32-4
+slice-write-unpacked32-4 c = simp length-set (omega arith)
+
+add-unpacked32-4 : tie.Need-add-unpacked32-4
+add-unpacked32-4 c = search needs
+
+mul-unpacked32-5 : tie.Need-mul-unpacked32-5
+mul-unpacked32-5 c = search needs
+
+slice-write-unpacked32-5 : tie.Need-slice-write-unpacked32-5
+slice-write-unpacked32-5 c = simp length-set (omega arith)
+
+add-unpacked32-5 : tie.Need-add-unpacked32-5
+add-unpacked32-5 c = search needs
+
+mul-unpacked32-6 : tie.Need-mul-unpacked32-6
+mul-unpacked32-6 c = search needs
+
+slice-write-unpacked32-6 : tie.Need-slice-write-unpacked32-6
+slice-write-unpacked32-6 c = simp length-set (omega arith)
+
+add-unpacked32-6 : tie.Need-add-unpacked32-6
+add-unpacked32-6 c = search needs
+
+mul-unpacked32-7 : tie.Need-mul-unpacked32-7
+mul-unpacked32-7 c = search needs
+
+slice-write-unpacked32-7 : tie.Need-slice-write-unpacked32-7
+slice-write-unpacked32-7 c = simp length-set (omega arith)
+
+add-unpacked32-7 : tie.Need-add-unpacked32-7
+add-unpacked32-7 c = search needs
+
+mul-unpacked32-8 : tie.Need-mul-unpacked32-8
+mul-unpacked32-8 c = search needs
+
+slice-write-unpacked32-8 : tie.Need-slice-write-unpacked32-8
+slice-write-unpacked32-8 c = simp length-set (omega arith)
+
+add-unpacked32-8 : tie.Need-add-unpacked32-8
+add-unpacked32-8 c = search needs
+
+mul-unpacked32-9 : tie.Need-mul-unpacked32-9
+mul-unpacked32-9 c = search needs
+
+slice-write-unpacked32-9 : tie.Need-slice-write-unpacked32-9
+slice-write-unpacked32-9 c = simp length-set (omega arith)
+
+add-unpacked32-9 : tie.Need-add-unpacked32-9
+add-unpacked32-9 c = search needs
+
+mul-unpacked32-10 : tie.Need-mul-unpacked32-10
+mul-unpacked32-10 c = search needs
+
+slice-write-unpacked32-10 : tie.Need-slice-write-unpacked32-10
+slice-write-unpacked32-10 c = simp length-set (omega arith)
+
+add-unpacked32-10 : tie.Need-add-unpacked32-10
+add-unpacked32-10 c = search needs
+
+mul-unpacked32-11 : tie.Need-mul-unpacked32-11
+mul-unpacked32-11 c = search needs
+
+slice-write-unpacked32-11 : tie.Need-slice-write-unpacked32-11
+slice-write-unpacked32-11 c = simp length-set (omega arith)
+
+add-unpacked32-11 : tie.Need-add-unpacked32-11
+add-unpacked32-11 c = search needs
+
+mul-unpacked32-12 : tie.Need-mul-unpacked32-12
+mul-unpacked32-12 c = search needs
+
+slice-write-unpacked32-12 : tie.Need-slice-write-unpacked32-12
+slice-write-unpacked32-12 c = simp length-set (omega arith)
+
+add-unpacked32-12 : tie.Need-add-unpacked32-12
+add-unpacked32-12 c = search needs
+
+mul-unpacked32-13 : tie.Need-mul-unpacked32-13
+mul-unpacked32-13 c = search needs
+
+slice-write-unpacked32-13 : tie.Need-slice-write-unpacked32-13
+slice-write-unpacked32-13 c = simp length-set (omega arith)
+
+add-unpacked32-13 : tie.Need-add-unpacked32-13
+add-unpacked32-13 c = search needs
+
+mul-unpacked32-14 : tie.Need-mul-unpacked32-14
+mul-unpacked32-14 c = search needs
+
+slice-write-unpacked32-14 : tie.Need-slice-write-unpacked32-14
+slice-write-unpacked32-14 c = simp length-set (omega arith)
+
+same-length : tie.Need-same-length
+same-length c = simp length-set
+
+returns : tie.Need-returns
+returns c =
+    let a = c .before .before .before .before .before .before .before .args in
+    stored32 (a .refused) (a .unpacked32 .now) (a .j) (a .row) (c .before .before .before .before .before .if1 .taken) (c .before .before .before .before .if2 .taken)
+    (c .before .before .before .flag-word .ensures) (c .before .before .flag-word2 .ensures) (c .before .flag-word3 .ensures) (c .flag-word4 .ensures)
+
+returns-2 : tie.Need-returns-2
+returns-2 c =
+    let a = c .before .before .before .args in
+    row-out (a .refused) 14 (a .unpacked32 .now) (a .j) (words32 (a .row)) (c .before .if1 .taken) (c .if2 .left)
+
+returns-3 : tie.Need-returns-3
+returns-3 c =
+    let a = c .before .before .args in
+    row-refused (a .refused) 14 (a .unpacked32 .now) (a .j) (words32 (a .row)) (c .if1 .left)
+
+pub put-words32-spec : {M : Type 1} → statement M
+put-words32-spec =
+    tie.close
+    (tie.spec
+    flag-word-requires
+    flag-word-requires-2
+    flag-word-requires-3
+    flag-word-requires-4
+    mul-k
+    mul-unpacked32
+    slice-write-unpacked32
+    add-unpacked32
+    mul-unpacked32-2
+    slice-write-unpacked32-2
+    add-unpacked32-2
+    mul-unpacked32-3
+    slice-write-unpacked32-3
+    add-unpacked32-3
+    mul-unpacked32-4
+    slice-write-unpacked32-4
+    add-unpacked32-4
+    mul-unpacked32-5
+    slice-write-unpacked32-5
+    add-unpacked32-5
+    mul-unpacked32-6
+    slice-write-unpacked32-6
+    add-unpacked32-6
+    mul-unpacked32-7
+    slice-write-unpacked32-7
+    add-unpacked32-7
+    mul-unpacked32-8
+    slice-write-unpacked32-8
+    add-unpacked32-8
+    mul-unpacked32-9
+    slice-write-unpacked32-9
+    add-unpacked32-9
+    mul-unpacked32-10
+    slice-write-unpacked32-10
+    add-unpacked32-10
+    mul-unpacked32-11
+    slice-write-unpacked32-11
+    add-unpacked32-11
+    mul-unpacked32-12
+    slice-write-unpacked32-12
+    add-unpacked32-12
+    mul-unpacked32-13
+    slice-write-unpacked32-13
+    add-unpacked32-13
+    mul-unpacked32-14
+    slice-write-unpacked32-14
+    same-length
+    returns
+    returns-2
+    returns-3)

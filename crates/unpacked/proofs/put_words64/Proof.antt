@@ -1,0 +1,71 @@
+-- `put_words64` meets its contract.
+use native.Mathlib.Omega.{arith}
+use lib.ListN.{length-set}
+use Rattle.unpacked.specs.Lines.{words64}
+use Rattle.unpacked.proofs.Words.{stored64, row-out, row-refused}
+use borrow.Author.Needs.{needs}
+use Rattle.unpacked.proofs.put_words64.Statement.{statement}
+use Rattle.unpacked.proofs.put_words64.Tie as tie
+
+mul-k : tie.Need-mul-k
+mul-k c = search needs
+
+mul-unpacked64 : tie.Need-mul-unpacked64
+mul-unpacked64 c = search needs
+
+slice-write-unpacked64 : tie.Need-slice-write-unpacked64
+slice-write-unpacked64 c = search needs
+
+add-unpacked64 : tie.Need-add-unpacked64
+add-unpacked64 c = search needs
+
+mul-unpacked64-2 : tie.Need-mul-unpacked64-2
+mul-unpacked64-2 c = search needs
+
+slice-write-unpacked64-2 : tie.Need-slice-write-unpacked64-2
+slice-write-unpacked64-2 c = simp length-set (omega arith)
+
+add-unpacked64-2 : tie.Need-add-unpacked64-2
+add-unpacked64-2 c = search needs
+
+mul-unpacked64-3 : tie.Need-mul-unpacked64-3
+mul-unpacked64-3 c = search needs
+
+slice-write-unpacked64-3 : tie.Need-slice-write-unpacked64-3
+slice-write-unpacked64-3 c = simp length-set (omega arith)
+
+same-length : tie.Need-same-length
+same-length c = search needs
+
+returns : tie.Need-returns
+returns c =
+    let a = c .before .before .args in
+    stored64 (a .refused) (a .unpacked64 .now) (a .j) (a .row) (c .before .if1 .taken) (c .if2 .taken)
+
+returns-2 : tie.Need-returns-2
+returns-2 c =
+    let a = c .before .before .args in
+    row-out (a .refused) 3 (a .unpacked64 .now) (a .j) (words64 (a .row)) (c .before .if1 .taken) (c .if2 .left)
+
+returns-3 : tie.Need-returns-3
+returns-3 c =
+    let a = c .before .args in
+    row-refused (a .refused) 3 (a .unpacked64 .now) (a .j) (words64 (a .row)) (c .if1 .left)
+
+pub put-words64-spec : {M : Type 1} → statement M
+put-words64-spec =
+    tie.close
+    (tie.spec
+    mul-k
+    mul-unpacked64
+    slice-write-unpacked64
+    add-unpacked64
+    mul-unpacked64-2
+    slice-write-unpacked64-2
+    add-unpacked64-2
+    mul-unpacked64-3
+    slice-write-unpacked64-3
+    same-length
+    returns
+    returns-2
+    returns-3)

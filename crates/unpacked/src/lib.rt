@@ -1,0 +1,185 @@
+// Line rows that are one lent list: their texts, the words that they are unpacked to, and the number that a call with them is refused with before a word is unpacked.
+ghost use mathlib.Core.Path.{_≡_};
+ghost use mathlib.Core.Bool.{_&&_};
+ghost use lib.Dec.{leb};
+ghost use Rattle.rows.specs.Refusals.{lineTexts?};
+ghost use Rattle.tables.specs.Table.{capacityOf};
+ghost use Rattle.tables.specs.Strings.{textCapacityOf};
+ghost use Rattle.unpacked.specs.Lines.{flag, words64, words32, linesTexts?, putRow, putRows};
+ghost use Rattle.unpacked.specs.Numbers.{usableBy, numberOf};
+use rows::LineRow;
+use steps::Converter;
+
+// 14: the texts so far are in order, and so are this row's.
+fn and_texts(good: bool, text: &[u8], row: LineRow) -> bool
+    ensures { λ r. ⌜ r ≡ good && lineTexts? (now (text .entry)) row ⌝ }
+{
+    if good {
+        return rows::line_texts(text, row);
+    }
+    false
+}
+
+// 14: the texts of all line rows.
+pub fn lines_texts(lines: &[LineRow], text: &[u8]) -> bool
+    ensures { λ r. ⌜ r ≡ linesTexts? (now (text .entry)) (now (lines .entry)) ⌝ }
+{
+    let mut good = true;
+    let mut j: usize = 0;
+    while j < lines.len() {
+        let row = lines[j];
+        good = and_texts(good, text, row);
+        j += 1;
+    }
+    good
+}
+
+fn flag_word(b: bool) -> u32
+    ensures { λ r. ⌜ r ≡ flag b ⌝ }
+{
+    if b {
+        return 1;
+    }
+    0
+}
+
+// The three 64-bit words of row j, where there is room.
+fn put_words64(refused: u32, unpacked64: &mut [u64], j: usize, row: LineRow)
+    ensures { λ _. ⌜ now (unpacked64 .exit) ≡ putRow refused 3 (now (unpacked64 .entry)) j (words64 row) ⌝ }
+{
+    if refused == 0 {
+        if j < unpacked64.len() / 3 {
+            let k = j * 3;
+            unpacked64[k] = row.address;
+            unpacked64[k + 1] = row.size;
+            unpacked64[k + 2] = row.number;
+        }
+    }
+}
+
+// Its fourteen 32-bit words.
+fn put_words32(refused: u32, unpacked32: &mut [u32], j: usize, row: LineRow)
+    ensures { λ _. ⌜ now (unpacked32 .exit) ≡ putRow refused 14 (now (unpacked32 .entry)) j (words32 row) ⌝ }
+{
+    if refused == 0 {
+        if j < unpacked32.len() / 14 {
+            let has_size = flag_word(row.has_size);
+            let srcsrv_name = flag_word(row.srcsrv_name.present);
+            let srcsrv_dir = flag_word(row.srcsrv_dir.present);
+            let revision = flag_word(row.revision.present);
+            let k = j * 14;
+            unpacked32[k] = has_size;
+            unpacked32[k + 1] = row.name.start;
+            unpacked32[k + 2] = row.name.len;
+            unpacked32[k + 3] = row.directory.start;
+            unpacked32[k + 4] = row.directory.len;
+            unpacked32[k + 5] = srcsrv_name;
+            unpacked32[k + 6] = row.srcsrv_name.part.start;
+            unpacked32[k + 7] = row.srcsrv_name.part.len;
+            unpacked32[k + 8] = srcsrv_dir;
+            unpacked32[k + 9] = row.srcsrv_dir.part.start;
+            unpacked32[k + 10] = row.srcsrv_dir.part.len;
+            unpacked32[k + 11] = revision;
+            unpacked32[k + 12] = row.revision.part.start;
+            unpacked32[k + 13] = row.revision.part.len;
+        }
+    }
+}
+
+// Row j into both columns.
+fn put_line(refused: u32, unpacked64: &mut [u64], unpacked32: &mut [u32], j: usize, row: LineRow)
+    ensures { λ _. ⌜ (now (unpacked64 .exit) ≡ putRow refused 3 (now (unpacked64 .entry)) j (words64 row)) × (now (unpacked32 .exit) ≡ putRow refused 14 (now (unpacked32 .entry)) j (words32 row)) ⌝ }
+{
+    put_words64(refused, unpacked64, j, row);
+    put_words32(refused, unpacked32, j, row);
+}
+
+// All rows into the memory that is lent for them; nothing where the call is refused.
+pub fn unpack(refused: u32, lines: &[LineRow], unpacked64: &mut [u64], unpacked32: &mut [u32])
+    ensures { λ _. ⌜ (now (unpacked64 .exit) ≡ putRows refused 3 words64 (now (lines .entry)) 0 (now (unpacked64 .entry))) × (now (unpacked32 .exit) ≡ putRows refused 14 words32 (now (lines .entry)) 0 (now (unpacked32 .entry))) ⌝ }
+{
+    let mut j: usize = 0;
+    while j < lines.len() {
+        let row = lines[j];
+        put_line(refused, &mut *unpacked64, &mut *unpacked32, j, row);
+        j += 1;
+    }
+}
+
+// Whether a count is at most the number of rows that a table of that many words has room for.
+fn within(count: u32, words: usize) -> bool
+    ensures { λ r. ⌜ r ≡ leb count (capacityOf words) ⌝ }
+{
+    let rows = words / 8;
+    if rows < 16777216 {
+        return count as usize <= rows;
+    }
+    count <= 16777216
+}
+
+// The same of text bytes.
+fn text_within(count: u32, bytes: usize) -> bool
+    ensures { λ r. ⌜ r ≡ leb count (textCapacityOf bytes) ⌝ }
+{
+    if bytes < 268435456 {
+        return count as usize <= bytes;
+    }
+    count <= 268435456
+}
+
+// 19: whether the converter is open and no count is above the capacity of its table; of the tables the lengths are given.
+pub fn is_usable(
+    c: Converter,
+    string_bytes: usize,
+    strings: usize,
+    files: usize,
+    functions: usize,
+    call_locations: usize,
+    ranges: usize,
+) -> bool
+    ensures { λ r. ⌜ r ≡ usableBy c «string_bytes» strings files functions «call_locations» ranges ⌝ }
+{
+    if c.open {
+        if text_within(c.state.string_bytes, string_bytes) {
+            if within(c.state.strings, strings) {
+                if within(c.state.files, files) {
+                    if within(c.state.functions, functions) {
+                        if within(c.state.call_locations, call_locations) {
+                            return within(c.state.ranges, ranges);
+                        }
+                    }
+                }
+            }
+        }
+    }
+    false
+}
+
+// The number that the call is refused with before a word is unpacked: 19, 13, 14, 15 or 16, in that order; 0 where it isn't.
+pub fn refusal(
+    usable: bool,
+    scratch: usize,
+    unpacked64: usize,
+    unpacked32: usize,
+    functions64: &[u64],
+    functions32: &[u32],
+    lines: usize,
+    texts: bool,
+    text: &[u8],
+) -> u32
+    ensures { λ r. ⌜ r ≡ numberOf usable scratch unpacked64 unpacked32 (now (functions64 .entry)) (now (functions32 .entry)) lines texts (now (text .entry)) ⌝ }
+{
+    if usable {
+        let refused = rows::refusal_with(functions64, functions32, lines, texts, text, scratch);
+        if refused == 0 {
+            if lines <= unpacked64 / 3 {
+                if lines <= unpacked32 / 14 {
+                    return 0;
+                }
+            }
+            return 16;
+        }
+        return refused;
+    }
+    19
+}
