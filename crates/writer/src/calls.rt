@@ -12,7 +12,7 @@ ghost use Rattle.rows.specs.Refusals.{optional?};
 ghost use Rattle.steps.specs.Words.{memory, words, over-words};
 ghost use Rattle.writer.specs.Calls.{called, zeros, zeroed, unused, with-state, usable?, finished, beginOf, treeOf, symbolRow, symbolOf, symbol-put, end-put, namedRow};
 ghost use Rattle.writer.specs.Walk.{switches};
-use crate::tree::process_rows;
+use crate::tree::process_tree;
 use steps::Converter;
 use steps::LastAddr;
 use steps::State;
@@ -394,7 +394,7 @@ pub fn process_symbolic_function(
             scratch.len(),
         );
         if refused == 0 {
-            let state = process_rows(
+            let state = process_tree(
                 converter.undecorate_functions,
                 converter.state,
                 string_bytes,
