@@ -13,7 +13,7 @@ use Rattle.symcache.specs.declared.SymCache.{SymCache}
 use Rattle.symcache.specs.Answers.{gives}
 use Rattle.symcache.specs.Reader.{startAt, ascendingFrom, ascending, opened, Within}
 use Rattle.symcache.proofs.ReaderLaws.{opened-has}
-use Rattle.symcache.specs.Lookup.{countIn, quartersIn, searchIn, foundAmong, usable, foundAt}
+use Rattle.symcache.specs.Lookup.{countIn, quartersIn, searchIn, foundAmong, usable, lookupTables, foundAt}
 
 -- cases
 meets : (i j : ℕ) → i ≤ j → (i ≡ j) ⊎ (i < j)
@@ -359,6 +359,11 @@ module _ (s : List ℕ) (c : SymCache) (a : ℕ) where
     pub found-above : a < starts i → max32 ≡ foundAt s c a
     unfolding foundAt foundAmong
     found-above h = rw (u, le-leb a max32 l, ne-eqb (c .«num_ranges») 0 more, ← is, lt-leb (starts i) a h)
+
+-- a search looks at no other part of the cache
+pub found-tables : (s : List ℕ) (c : SymCache) (a : ℕ) {i : ℕ} → i ≡ foundAt s (lookupTables (c .«source_locations») (c .«num_source_locations») (c .ranges) (c .«num_ranges»)) a → i ≡ foundAt s c a
+unfolding foundAt usable
+found-tables s c a e = e
 
 -- what `usable` tests
 pub record Usable (n : ℕ) (c : SymCache) : Type 0 where

@@ -250,7 +250,14 @@ fn unless(i: u32, none: bool) -> u32
 pub fn walk(s: &[u8], cache: SymCache, addr: u64) -> SourceLocations
     ensures { λ r. ⌜ r ≡ walkAt (now (s .entry)) cache addr ⌝ }
 {
-    let i = find(s, cache, addr);
+    let i = find_in(
+        s,
+        cache.source_locations,
+        cache.num_source_locations,
+        cache.ranges,
+        cache.num_ranges,
+        addr,
+    );
     if i == 4294967295 {
         return walk_from(4294967295);
     }

@@ -66,6 +66,10 @@ isText text t r = eqb (r .d) (textHash t) && (eqb (r .c) (length t) && sameWords
 unfoldable pub textAt : List ℕ → List ℕ → List ℕ → ℕ → Bool
 textAt text strings t i = isText text t (rowAt strings i)
 
+-- the newest row in the bucket of t, as a link
+unfoldable pub newestText : List ℕ → List ℕ → ℕ
+newestText strings t = headAt (capacityOf (length strings)) strings (bucketOf (textHash t) (capacityOf (length strings)))
+
 -- the number of the row whose text is t among the first n; n where there is none
 unfoldable pub findText : List ℕ → List ℕ → ℕ → List ℕ → ℕ
 findText text strings n t = walk (linkAt strings) (textAt text strings t) n n (headAt (capacityOf (length strings)) strings (bucketOf (textHash t) (capacityOf (length strings))))

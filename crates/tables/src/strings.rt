@@ -11,7 +11,7 @@ ghost use lib.ListN.{length, getD, take, drop};
 ghost use lib.Seq.{sets};
 ghost use Rattle.text.specs.Leb128.{encoded};
 ghost use Rattle.tables.specs.Table.{linkAt, sameWords, walk};
-ghost use Rattle.tables.specs.Strings.{textCapacityOf, storedText, mixed, fourAt, hashFrom, textHash, textAt, findText, indexOf, fullOf, storeOf, insertTextOf, stringsLeft};
+ghost use Rattle.tables.specs.Strings.{textCapacityOf, storedText, mixed, fourAt, hashFrom, textHash, textAt, newestText, findText, indexOf, fullOf, storeOf, insertTextOf, stringsLeft};
 
 pub struct Stored {
     // Where the prefix of the text begins.
@@ -170,6 +170,15 @@ fn index(strings: &mut [u32], cap: u32, n: u32, row: Row)
     let h = crate::bucket(row.d, cap);
     let link = crate::head_at(strings, cap, h);
     crate::append(strings, cap, n, row, link, h);
+}
+
+// The number + 1 of the newest row in the bucket of t, which may be t's; 0 where there is none.
+pub fn newest(strings: &[u32], t: &[u8]) -> u32
+    ensures { λ r. ⌜ r ≡ newestText (now (strings .entry)) (now (t .entry)) ⌝ }
+{
+    let cap = crate::capacity(strings);
+    let h = crate::bucket(hash(t), cap);
+    crate::head_at(strings, cap, h)
 }
 
 // The number of the row whose text is t among the first n; n where there is none.

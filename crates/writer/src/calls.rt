@@ -7,7 +7,7 @@ ghost use Rattle.rows.specs.Columns.{columns};
 ghost use Rattle.rows.specs.Refusals.{optional?};
 ghost use Rattle.steps.specs.Words.{memory};
 ghost use Rattle.writer.specs.Calls.{called, zeros, zeroed, with-state, usable?, finished, beginOf, treeOf, symbolOf};
-use crate::tree::process_rows;
+use crate::tree::process_tree;
 use steps::Converter;
 use steps::State;
 use steps::fits;
@@ -272,7 +272,7 @@ pub fn process_symbolic_function(
             scratch.len(),
         );
         if refused == 0 {
-            let state = process_rows(
+            let state = process_tree(
                 converter.undecorate_functions,
                 converter.state,
                 string_bytes,

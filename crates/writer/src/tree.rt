@@ -1,4 +1,5 @@
 // A tree call: `process_symbolic_functions`.
+use crate::ahead::read_ahead;
 use crate::lines::process_lines;
 use crate::scratch::calls_at;
 use crate::scratch::gather;
@@ -326,7 +327,7 @@ fn process_row(
 }
 
 // All function rows, in preorder.
-pub(crate) fn process_rows(
+fn process_rows(
     undecorate: bool,
     state: State,
     string_bytes: &mut [u8],
@@ -375,4 +376,51 @@ pub(crate) fn process_rows(
         i += 1;
     }
     now
+}
+
+// A tree: its names are read ahead, then its function rows are processed.
+pub(crate) fn process_tree(
+    undecorate: bool,
+    state: State,
+    string_bytes: &mut [u8],
+    strings: &mut [u32],
+    files: &mut [u32],
+    functions: &mut [u32],
+    call_locations: &mut [u32],
+    ranges: &mut [u32],
+    s: &mut [u32],
+    functions64: &[u64],
+    functions32: &[u32],
+    lines64: &[u64],
+    lines32: &[u32],
+    text: &[u8],
+) -> State
+    requires { ⌜ refusalOf (columns (now functions64) (now functions32) (now lines64) (now lines32) (now text)) (length (now s)) ≡ 0 ⌝ }
+    ensures { λ r. ⌜ ((Y : Bool) → words r (now («string_bytes» .exit)) (now (strings .exit)) (now (files .exit)) (now (functions .exit)) (now («call_locations» .exit)) (now (ranges .exit)) ≡ convertM input (over-words (switches undecorate Y)) (map deep (treeRows (columns (now (functions64 .entry)) (now (functions32 .entry)) (now (lines64 .entry)) (now (lines32 .entry)) (now (text .entry))))) (startM input (over-words (switches undecorate Y))) (words state (now («string_bytes» .entry)) (now (strings .entry)) (now (files .entry)) (now (functions .entry)) (now («call_locations» .entry)) (now (ranges .entry)))) ⌝ }
+{
+    read_ahead(
+        undecorate,
+        string_bytes,
+        strings,
+        s,
+        functions64,
+        functions32,
+        text,
+    );
+    process_rows(
+        undecorate,
+        state,
+        string_bytes,
+        strings,
+        files,
+        functions,
+        call_locations,
+        ranges,
+        s,
+        functions64,
+        functions32,
+        lines64,
+        lines32,
+        text,
+    )
 }

@@ -1,0 +1,65 @@
+-- `links` ends, and scratch keeps its length.
+use Prim.Native.Nat.{_≤_, _-_}
+use mathlib.Core.Path.{_≡_, refl, _∙_}
+use native.Mathlib.Omega.{arith}
+use lib.ListN.{length}
+use borrow.Author.Needs.{needs}
+use Rattle.writer.proofs.ahead.links.Statement.{statement}
+use Rattle.writer.proofs.ahead.links.Tie as tie
+
+abbrev Inv-loop : tie.InvT-loop
+Inv-loop strings s₀ functions64 functions32 text undecorate n i₀ s i = (i ≤ n) × (length s ≡ length s₀)
+
+abbrev μ-loop : tie.MeasureT-loop
+μ-loop strings s₀ functions64 functions32 text undecorate n i₀ s i = n - i
+
+loop-holds : tie.Need-loop-holds Inv-loop μ-loop
+loop-holds c = (omega arith, refl)
+
+function-row-requires : tie.Need-function-row-requires Inv-loop μ-loop
+function-row-requires c κs = search needs
+
+part-requires : tie.Need-part-requires Inv-loop μ-loop
+part-requires c κs = search needs
+
+shown-name-requires : tie.Need-shown-name-requires Inv-loop μ-loop
+shown-name-requires c κs = search needs
+
+newest-requires : tie.Need-newest-requires Inv-loop μ-loop
+newest-requires c κs = search needs
+
+set-word-requires : tie.Need-set-word-requires Inv-loop μ-loop
+set-word-requires c κs = search needs
+
+add-i : tie.Need-add-i Inv-loop μ-loop
+add-i c = omega arith
+
+loop-less : tie.Need-loop-less Inv-loop μ-loop
+loop-less c = omega arith
+
+loop-again : tie.Need-loop-again Inv-loop μ-loop
+loop-again c = (omega arith, c .before .before .set-word .kept .0 ∙ c .before .before .before .before .before .before .before .before .before .loop .inv .1)
+
+same-length : tie.Need-same-length Inv-loop μ-loop
+same-length c = c .before .loop .inv .1
+
+returns : tie.Need-returns Inv-loop μ-loop
+returns c = search needs
+
+pub links-spec : {M : Type 1} → statement M
+links-spec =
+    tie.close
+    (tie.spec
+    Inv-loop
+    μ-loop
+    loop-holds
+    function-row-requires
+    part-requires
+    shown-name-requires
+    newest-requires
+    set-word-requires
+    add-i
+    loop-less
+    loop-again
+    same-length
+    returns)
