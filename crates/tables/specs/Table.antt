@@ -90,6 +90,10 @@ hitAt t w k i = sameRow (keyOf w (rowAt t i)) k
 abbrev pub bucketIn : ℕ → List ℕ → Row → ℕ
 bucketIn w t q = bucketOf (hashOf (keyOf w q)) (capacityOf (length t))
 
+-- the newest row in the bucket of q's key, as a link
+unfoldable pub newestOf : ℕ → List ℕ → Row → ℕ
+newestOf w t q = headAt (capacityOf (length t)) t (bucketIn w t q)
+
 -- the number of the row with q's key among the first n; n where there is none
 unfoldable pub lookupOf : ℕ → List ℕ → ℕ → Row → ℕ
 lookupOf w t n q = walk (linkAt t) (hitAt t w (keyOf w q)) n n (headAt (capacityOf (length t)) t (bucketIn w t q))

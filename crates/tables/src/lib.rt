@@ -7,7 +7,7 @@
 ghost use mathlib.Core.Path.{_≡_};
 ghost use Prim.Native.Nat.{_<_, _≤_};
 ghost use lib.ListN.{length, getD, set};
-ghost use Rattle.tables.specs.Table.{rowAt, setRow, keyOf, sameRow, capacityOf, hashOf, bucketOf, linkAt, headAt, hitAt, walk, appendOf, lookupOf, overOf, insertOf, left};
+ghost use Rattle.tables.specs.Table.{rowAt, setRow, keyOf, sameRow, capacityOf, hashOf, bucketOf, linkAt, headAt, hitAt, walk, appendOf, newestOf, lookupOf, overOf, insertOf, left};
 
 pub mod index_set;
 pub mod ranges;
@@ -239,6 +239,15 @@ fn find(t: &[u32], n: u32, l: u32, k: Row, width: u32) -> u32
         at = link_at(t, i);
     }
     n
+}
+
+// The number + 1 of the newest row in the bucket of the key of `row`, which may have it; 0 where there is none.
+fn newest(t: &[u32], row: Row, width: u32) -> u32
+    ensures { λ r. ⌜ r ≡ newestOf width (now (t .entry)) row ⌝ }
+{
+    let cap = capacity(t);
+    let h = bucket(hash(key(row, width)), cap);
+    head_at(t, cap, h)
 }
 
 // The number of the row with the key of `row` among the first n; n where there is none.

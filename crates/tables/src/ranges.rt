@@ -2,8 +2,8 @@
 use crate::Row;
 use raw::SourceLocation;
 ghost use mathlib.Core.Path.{_≡_};
-ghost use Rattle.tables.specs.Table.{left};
-ghost use Rattle.tables.specs.Ranges.{getOf, putOf, replaceOf, rangeRow};
+ghost use Rattle.tables.specs.Table.{newestOf, left};
+ghost use Rattle.tables.specs.Ranges.{startRow, getOf, putOf, replaceOf, rangeRow};
 
 // What a start holds: words b to e of its row.
 pub enum Found {
@@ -23,6 +23,24 @@ pub struct Change {
     pub index: u32,
     pub count: u32,
     pub was: Was,
+}
+
+// The number + 1 of the newest row in the bucket of a start; 0 where there is none.
+pub fn newest(t: &[u32], start: u32) -> u32
+    ensures { λ r. ⌜ r ≡ newestOf 1 (now (t .entry)) (startRow start) ⌝ }
+{
+    crate::newest(
+        t,
+        Row {
+            a: start,
+            b: 0,
+            c: 0,
+            d: 0,
+            e: 0,
+            f: 0,
+        },
+        1,
+    )
 }
 
 // The location at a start.

@@ -1,7 +1,9 @@
-// Reading ahead: the names of a tree's first functions are looked at in the string table before any is stored. Each step is made for all of them, so that what one has to wait for is
-// fetched from memory while the others are. What is read goes to scratch memory, and nothing of it is used.
+// Reading ahead: before any text of a tree is stored, its first functions are looked at in the tables. Each step is made for all of them, so that what one has to wait for is fetched
+// from memory while the others are. What is read goes to scratch memory, four words a function, and nothing of it is used.
 use crate::scratch::set_word;
 use crate::scratch::word;
+use crate::tree::entry_pc;
+use tables::Row;
 
 // The newest row in the bucket of each name, as a link.
 fn links(
@@ -11,31 +13,46 @@ fn links(
     functions32: &[u32],
     text: &[u8],
     undecorate: bool,
-    n: usize,
+    n: u32,
 ) {
-    let mut i: usize = 0;
+    let mut i: u32 = 0;
     while i < n {
-        let q = rows::function_row(functions64, functions32, i);
+        let k = (i as usize) * 4;
+        let q = rows::function_row(functions64, functions32, i as usize);
         let name = steps::shown_name(rows::part(text, q.name), undecorate);
-        set_word(s, i, tables::strings::newest(strings, name));
+        set_word(s, k, tables::strings::newest(strings, name));
         i += 1;
     }
 }
 
-// Where a link's row says that its text begins.
-fn start(strings: &[u32], link: u32) -> u32 {
-    if link == 0 {
-        return 0;
+// The same for the range that starts at each function's address.
+fn range_links(ranges: &[u32], s: &mut [u32], functions64: &[u64], functions32: &[u32], n: u32) {
+    let mut i: u32 = 0;
+    while i < n {
+        let k = (i as usize) * 4 + 1;
+        let q = rows::function_row(functions64, functions32, i as usize);
+        let address = (q.address % 4294967296) as u32;
+        set_word(s, k, tables::ranges::newest(ranges, address));
+        i += 1;
     }
-    let row = tables::row_at(strings, link - 1);
-    row.b
 }
 
-fn starts(strings: &[u32], s: &mut [u32], n: usize) {
-    let mut i: usize = 0;
+// The row that a link names; row 0 where it names none.
+fn linked(t: &[u32], link: u32) -> Row {
+    if link == 0 {
+        return tables::row_at(t, 0);
+    }
+    tables::row_at(t, link - 1)
+}
+
+// The offset of each name, and where its bytes begin.
+fn offsets(strings: &[u32], s: &mut [u32], n: u32) {
+    let mut i: u32 = 0;
     while i < n {
-        let link = word(s, i);
-        set_word(s, i, start(strings, link));
+        let k = (i as usize) * 4;
+        let row = linked(strings, word(s, k));
+        set_word(s, k, row.a);
+        set_word(s, k + 2, row.b);
         i += 1;
     }
 }
@@ -52,20 +69,57 @@ fn byte(string_bytes: &[u8], at: usize) -> u32 {
     0
 }
 
-// The first byte of each text, and one that lies 60 bytes on.
-fn bytes(string_bytes: &[u8], s: &mut [u32], n: usize) {
-    let mut i: usize = 0;
+// The first byte of each name, and one that lies 60 bytes on.
+fn bytes(string_bytes: &[u8], s: &mut [u32], n: u32) {
+    let mut i: u32 = 0;
     while i < n {
-        let at = word(s, i) as usize;
-        set_word(s, i, byte(string_bytes, at) ^ byte(string_bytes, at + 60));
+        let k = (i as usize) * 4 + 2;
+        let at = word(s, k) as usize;
+        set_word(s, k, byte(string_bytes, at) ^ byte(string_bytes, at + 60));
         i += 1;
     }
 }
 
-// At most eight names are read ahead.
-fn few(n: usize) -> usize {
+// The newest row in the bucket of each function, as a link.
+fn functions_of(
+    functions: &[u32],
+    s: &mut [u32],
+    functions64: &[u64],
+    functions32: &[u32],
+    n: u32,
+) {
+    let mut i: u32 = 0;
+    while i < n {
+        let k = (i as usize) * 4;
+        let q = rows::function_row(functions64, functions32, i as usize);
+        let row = Row {
+            a: word(s, k),
+            b: 4294967295,
+            c: entry_pc(q),
+            d: q.language,
+            e: 0,
+            f: 0,
+        };
+        set_word(s, k, tables::index_set::newest(functions, row));
+        i += 1;
+    }
+}
+
+// A word of each function's row.
+fn function_rows(functions: &[u32], s: &mut [u32], n: u32) {
+    let mut i: u32 = 0;
+    while i < n {
+        let k = (i as usize) * 4;
+        let row = linked(functions, word(s, k));
+        set_word(s, k, row.a);
+        i += 1;
+    }
+}
+
+// At most eight functions are read ahead.
+fn few(n: usize) -> u32 {
     if n < 8 {
-        return n;
+        return n as u32;
     }
     8
 }
@@ -74,6 +128,8 @@ pub(crate) fn read_ahead(
     undecorate: bool,
     string_bytes: &[u8],
     strings: &[u32],
+    functions: &[u32],
+    ranges: &[u32],
     s: &mut [u32],
     functions64: &[u64],
     functions32: &[u32],
@@ -81,6 +137,9 @@ pub(crate) fn read_ahead(
 ) {
     let n = few(functions64.len() / 2);
     links(strings, s, functions64, functions32, text, undecorate, n);
-    starts(strings, s, n);
+    range_links(ranges, s, functions64, functions32, n);
+    offsets(strings, s, n);
     bytes(string_bytes, s, n);
+    functions_of(functions, s, functions64, functions32, n);
+    function_rows(functions, s, n);
 }

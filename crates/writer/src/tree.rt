@@ -49,7 +49,7 @@ fn function_end(q: FunctionRow) -> u32
     (low % 4294967296) as u32
 }
 
-fn entry_pc(q: FunctionRow) -> u32
+pub(crate) fn entry_pc(q: FunctionRow) -> u32
     ensures { λ r. ⌜ r ≡ cond (q .inline) MAX (q .address % 4294967296) ⌝ }
 {
     if q.inline {
@@ -378,7 +378,7 @@ fn process_rows(
     now
 }
 
-// A tree: its names are read ahead, then its function rows are processed.
+// A tree: it is read ahead, then its function rows are processed.
 pub(crate) fn process_tree(
     undecorate: bool,
     state: State,
@@ -402,6 +402,8 @@ pub(crate) fn process_tree(
         undecorate,
         string_bytes,
         strings,
+        functions,
+        ranges,
         s,
         functions64,
         functions32,

@@ -16,6 +16,15 @@ abbrev μ-loop : tie.MeasureT-loop
 loop-holds : tie.Need-loop-holds Inv-loop μ-loop
 loop-holds c = (omega arith, refl)
 
+cast-k : tie.Need-cast-k Inv-loop μ-loop
+cast-k c = search needs
+
+mul-k : tie.Need-mul-k Inv-loop μ-loop
+mul-k c = omega arith
+
+cast-function-row : tie.Need-cast-function-row Inv-loop μ-loop
+cast-function-row c = search needs
+
 function-row-requires : tie.Need-function-row-requires Inv-loop μ-loop
 function-row-requires c κs = search needs
 
@@ -53,6 +62,9 @@ links-spec =
     Inv-loop
     μ-loop
     loop-holds
+    cast-k
+    mul-k
+    cast-function-row
     function-row-requires
     part-requires
     shown-name-requires

@@ -1,0 +1,77 @@
+-- `functions_of` ends, and scratch keeps its length.
+use Prim.Native.Nat.{_≤_, _-_}
+use mathlib.Core.Path.{_≡_, refl, _∙_}
+use native.Mathlib.Omega.{arith}
+use lib.ListN.{length}
+use borrow.Author.Needs.{needs}
+use Rattle.writer.proofs.ahead.functions_of.Statement.{statement}
+use Rattle.writer.proofs.ahead.functions_of.Tie as tie
+
+abbrev Inv-loop : tie.InvT-loop
+Inv-loop functions s₀ functions64 functions32 n i₀ s i = (i ≤ n) × (length s ≡ length s₀)
+
+abbrev μ-loop : tie.MeasureT-loop
+μ-loop functions s₀ functions64 functions32 n i₀ s i = n - i
+
+loop-holds : tie.Need-loop-holds Inv-loop μ-loop
+loop-holds c = (omega arith, refl)
+
+cast-k : tie.Need-cast-k Inv-loop μ-loop
+cast-k c = search needs
+
+mul-k : tie.Need-mul-k Inv-loop μ-loop
+mul-k c = omega arith
+
+cast-function-row : tie.Need-cast-function-row Inv-loop μ-loop
+cast-function-row c = search needs
+
+function-row-requires : tie.Need-function-row-requires Inv-loop μ-loop
+function-row-requires c κs = search needs
+
+word-requires : tie.Need-word-requires Inv-loop μ-loop
+word-requires c κs = search needs
+
+entry-pc-requires : tie.Need-entry-pc-requires Inv-loop μ-loop
+entry-pc-requires c κs = search needs
+
+newest-requires : tie.Need-newest-requires Inv-loop μ-loop
+newest-requires c κs = search needs
+
+set-word-requires : tie.Need-set-word-requires Inv-loop μ-loop
+set-word-requires c κs = search needs
+
+add-i : tie.Need-add-i Inv-loop μ-loop
+add-i c = omega arith
+
+loop-less : tie.Need-loop-less Inv-loop μ-loop
+loop-less c = omega arith
+
+loop-again : tie.Need-loop-again Inv-loop μ-loop
+loop-again c = (omega arith, c .before .before .set-word .kept .0 ∙ c .before .before .before .before .before .before .before .before .before .before .loop .inv .1)
+
+same-length : tie.Need-same-length Inv-loop μ-loop
+same-length c = c .before .loop .inv .1
+
+returns : tie.Need-returns Inv-loop μ-loop
+returns c = search needs
+
+pub functions-of-spec : {M : Type 1} → statement M
+functions-of-spec =
+    tie.close
+    (tie.spec
+    Inv-loop
+    μ-loop
+    loop-holds
+    cast-k
+    mul-k
+    cast-function-row
+    function-row-requires
+    word-requires
+    entry-pc-requires
+    newest-requires
+    set-word-requires
+    add-i
+    loop-less
+    loop-again
+    same-length
+    returns)
