@@ -61,7 +61,7 @@ enum function {
  * Each function: the slices that it may write, those that it only reads, and those that it has no
  * reason to look at, at their end or at their front. Writing takes the texts from their bytes and
  * needs no index of them, nor, of a table other than the ranges, the words that index it, which are
- * its last. The search needs only the words 4 to 7 of the cache.
+ * its last. The search and the walk need only the words 4 to 7 of the cache.
  */
 static const struct {
     const char *name;
@@ -79,7 +79,7 @@ static const struct {
     [PARSE] = {"symcache_parse", BIT(CACHE), BIT(BYTES), {0, 0}},
     [OPEN] = {"symcache_open", BIT(CACHE), BIT(BYTES), {0, 0}},
     [FIND] = {"symcache_find", 0, BIT(BYTES) | BIT(CACHE), {0, BIT(CACHE)}},
-    [WALK] = {"symcache_walk", BIT(CURSOR), BIT(BYTES) | BIT(CACHE), {0, 0}},
+    [WALK] = {"symcache_walk", BIT(CURSOR), BIT(BYTES) | BIT(CACHE), {0, BIT(CACHE)}},
     [LOOKUP] = {"symcache_lookup", BIT(CURSOR), BIT(BYTES), {0, 0}},
     [NEXT] = {"symcache_next", BIT(CURSOR) | BIT(FRAME), BIT(BYTES), {0, 0}},
     [READ_STRING] = {"symcache_read_string", BIT(PART), BIT(BYTES), {0, 0}},
