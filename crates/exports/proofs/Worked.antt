@@ -7,7 +7,7 @@ use Rattle.raw.specs.Bytes.{leAt, bytesAt}
 use Rattle.raw.specs.Rows.{max32, versionInfoAt, headerAt, fileAt, functionAt, locationAt, isNoSourceLocation, rangeAt}
 use Rattle.symcache.specs.Answers.{refuseIf, andThen}
 use Rattle.symcache.specs.Reader.{aligned, layoutOf, tested, parsed, ascendingFrom, ascending, opened}
-use Rattle.symcache.specs.Lookup.{countIn, searchIn, foundAmong, usable, foundAt, locationIn, functionIn, fileIn, walkAt, lookedUp, met, frameIn, ended, stepIn, stepped}
+use Rattle.symcache.specs.Lookup.{countIn, searchIn, foundAmong, usable, foundIn, locationIn, functionIn, fileIn, walkAt, lookedUp, met, frameIn, ended, stepIn, stepped}
 use Rattle.symcache.proofs.Worked.{worked}
 use Rattle.steps.specs.Words.{memory}
 use Rattle.writer.specs.Calls.{beginOf}
@@ -30,7 +30,7 @@ unfolding worked parseCall cached refused parsed refuseIf tested layoutOf aligne
 worked-cut = refl
 
 pub worked-looked-up : lookupCall worked 0x1003 (7 ∷ 7 ∷ 7 ∷ []) ≡ filled 0 (2 ∷ 2 ∷ 0 ∷ [])
-unfolding worked lookupCall answered lookedUp opened parsed refuseIf andThen tested layoutOf aligned ascending ascendingFrom versionInfoAt headerAt rangeAt leAt bytesAt walkAt foundAt foundAmong usable searchIn countIn locationIn locationAt isNoSourceLocation
+unfolding worked lookupCall answered lookedUp opened parsed refuseIf andThen tested layoutOf aligned ascending ascendingFrom versionInfoAt headerAt rangeAt leAt bytesAt walkAt foundIn foundAmong usable searchIn countIn locationIn locationAt isNoSourceLocation
 worked-looked-up = refl
 
 -- the inlinee pos: a file; location 2, function 1, line 50, file 1, no entry, language 2; its six texts

@@ -382,5 +382,5 @@ module _ (id : List ℕ) (a : ℕ) (z : Sections) (ok : Readable id a z) (rest d
           (omega arith)
 
       go : (t : Bool) → ltb MAX x ≡ t → Found F d x (map (with-stand-in d) (elim t [ true ↦ [] | false ↦ elim (count-words (z .starts) x) [ zero ↦ [] | suc i ↦ from-words z (length (z .locations) - length (z .starts) + i) ] ]))
-      go true e = nothing x (walk-nowhere F c x (foundAt F c x) refl (sym (found-far F c x (ltb-true MAX x e))))
+      go true e = nothing x (walk-nowhere F c x (foundAt F c x) refl (sym (found-far F (c .«source_locations») (c .«num_source_locations») (c .ranges) (c .«num_ranges») x (ltb-true MAX x e))))
       go false e = low (ltb-false MAX x e) (count-words (z .starts) x) (counted 0 (z .starts) x (ok .ascending))

@@ -13,7 +13,7 @@ use Rattle.symcache.specs.declared.SymCache.{SymCache}
 use Rattle.symcache.specs.Answers.{gives}
 use Rattle.symcache.specs.Reader.{startAt, ascendingFrom, ascending, opened, Within}
 use Rattle.symcache.proofs.ReaderLaws.{opened-has}
-use Rattle.symcache.specs.Lookup.{countIn, quartersIn, searchIn, foundAmong, usable, lookupTables, foundAt}
+use Rattle.symcache.specs.Lookup.{countIn, halfIn, quartersIn, searchIn, foundAmong, usable, foundIn, foundAt}
 
 -- cases
 meets : (i j : ℕ) → i ≤ j → (i ≡ j) ⊎ (i < j)
@@ -61,7 +61,7 @@ up-to-three P x y z w (suc (suc (suc (suc c)))) h = absurd (omega arith)
 pub times-three : (q c : ℕ) → c ≤ 3 → q * c ≤ 3 * q
 times-three q c h = up-to-three (λ d. q * d ≤ 3 * q) (omega arith) (omega arith) (omega arith) (omega arith) c h
 
--- ── The quarterings ──
+-- ── The turns ──
 
 module _ (f : ℕ → ℕ) (a : ℕ) where
   -- the last few are counted
@@ -77,34 +77,41 @@ module _ (f : ℕ → ℕ) (a : ℕ) where
   unfolding searchIn
   search-stops b n = refl
 
-  -- where one quartering leads
+  -- where one quartering leads, and one halving
   abbrev next : ℕ → ℕ → ℕ
   next b n = b + n / 4 * quartersIn f a b (n / 4)
 
-  pub search-quarter : (k b n : ℕ) → 8 < n → searchIn f a (suc k) b n ≡ searchIn f a k (next b n) (n - 3 * (n / 4))
+  abbrev half : ℕ → ℕ → ℕ
+  half b n = b + halfIn f a b (n / 2)
+
+  pub search-quarter : (k b n : ℕ) → 8 < n → n ≤ 1024 → searchIn f a (suc k) b n ≡ searchIn f a k (next b n) (n - 3 * (n / 4))
   unfolding searchIn
-  search-quarter k b n h = rw (lt-leb n 8 h)
+  search-quarter k b n h l = rw (lt-leb n 8 h, le-leb n 1024 l)
 
-  few-or-more : (n : ℕ) → (n ≤ 8) ⊎ (8 < n)
-  few-or-more n = go (leb n 8) refl
-    where
-      go : (t : Bool) → leb n 8 ≡ t → (n ≤ 8) ⊎ (8 < n)
-      go true e = inl (leb-true n 8 e)
-      go false e = inr (leb-false n 8 e)
+  pub search-half : (k b n : ℕ) → 1024 < n → searchIn f a (suc k) b n ≡ searchIn f a k (half b n) (n - n / 2)
+  unfolding searchIn
+  search-half k b n h = rw (lt-leb n 8 (omega arith), lt-leb n 1024 h)
 
-  -- as many quarterings as there are starts are enough
+  -- as many turns as there are starts are enough
   pub search-enough : (k m b n : ℕ) → n ≤ k → n ≤ m → searchIn f a k b n ≡ searchIn f a m b n
   search-enough zero m b n h g = search-done zero b n (omega arith) ∙ sym (search-done m b n (omega arith))
   search-enough (suc k) zero b n h g = search-done (suc k) b n (omega arith) ∙ sym (search-done zero b n (omega arith))
   search-enough (suc k) (suc m) b n h g =
-      ⊎-elim (λ l. search-done (suc k) b n l ∙ sym (search-done (suc m) b n l))
-      (λ l. search-quarter k b n l ∙ (search-enough k m (next b n) (n - 3 * (n / 4)) (omega arith) (omega arith) ∙ sym (search-quarter m b n l)))
-      (few-or-more n)
+      ⊎-elim
+      (λ l. ⊎-elim (λ w. search-half k b n w ∙ (search-enough k m (half b n) (n - n / 2) (omega arith) (omega arith) ∙ sym (search-half m b n w)))
+      (λ w. search-quarter k b n l w ∙ (search-enough k m (next b n) (n - 3 * (n / 4)) (omega arith) (omega arith) ∙ sym (search-quarter m b n l w)))
+      (below-or-past 1024 n))
+      (λ l. search-done (suc k) b n l ∙ sym (search-done (suc m) b n l))
+      (below-or-past 8 n)
 
-  -- one turn of the loop
-  pub turn : (b n : ℕ) → 8 < n → searchIn f a (n - 3 * (n / 4)) (next b n) (n - 3 * (n / 4)) ≡ searchIn f a n b n
-  turn b zero h = absurd (omega arith)
-  turn b (suc n) h = sym (search-quarter n b (suc n) h ∙ search-enough n (suc n - 3 * (suc n / 4)) (next b (suc n)) (suc n - 3 * (suc n / 4)) (omega arith) (omega arith))
+  -- one turn of either loop
+  pub turn : (b n : ℕ) → 8 < n → n ≤ 1024 → searchIn f a (n - 3 * (n / 4)) (next b n) (n - 3 * (n / 4)) ≡ searchIn f a n b n
+  turn b zero h l = absurd (omega arith)
+  turn b (suc n) h l = sym (search-quarter n b (suc n) h l ∙ search-enough n (suc n - 3 * (suc n / 4)) (next b (suc n)) (suc n - 3 * (suc n / 4)) (omega arith) (omega arith))
+
+  pub half-turn : (b n : ℕ) → 1024 < n → searchIn f a (n - n / 2) (half b n) (n - n / 2) ≡ searchIn f a n b n
+  half-turn b zero h = absurd (omega arith)
+  half-turn b (suc n) h = sym (search-half n b (suc n) h ∙ search-enough n (suc n - suc n / 2) (half b (suc n)) (suc n - suc n / 2) (omega arith) (omega arith))
 
   -- the count: its beginning, one turn, its end
   pub count-begins : (b n b′ n′ : ℕ) → b′ ≡ b → n′ ≡ n → 0 + countIn f a b′ n′ ≡ countIn f a b n
@@ -159,6 +166,18 @@ module _ (f : ℕ → ℕ) (a : ℕ) where
     to-3 : f (b + n / 4) ≤ a → f (b + 2 * (n / 4)) ≤ a → f (b + 3 * (n / 4)) ≤ a → next b n ≡ b + 3 * (n / 4)
     unfolding quartersIn
     to-3 x y z = rw (low-one (b + n / 4) x, low-one (b + 2 * (n / 4)) y, low-one (b + 3 * (n / 4)) z) (omega arith)
+
+  half-up : (b n : ℕ) → f (b + n / 2) ≤ a → half b n ≡ b + n / 2
+  unfolding halfIn
+  half-up b n t = rw (low-one (b + n / 2) t) (omega arith)
+
+  half-stays : (b n : ℕ) → a < f (b + n / 2) → half b n ≡ b
+  unfolding halfIn
+  half-stays b n t = rw (low-zero (b + n / 2) t) (omega arith)
+
+  pub half-most : (b h : ℕ) → halfIn f a b h ≤ h
+  unfolding halfIn
+  half-most b h = ⊎-elim (λ t. rw (low-one (b + h) t) (omega arith)) (λ t. rw (low-zero (b + h) t) (omega arith)) (at-most-or-above (b + h))
 
   -- ── Where it ends ──
 
@@ -232,8 +251,13 @@ module _ (f : ℕ → ℕ) (a : ℕ) where
     ends : (k b n : ℕ) → n ≤ k → 0 < n → b + n ≤ m → (f b ≤ a) ⊎ (b ≡ 0) → ((j : ℕ) → b + n ≤ j → j < m → a < f j) → Ended m (searchIn f a k b n)
     ends zero b n h p l low above = absurd (omega arith)
     ends (suc k) b n h p l low above =
-        ⊎-elim (λ z. rw (search-done (suc k) b n z) (few-ends b n p l low above))
-        (λ z. rw (search-quarter k b n z)
+        ⊎-elim
+        (λ z. let more : 8 < n = z in ⊎-elim
+        (λ w. rw (search-half k b n w)
+        (⊎-elim (λ t. rw (half-up b n t) (ends k (b + n / 2) (n - n / 2) (omega arith) (omega arith) (omega arith) (inl t) (λ j x y. above j (omega arith) y)))
+        (λ t. rw (half-stays b n t) (ends k b (n - n / 2) (omega arith) (omega arith) (omega arith) low (λ j x y. later (b + n / 2) j t (omega arith) y)))
+        (at-most-or-above (b + n / 2))))
+        (λ w. rw (search-quarter k b n z w)
         (⊎-elim
         (λ t. rw (to-3 b n (earlier (b + n / 4) (b + 3 * (n / 4)) t (omega arith) (omega arith)) (earlier (b + 2 * (n / 4)) (b + 3 * (n / 4)) t (omega arith) (omega arith)) t) (ends k (b + 3 * (n / 4)) (n - 3 * (n / 4)) (omega arith) (omega arith) (omega arith) (inl t) (λ j x y. above j (omega arith) y)))
         (λ t3. ⊎-elim
@@ -244,7 +268,9 @@ module _ (f : ℕ → ℕ) (a : ℕ) where
         (at-most-or-above (b + n / 4)))
         (at-most-or-above (b + 2 * (n / 4))))
         (at-most-or-above (b + 3 * (n / 4)))))
-        (few-or-more n)
+        (below-or-past 1024 n))
+        (λ z. rw (search-done (suc k) b n z) (few-ends b n p l low above))
+        (below-or-past 8 n)
 
     pub search-ends : 0 < m → Ended m (searchIn f a m 0 m)
     search-ends p = ends m 0 m (omega arith) p (omega arith) (inr refl) (λ j x y. absurd (omega arith))
@@ -316,122 +342,122 @@ few-inside f a b n p = omega (arith, count-most f a (n - 1) (b + 1))
 pub search-inside : (f : ℕ → ℕ) (a k b n : ℕ) → 0 < n → searchIn f a k b n < b + n
 search-inside f a zero b n p = rw (search-stops f a b n) (few-inside f a b n p)
 search-inside f a (suc k) b n p =
-    ⊎-elim (λ z. rw (search-done f a (suc k) b n z) (few-inside f a b n p))
-    (λ z. rw (search-quarter f a k b n z)
+    ⊎-elim
+    (λ z. let more : 8 < n = z in ⊎-elim
+    (λ w. rw (search-half f a k b n w) (omega (arith, search-inside f a k (b + halfIn f a b (n / 2)) (n - n / 2) (omega arith), half-most f a b (n / 2))))
+    (λ w. rw (search-quarter f a k b n z w)
     (omega (arith, search-inside f a k (b + n / 4 * quartersIn f a b (n / 4)) (n - 3 * (n / 4)) (omega arith), times-three (n / 4) (quartersIn f a b (n / 4)) (quarters-most f a b (n / 4)))))
-    (few-or-more f a n)
+    (below-or-past 1024 n))
+    (λ z. rw (search-done f a (suc k) b n z) (few-inside f a b n p))
+    (below-or-past 8 n)
 
 none-among : (f : ℕ → ℕ) (m n a : ℕ) → n ≡ 0 → foundAmong f m n a ≡ max32
 unfolding foundAmong
 none-among f m n a e = rw (eq-eqb n 0 e)
 
-module _ (s : List ℕ) (c : SymCache) (a : ℕ) where
-  abbrev starts : ℕ → ℕ
-  starts = startAt s (c .ranges)
+module _ (s : List ℕ) (locations m ranges n a : ℕ) where
+  abbrev found : ℕ
+  found = foundIn s locations m ranges n a
+
+  abbrev fits : Bool
+  fits = usable (length s) locations m ranges n
 
   -- an address above MAX
-  pub found-far : max32 < a → max32 ≡ foundAt s c a
-  unfolding foundAt
-  found-far h = rw (lt-leb a max32 h) (go (usable (length s) c))
+  pub found-far : max32 < a → max32 ≡ found
+  unfolding foundIn
+  found-far h = rw (lt-leb a max32 h) (go fits)
     where
-      go : (u : Bool) → max32 ≡ cond (u && false) (foundAmong starts (c .«num_source_locations») (c .«num_ranges») a) max32
+      go : (u : Bool) → max32 ≡ cond (u && false) (foundAmong (startAt s ranges) m n a) max32
       go true = refl
       go false = refl
 
   -- no ranges
-  pub found-empty : c .«num_ranges» ≡ 0 → max32 ≡ foundAt s c a
-  unfolding foundAt
-  found-empty e = rw (none-among starts (c .«num_source_locations») (c .«num_ranges») a e) (go (usable (length s) c && leb a max32))
+  pub found-empty : n ≡ 0 → max32 ≡ found
+  unfolding foundIn
+  found-empty e = rw (none-among (startAt s ranges) m n a e) (go (fits && leb a max32))
     where
       go : (u : Bool) → max32 ≡ cond u max32 max32
       go true = refl
       go false = refl
 
-  pub found-unusable : usable (length s) c ≡ false → max32 ≡ foundAt s c a
-  unfolding foundAt
+  pub found-unusable : fits ≡ false → max32 ≡ found
+  unfolding foundIn
   found-unusable e = rw e
 
-  module _ (u : usable (length s) c ≡ true) (l : a ≤ max32) (more : c .«num_ranges» ≡ 0 → ⊥) (i : ℕ) (is : i ≡ searchIn starts a (c .«num_ranges») 0 (c .«num_ranges»)) where
-    pub found-here : starts i ≤ a → (c .«num_source_locations» - c .«num_ranges») + i ≡ foundAt s c a
-    unfolding foundAt foundAmong
-    found-here h = rw (u, le-leb a max32 l, ne-eqb (c .«num_ranges») 0 more, ← is, le-leb (starts i) a h)
+  module _ (u : fits ≡ true) (l : a ≤ max32) (more : n ≡ 0 → ⊥) (i : ℕ) (is : i ≡ searchIn (startAt s ranges) a n 0 n) where
+    pub found-here : startAt s ranges i ≤ a → (m - n) + i ≡ found
+    unfolding foundIn foundAmong
+    found-here h = rw (u, le-leb a max32 l, ne-eqb n 0 more, ← is, le-leb (startAt s ranges i) a h)
 
-    pub found-above : a < starts i → max32 ≡ foundAt s c a
-    unfolding foundAt foundAmong
-    found-above h = rw (u, le-leb a max32 l, ne-eqb (c .«num_ranges») 0 more, ← is, lt-leb (starts i) a h)
-
--- a search looks at no other part of the cache
-pub found-tables : (s : List ℕ) (c : SymCache) (a : ℕ) {i : ℕ} → i ≡ foundAt s (lookupTables (c .«source_locations») (c .«num_source_locations») (c .ranges) (c .«num_ranges»)) a → i ≡ foundAt s c a
-unfolding foundAt usable
-found-tables s c a e = e
+    pub found-above : a < startAt s ranges i → max32 ≡ found
+    unfolding foundIn foundAmong
+    found-above h = rw (u, le-leb a max32 l, ne-eqb n 0 more, ← is, lt-leb (startAt s ranges i) a h)
 
 -- what `usable` tests
-pub record Usable (n : ℕ) (c : SymCache) : Type 0 where
-  pub fewer : c .«num_ranges» ≤ c .«num_source_locations»
-  pub ranges : c .ranges + 4 * c .«num_ranges» ≤ n
-  pub locations : c .«source_locations» + 16 * c .«num_source_locations» ≤ n
+pub record Usable (bytes locations m ranges n : ℕ) : Type 0 where
+  pub fewer : n ≤ m
+  pub starts : ranges + 4 * n ≤ bytes
+  pub rows : locations + 16 * m ≤ bytes
 
-pub usable-has : (n : ℕ) (c : SymCache) → usable n c ≡ true → Usable n c
+pub usable-has : (bytes locations m ranges n : ℕ) → usable bytes locations m ranges n ≡ true → Usable bytes locations m ranges n
 unfolding usable
-usable-has n c e =
-    let (x, y) = both (leb (c .«num_ranges») (c .«num_source_locations»)) (leb (c .ranges + 4 * c .«num_ranges») n && leb (c .«source_locations» + 16 * c .«num_source_locations») n) e in
-    let (z, w) = both (leb (c .ranges + 4 * c .«num_ranges») n) (leb (c .«source_locations» + 16 * c .«num_source_locations») n) y in
-    record {
-      fewer = leb-true (c .«num_ranges») (c .«num_source_locations») x;
-      ranges = leb-true (c .ranges + 4 * c .«num_ranges») n z;
-      locations = leb-true (c .«source_locations» + 16 * c .«num_source_locations») n w;
-    }
-
--- so it is, for what the reader gave
-pub usable-within : (n : ℕ) (c : SymCache) → Within n c → usable n c ≡ true
-unfolding usable
-usable-within n c w =
-    rw (
-      le-leb (c .«num_ranges») (c .«num_source_locations») (w .fewer),
-      le-leb (c .ranges + 4 * c .«num_ranges») n (w .ranges),
-      le-leb (c .«source_locations» + 16 * c .«num_source_locations») n (w .locations),
-    )
+usable-has bytes locations m ranges n e =
+    let (x, y) = both (leb n m) (leb (ranges + 4 * n) bytes && leb (locations + 16 * m) bytes) e in
+    let (z, w) = both (leb (ranges + 4 * n) bytes) (leb (locations + 16 * m) bytes) y in
+    record { fewer = leb-true n m x; starts = leb-true (ranges + 4 * n) bytes z; rows = leb-true (locations + 16 * m) bytes w }
 
 -- what is found is a location of the table
-module _ (s : List ℕ) (c : SymCache) (a : ℕ) where
+module _ (s : List ℕ) (locations m ranges n a : ℕ) where
   abbrev ended : ℕ
-  ended = searchIn (startAt s (c .ranges)) a (c .«num_ranges») 0 (c .«num_ranges»)
+  ended = searchIn (startAt s ranges) a n 0 n
 
   abbrev InTable : ℕ → Type 0
-  InTable i = (i ≡ max32 → ⊥) → (i < c .«num_source_locations») × (c .«source_locations» + 16 * c .«num_source_locations» ≤ length s)
+  InTable i = (i ≡ max32 → ⊥) → (i < m) × (locations + 16 * m ≤ length s)
 
-  among : (v w : Bool) → Usable (length s) c → eqb (c .«num_ranges») 0 ≡ v
-      → InTable (cond v max32 (cond w ((c .«num_source_locations» - c .«num_ranges») + ended) max32))
+  among : (v w : Bool) → Usable (length s) locations m ranges n → eqb n 0 ≡ v → InTable (cond v max32 (cond w ((m - n) + ended) max32))
   among true w p e g = absurd (g refl)
   among false true p e g =
-      let m : 0 < c .«num_ranges» = more (c .«num_ranges») (eqb-false (c .«num_ranges») 0 e) in
-      let r = search-inside (startAt s (c .ranges)) a (c .«num_ranges») 0 (c .«num_ranges») m in
-      (omega (arith, p .fewer), p .locations)
+      let h : 0 < n = more n (eqb-false n 0 e) in
+      let r = search-inside (startAt s ranges) a n 0 n h in
+      (omega (arith, p .fewer), p .rows)
   among false false p e g = absurd (g refl)
 
-  within-table : (t u : Bool) → usable (length s) c ≡ t → InTable (cond (t && u) (foundAmong (startAt s (c .ranges)) (c .«num_source_locations») (c .«num_ranges») a) max32)
+  within-table : (t u : Bool) → usable (length s) locations m ranges n ≡ t → InTable (cond (t && u) (foundAmong (startAt s ranges) m n a) max32)
   unfolding foundAmong
-  within-table true true e = among (eqb (c .«num_ranges») 0) (leb (startAt s (c .ranges) ended) a) (usable-has (length s) c e) refl
+  within-table true true e = among (eqb n 0) (leb (startAt s ranges ended) a) (usable-has (length s) locations m ranges n e) refl
   within-table true false e = λ g. absurd (g refl)
   within-table false u e = λ g. absurd (g refl)
 
-  pub found-inside : (foundAt s c a ≡ max32 → ⊥) → (foundAt s c a < c .«num_source_locations») × (c .«source_locations» + 16 * c .«num_source_locations» ≤ length s)
-  unfolding foundAt
-  found-inside = within-table (usable (length s) c) (leb a max32) refl
+  in-table : InTable (foundIn s locations m ranges n a)
+  unfolding foundIn
+  in-table = within-table (usable (length s) locations m ranges n) (leb a max32) refl
+
+pub found-inside : (s : List ℕ) (c : SymCache) (a : ℕ) → (foundAt s c a ≡ max32 → ⊥) → (foundAt s c a < c .«num_source_locations») × (c .«source_locations» + 16 * c .«num_source_locations» ≤ length s)
+found-inside s c a = in-table s (c .«source_locations») (c .«num_source_locations») (c .ranges) (c .«num_ranges») a
 
 -- ── What `find` gives on an opened file ──
+
+-- the tables of a file that was opened are usable
+within-usable : (bytes : ℕ) (c : SymCache) → Within bytes c → usable bytes (c .«source_locations») (c .«num_source_locations») (c .ranges) (c .«num_ranges») ≡ true
+unfolding usable
+within-usable bytes c w =
+    rw (
+      le-leb (c .«num_ranges») (c .«num_source_locations») (w .fewer),
+      le-leb (c .ranges + 4 * c .«num_ranges») bytes (w .ranges),
+      le-leb (c .«source_locations» + 16 * c .«num_source_locations») bytes (w .locations),
+    )
 
 module _ (s : List ℕ) (c : SymCache) (accepted : opened s ≡ gives c) (a : ℕ) (short : a ≤ max32) where
   -- THE LOCATION OF THE GREATEST START AT MOST THE ADDRESS
   pub find-greatest : (i : ℕ) → i < c .«num_ranges» → startAt s (c .ranges) i ≤ a → ((j : ℕ) → i < j → j < c .«num_ranges» → a < startAt s (c .ranges) j)
       → foundAt s c a ≡ (c .«num_source_locations» - c .«num_ranges») + i
-  unfolding foundAt
+  unfolding foundIn
   find-greatest i h l g =
       let (w, e) = opened-has s c accepted in
-      rw (usable-within (length s) c w, le-leb a max32 short) (found-greatest (startAt s (c .ranges)) (c .«num_source_locations») (c .«num_ranges») a i e h l g)
+      rw (within-usable (length s) c w, le-leb a max32 short) (found-greatest (startAt s (c .ranges)) (c .«num_source_locations») (c .«num_ranges») a i e h l g)
 
   pub find-none : ((j : ℕ) → j < c .«num_ranges» → a < startAt s (c .ranges) j) → foundAt s c a ≡ max32
-  unfolding foundAt
+  unfolding foundIn
   find-none g =
       let (w, e) = opened-has s c accepted in
-      rw (usable-within (length s) c w, le-leb a max32 short) (found-none (startAt s (c .ranges)) (c .«num_source_locations») (c .«num_ranges») a e g)
+      rw (within-usable (length s) c w, le-leb a max32 short) (found-none (startAt s (c .ranges)) (c .«num_source_locations») (c .«num_ranges») a e g)

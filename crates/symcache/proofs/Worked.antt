@@ -10,7 +10,7 @@ use Rattle.symcache.specs.declared.SymCache.{SymCache}
 use Rattle.symcache.specs.declared.lookup.Frame.{Frame}
 use Rattle.symcache.specs.Answers.{gives, refuses, refuseIf, andThen}
 use Rattle.symcache.specs.Reader.{aligned, layoutOf, tested, parsed, ascendingFrom, ascending, opened}
-use Rattle.symcache.specs.Lookup.{countIn, searchIn, foundAmong, usable, foundAt, locationIn, functionIn, fileIn, walkAt, met, frameIn, ended, stepIn, framesIn}
+use Rattle.symcache.specs.Lookup.{countIn, searchIn, foundAmong, usable, foundIn, locationIn, functionIn, fileIn, walkAt, met, frameIn, ended, stepIn, framesIn}
 
 -- the 305 bytes
 unfoldable pub worked : List ℕ
@@ -90,21 +90,21 @@ frames a = map listed (framesIn worked tables 6 (walkAt worked tables a))
 
 -- M1: two frames
 pub m1 : frames 0x1003 ≡ record { location = 2; function = 1; line = 0x32; file = 1 } ∷ record { location = 0; function = 0; line = 0xA; file = 0 } ∷ []
-unfolding worked walkAt foundAt foundAmong usable searchIn countIn framesIn stepIn ended met frameIn locationIn functionIn fileIn fileAt functionAt locationAt isNoSourceLocation rangeAt leAt
+unfolding worked walkAt foundIn foundAmong usable searchIn countIn framesIn stepIn ended met frameIn locationIn functionIn fileIn fileAt functionAt locationAt isNoSourceLocation rangeAt leAt
 m1 = refl
 
 -- M2: none
 pub m2 : frames 0x1010 ≡ []
-unfolding worked walkAt foundAt foundAmong usable searchIn countIn framesIn stepIn ended met frameIn locationIn functionIn fileIn fileAt functionAt locationAt isNoSourceLocation rangeAt leAt
+unfolding worked walkAt foundIn foundAmong usable searchIn countIn framesIn stepIn ended met frameIn locationIn functionIn fileIn fileAt functionAt locationAt isNoSourceLocation rangeAt leAt
 m2 = refl
 
 -- M3: none
 pub m3 : frames 0x0FFF ≡ []
-unfolding worked walkAt foundAt foundAmong usable searchIn countIn framesIn stepIn ended met frameIn locationIn functionIn fileIn fileAt functionAt locationAt isNoSourceLocation rangeAt leAt
+unfolding worked walkAt foundIn foundAmong usable searchIn countIn framesIn stepIn ended met frameIn locationIn functionIn fileIn fileAt functionAt locationAt isNoSourceLocation rangeAt leAt
 m3 = refl
 
 pub past-the-end : frames (2 ^ 32) ≡ []
-unfolding worked walkAt foundAt foundAmong usable searchIn countIn framesIn stepIn ended met frameIn locationIn functionIn fileIn fileAt functionAt locationAt isNoSourceLocation rangeAt leAt
+unfolding worked walkAt foundIn foundAmong usable searchIn countIn framesIn stepIn ended met frameIn locationIn functionIn fileIn fileAt functionAt locationAt isNoSourceLocation rangeAt leAt
 past-the-end = refl
 
 -- the empty mapping met later in a chain is a frame: the worked file with its last location as the caller of location 2
@@ -113,7 +113,7 @@ into-the-end = set worked 204 5
 
 pub met-later : map listed (framesIn into-the-end tables 6 (walkAt into-the-end tables 0x1003))
     ≡ record { location = 2; function = 1; line = 0x32; file = 1 } ∷ record { location = 5; function = max32; line = max32; file = max32 } ∷ []
-unfolding worked walkAt foundAt foundAmong usable searchIn countIn framesIn stepIn ended met frameIn locationIn functionIn fileIn fileAt functionAt locationAt isNoSourceLocation rangeAt leAt
+unfolding worked walkAt foundIn foundAmong usable searchIn countIn framesIn stepIn ended met frameIn locationIn functionIn fileIn fileAt functionAt locationAt isNoSourceLocation rangeAt leAt
 met-later = refl
 
 -- a chain that comes back ends where it meets itself: location 0 as its own caller
@@ -122,5 +122,5 @@ round = sets worked 172 (0 ∷ 0 ∷ 0 ∷ 0 ∷ [])
 
 pub met-again : map listed (framesIn round tables 6 (walkAt round tables 0x1003))
     ≡ record { location = 2; function = 1; line = 0x32; file = 1 } ∷ record { location = 0; function = 0; line = 0xA; file = 0 } ∷ []
-unfolding worked walkAt foundAt foundAmong usable searchIn countIn framesIn stepIn ended met frameIn locationIn functionIn fileIn fileAt functionAt locationAt isNoSourceLocation rangeAt leAt
+unfolding worked walkAt foundIn foundAmong usable searchIn countIn framesIn stepIn ended met frameIn locationIn functionIn fileIn fileAt functionAt locationAt isNoSourceLocation rangeAt leAt
 met-again = refl

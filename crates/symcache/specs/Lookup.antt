@@ -26,15 +26,20 @@ unfoldable pub countIn : (ℕ → ℕ) → ℕ → ℕ → ℕ → ℕ
 countIn f a i zero = 0
 countIn f a i (suc n) = cond (leb (f i) a) 1 0 + countIn f a (suc i) n
 
+-- how many starts to pass over: `h` where the start that many after index `b` is at most the address, else none
+unfoldable pub halfIn : (ℕ → ℕ) → ℕ → ℕ → ℕ → ℕ
+halfIn f a b h = h * cond (leb (f (b + h)) a) 1 0
+
 -- how many of the three starts between the quarters, of `q` starts each, from index `b` on are at most the address
 unfoldable pub quartersIn : (ℕ → ℕ) → ℕ → ℕ → ℕ → ℕ
 quartersIn f a b q = cond (leb (f (b + q)) a) 1 0 + cond (leb (f (b + 2 * q)) a) 1 0 + cond (leb (f (b + 3 * q)) a) 1 0
 
--- a search for `a` among `n` starts from index `b` on: quartered as long as more than 8 are left, which are counted; `k` bounds the number of turns
+-- a search for `a` among `n` starts from index `b` on: halved as long as more than 1,024 are left, quartered as long as more than 8 are, which are counted; `k` bounds the number of turns
 unfoldable pub searchIn : (ℕ → ℕ) → ℕ → ℕ → ℕ → ℕ → ℕ
 searchIn f a zero b n = b + countIn f a (b + 1) (n - 1)
 searchIn f a (suc k) b n =
-    cond (leb n 8) (b + countIn f a (b + 1) (n - 1)) (searchIn f a k (b + n / 4 * quartersIn f a b (n / 4)) (n - 3 * (n / 4)))
+    cond (leb n 8) (b + countIn f a (b + 1) (n - 1))
+    (cond (leb n 1024) (searchIn f a k (b + n / 4 * quartersIn f a b (n / 4)) (n - 3 * (n / 4))) (searchIn f a k (b + halfIn f a b (n / 2)) (n - n / 2)))
 
 -- the location of the start that the search ends at, among `n` starts that belong to the last `n` of `m` locations; MAX where that start lies above the address
 unfoldable pub foundAmong : (ℕ → ℕ) → ℕ → ℕ → ℕ → ℕ
@@ -42,33 +47,18 @@ foundAmong f m n a =
     cond (eqb n 0) max32
     (cond (leb (f (searchIn f a n 0 n)) a) ((m - n) + searchIn f a n 0 n) max32)
 
--- whether the ranges and the locations that an opened file was said to have lie in `n` bytes
-unfoldable pub usable : ℕ → SymCache → Bool
-usable n c =
-    leb (c .«num_ranges») (c .«num_source_locations»)
-    && (leb (c .ranges + 4 * c .«num_ranges») n && leb (c .«source_locations» + 16 * c .«num_source_locations») n)
-
--- of where the tables of a file lie, what a search needs
-abbrev pub lookupTables : ℕ → ℕ → ℕ → ℕ → SymCache
-lookupTables locations m ranges n = record {
-  files = 0;
-  «num_files» = 0;
-  functions = 0;
-  «num_functions» = 0;
-  «source_locations» = locations;
-  «num_source_locations» = m;
-  ranges = ranges;
-  «num_ranges» = n;
-  strings = 0;
-  «string_bytes» = 0;
-}
+-- whether `n` ranges and `m` locations, of which there are no fewer, lie in so many bytes from where they are said to begin
+unfoldable pub usable : ℕ → ℕ → ℕ → ℕ → ℕ → Bool
+usable bytes locations m ranges n = leb n m && (leb (ranges + 4 * n) bytes && leb (locations + 16 * m) bytes)
 
 -- the index of the location that an address belongs to, or MAX
-unfoldable pub foundAt : List ℕ → SymCache → ℕ → ℕ
-foundAt s c a =
-    cond (usable (length s) c && leb a max32)
-    (foundAmong (startAt s (c .ranges)) (c .«num_source_locations») (c .«num_ranges») a)
-    max32
+unfoldable pub foundIn : List ℕ → ℕ → ℕ → ℕ → ℕ → ℕ → ℕ
+foundIn s locations m ranges n a =
+    cond (usable (length s) locations m ranges n && leb a max32) (foundAmong (startAt s ranges) m n a) max32
+
+-- the same in an opened file
+abbrev pub foundAt : List ℕ → SymCache → ℕ → ℕ
+foundAt s c a = foundIn s (c .«source_locations») (c .«num_source_locations») (c .ranges) (c .«num_ranges») a
 
 -- ── The rows of a file that was read ──
 

@@ -6,7 +6,7 @@ ghost use lib.Dec.{leb};
 ghost use lib.ListN.{length};
 ghost use Rattle.symcache.specs.Answers.{gives, lookupAnswer, stepAnswer, fileAnswer, functionAnswer, functionsAnswer, filesAnswer};
 ghost use Rattle.symcache.specs.Reader.{startAt, Within};
-ghost use Rattle.symcache.specs.Lookup.{countIn, quartersIn, searchIn, usable, lookupTables, foundAt, locationIn, functionIn, fileIn, walkFrom, walkAt, lookedUp, met, entryOf, languageOf, fileOf, frameIn, ended, stepIn, stepped, gotFile, gotFunction, nextFunction, functionsNext, nextFile, filesNext};
+ghost use Rattle.symcache.specs.Lookup.{countIn, halfIn, quartersIn, searchIn, usable, foundIn, foundAt, locationIn, functionIn, fileIn, walkFrom, walkAt, lookedUp, met, entryOf, languageOf, fileOf, frameIn, ended, stepIn, stepped, gotFile, gotFunction, nextFunction, functionsNext, nextFile, filesNext};
 use super::ErrorKind;
 use super::Parsed;
 use super::SymCache;
@@ -123,14 +123,44 @@ fn quarters(s: &[u8], ranges: usize, base: usize, quarter: usize, addr: u32) -> 
         + at_most(super::range_start(s, ranges, base + 3 * quarter), addr)
 }
 
+// How many starts to pass over: `half` where the start that many after index `base` is at most `addr`, else none.
+fn half_of(s: &[u8], ranges: usize, base: usize, half: usize, addr: u32) -> usize
+    requires { ⌜ ranges + 4 * (base + half + 1) ≤ length (now s) ⌝ }
+    ensures { λ r. ⌜ (r ≡ halfIn (startAt (now (s .entry)) ranges) addr base half) × (r ≤ half) ⌝ }
+{
+    half * at_most(super::range_start(s, ranges, base + half), addr)
+}
+
+// The starts that are left of a search: `size` of them from index `base` on.
+struct Left {
+    base: usize,
+    size: usize,
+}
+
+// Halves `n` starts until at most 1,024 are left. These are looked at again and again, so they are at hand.
+fn halves(s: &[u8], ranges: usize, n: usize, addr: u32) -> Left
+    requires { ⌜ (0 < n) × (ranges + 4 * n ≤ length (now s)) ⌝ }
+    ensures { λ r. ⌜ (1 ≤ r .size) × (r .size ≤ 1024) × (r .base + r .size ≤ n) × (searchIn (startAt (now (s .entry)) ranges) addr (r .size) (r .base) (r .size) ≡ searchIn (startAt (now (s .entry)) ranges) addr n 0 n) ⌝ }
+{
+    let mut base: usize = 0;
+    let mut size = n;
+    while 1024 < size {
+        let half = size / 2;
+        base += half_of(s, ranges, base, half, addr);
+        size -= half;
+    }
+    Left { base, size }
+}
+
 // The index at which a search for `addr` among `n` starts ends: the last of those at most `addr`, or 0.
-// Three starts are fetched at once, and no jump depends on them, which could not be foreseen. The last few are counted.
+// The last 1,024 are quartered: three starts are fetched at once, and no jump depends on them, which could not be foreseen. The last few are counted.
 fn search(s: &[u8], ranges: usize, n: usize, addr: u32) -> usize
     requires { ⌜ (0 < n) × (ranges + 4 * n ≤ length (now s)) ⌝ }
     ensures { λ r. ⌜ (r ≡ searchIn (startAt (now (s .entry)) ranges) addr n 0 n) × (r < n) ⌝ }
 {
-    let mut base: usize = 0;
-    let mut size = n;
+    let left = halves(s, ranges, n, addr);
+    let mut base = left.base;
+    let mut size = left.size;
     while 8 < size {
         let quarter = size / 4;
         let low = quarters(s, ranges, base, quarter, addr);
@@ -158,7 +188,7 @@ fn is_usable(
     ranges: usize,
     num_ranges: u32,
 ) -> bool
-    ensures { λ r. ⌜ r ≡ usable len (lookupTables «source_locations» «num_source_locations» ranges «num_ranges») ⌝ }
+    ensures { λ r. ⌜ r ≡ usable len «source_locations» «num_source_locations» ranges «num_ranges» ⌝ }
 {
     if num_source_locations < num_ranges {
         return false;
@@ -178,7 +208,7 @@ fn find_in(
     num_ranges: u32,
     addr: u64,
 ) -> u32
-    ensures { λ r. ⌜ r ≡ foundAt (now (s .entry)) (lookupTables «source_locations» «num_source_locations» ranges «num_ranges») addr ⌝ }
+    ensures { λ r. ⌜ r ≡ foundIn (now (s .entry)) «source_locations» «num_source_locations» ranges «num_ranges» addr ⌝ }
 {
     if 4294967295 < addr {
         return 4294967295;

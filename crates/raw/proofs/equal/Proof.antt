@@ -7,7 +7,6 @@ use Rattle.raw.proofs.equal.Tie as tie
 returns : tie.Need-returns
 returns c = (rw (eq-eqb (c .before .args .x) (c .before .args .y) (c .if1 .taken)), omega arith)
 
--- src/lib.rt:90:1
 returns-2 : tie.Need-returns-2
 returns-2 c = (rw (ne-eqb (c .before .args .x) (c .before .args .y) (c .if1 .left)), omega arith)
 

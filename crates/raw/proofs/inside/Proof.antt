@@ -8,15 +8,12 @@ use borrow.Author.Needs.{needs}
 use Rattle.raw.proofs.inside.Statement.{statement}
 use Rattle.raw.proofs.inside.Tie as tie
 
--- src/lib.rt:99:9
 returns : tie.Need-returns
 returns c = sym (lt-leb (c .before .args .at + c .before .args .n) (length (c .before .args .s .now)) (omega arith))
 
--- src/lib.rt:101:11
 sub-result : tie.Need-sub-result
 sub-result c = search needs
 
--- src/lib.rt:95:1
 returns-2 : tie.Need-returns-2
 returns-2 c = leb-shift (c .before .args .at) (c .before .args .n) (length (c .before .args .s .now)) (omega arith)
 

@@ -5,31 +5,24 @@ use borrow.Author.Needs.{needs}
 use Rattle.raw.proofs.put_byte.Statement.{statement}
 use Rattle.raw.proofs.put_byte.Tie as tie
 
--- src/lib.rt:161:16
 sub-if2 : tie.Need-sub-if2
 sub-if2 c = search needs
 
--- src/lib.rt:162:15
 add-s : tie.Need-add-s
 add-s c = search needs
 
--- src/lib.rt:162:13
 slice-write-s : tie.Need-slice-write-s
 slice-write-s c = search needs
 
--- src/lib.rt:157:1
 same-length : tie.Need-same-length
 same-length c = search needs
 
--- src/lib.rt:157:1
 returns : tie.Need-returns
 returns c = search needs
 
--- src/lib.rt:157:1
 returns-2 : tie.Need-returns-2
 returns-2 c = sym (set-out _ _ _ (omega arith))
 
--- src/lib.rt:157:1
 returns-3 : tie.Need-returns-3
 returns-3 c = sym (set-out _ _ _ (omega arith))
 

@@ -7,7 +7,6 @@ use Rattle.symcache.proofs.lookup.at_most.Tie as tie
 returns : tie.Need-returns
 returns c = (rw (le-leb (c .before .args .start) (c .before .args .addr) (c .if1 .taken)), omega arith)
 
--- src/lookup.rt:89:1
 returns-2 : tie.Need-returns-2
 returns-2 c = (rw (lt-leb (c .before .args .start) (c .before .args .addr) (c .if1 .left)), omega arith)
 

@@ -17,35 +17,27 @@ Inv-loop s ranges from n addr found₀ i₀ found i = (i ≤ n) × (found ≤ i)
 abbrev μ-loop : tie.MeasureT-loop
 μ-loop s ranges from n addr found₀ i₀ found i = n - i
 
--- src/lookup.rt:105:5
 loop-holds : tie.Need-loop-holds Inv-loop μ-loop
 loop-holds c = let a = c .before .args in (omega arith, omega arith, count-begins (startAt (a .s .now) (a .ranges)) (a .addr) (a .from) (a .n) (a .from + 0) (a .n - 0) (omega arith) (omega arith))
 
--- src/lookup.rt:106:56
 add-range-start : tie.Need-add-range-start Inv-loop μ-loop
 add-range-start c = omega arith
 
--- src/lookup.rt:106:26
 range-start-requires : tie.Need-range-start-requires Inv-loop μ-loop
 range-start-requires c κs = omega arith
 
--- src/lookup.rt:106:18
 at-most-requires : tie.Need-at-most-requires Inv-loop μ-loop
 at-most-requires c κs = search needs
 
--- src/lookup.rt:106:9
 add-found : tie.Need-add-found Inv-loop μ-loop
 add-found c = omega arith
 
--- src/lookup.rt:107:9
 add-i : tie.Need-add-i Inv-loop μ-loop
 add-i c = omega arith
 
--- src/lookup.rt:105:5
 loop-less : tie.Need-loop-less Inv-loop μ-loop
 loop-less c = omega arith
 
--- src/lookup.rt:105:5
 loop-again : tie.Need-loop-again Inv-loop μ-loop
 loop-again c =
     let a = c .before .before .before .before .before .args in
@@ -54,7 +46,6 @@ loop-again c =
     let e : c .at-most .result ≡ cond (leb (f (a .from + l .i)) (a .addr)) 1 0 = rw (c .before .range-start .ensures) at (c .at-most .ensures .0) in
     (omega arith, omega arith, omega (arith, count-turn f (a .addr) (a .from) (l .i) (a .n) (omega arith), l .inv .2))
 
--- src/lookup.rt:99:1
 returns : tie.Need-returns Inv-loop μ-loop
 returns c =
     let a = c .before .before .before .args in

@@ -1,6 +1,5 @@
 -- `find` meets its contract.
 use borrow.Author.Needs.{needs}
-use Rattle.symcache.proofs.SearchLaws.{found-tables}
 use Rattle.symcache.proofs.lookup.find.Statement.{statement}
 use Rattle.symcache.proofs.lookup.find.Tie as tie
 
@@ -8,7 +7,7 @@ find-in-requires : tie.Need-find-in-requires
 find-in-requires c κs = search needs
 
 returns : tie.Need-returns
-returns c = found-tables (c .before .before .args .s .now) (c .before .before .args .cache) (c .before .before .args .addr) (c .find-in .ensures)
+returns c = c .find-in .ensures
 
 pub find-spec : {M : Type 1} → statement M
 find-spec = tie.close (tie.spec find-in-requires returns)

@@ -2,17 +2,20 @@
 use native.Mathlib.Omega.{arith}
 use mathlib.Core.Path.{sym, _∙_}
 use lib.ListN.{length}
-use Rattle.symcache.specs.Lookup.{lookupTables}
 use Rattle.symcache.proofs.SearchLaws.{found-far, found-empty, found-unusable, found-here, found-above, usable-has}
 use borrow.Author.Needs.{needs}
 use Rattle.symcache.proofs.lookup.find_in.Statement.{statement}
 use Rattle.symcache.proofs.lookup.find_in.Tie as tie
 
 returns : tie.Need-returns
-returns c = found-far (c .before .before .args .s .now) (lookupTables (c .before .before .args .source-locations) (c .before .before .args .num-source-locations) (c .before .before .args .ranges) (c .before .before .args .num-ranges)) (c .before .before .args .addr) (c .if1 .taken)
+returns c =
+    let a = c .before .before .args in
+    found-far (a .s .now) (a .source-locations) (a .num-source-locations) (a .ranges) (a .num-ranges) (a .addr) (c .if1 .taken)
 
 returns-2 : tie.Need-returns-2
-returns-2 c = found-empty (c .before .before .before .args .s .now) (lookupTables (c .before .before .before .args .source-locations) (c .before .before .before .args .num-source-locations) (c .before .before .before .args .ranges) (c .before .before .before .args .num-ranges)) (c .before .before .before .args .addr) (c .if2 .taken)
+returns-2 c =
+    let a = c .before .before .before .args in
+    found-empty (a .s .now) (a .source-locations) (a .num-source-locations) (a .ranges) (a .num-ranges) (a .addr) (c .if2 .taken)
 
 is-usable-requires : tie.Need-is-usable-requires
 is-usable-requires c κs = search needs
@@ -21,31 +24,49 @@ cast-search : tie.Need-cast-search
 cast-search c = search needs
 
 search-requires : tie.Need-search-requires
-search-requires c κs = let u = usable-has (length (c .before .before .before .before .before .args .s .now)) (lookupTables (c .before .before .before .before .before .args .source-locations) (c .before .before .before .before .before .args .num-source-locations) (c .before .before .before .before .before .args .ranges) (c .before .before .before .before .before .args .num-ranges)) (sym (c .before .is-usable .ensures) ∙ c .if3 .taken) in (omega arith, u .ranges)
+search-requires c κs =
+    let a = c .before .before .before .before .before .args in
+    let u = usable-has (length (a .s .now)) (a .source-locations) (a .num-source-locations) (a .ranges) (a .num-ranges) (sym (c .before .is-usable .ensures) ∙ c .if3 .taken) in
+    (omega arith, u .starts)
 
 range-start-requires : tie.Need-range-start-requires
-range-start-requires c κs = let u = usable-has (length (c .before .before .before .before .before .before .args .s .now)) (lookupTables (c .before .before .before .before .before .before .args .source-locations) (c .before .before .before .before .before .before .args .num-source-locations) (c .before .before .before .before .before .before .args .ranges) (c .before .before .before .before .before .before .args .num-ranges)) (sym (c .before .before .is-usable .ensures) ∙ c .before .if3 .taken) in omega (arith, u .ranges, c .search .ensures .1)
+range-start-requires c κs =
+    let a = c .before .before .before .before .before .before .args in
+    let u = usable-has (length (a .s .now)) (a .source-locations) (a .num-source-locations) (a .ranges) (a .num-ranges) (sym (c .before .before .is-usable .ensures) ∙ c .before .if3 .taken) in
+    omega (arith, u .starts, c .search .ensures .1)
 
 cast-if4 : tie.Need-cast-if4
 cast-if4 c = search needs
 
 sub-result : tie.Need-sub-result
-sub-result c = let u = usable-has (length (c .before .before .before .before .before .before .before .before .args .s .now)) (lookupTables (c .before .before .before .before .before .before .before .before .args .source-locations) (c .before .before .before .before .before .before .before .before .args .num-source-locations) (c .before .before .before .before .before .before .before .before .args .ranges) (c .before .before .before .before .before .before .before .before .args .num-ranges)) (sym (c .before .before .before .before .is-usable .ensures) ∙ c .before .before .before .if3 .taken) in omega (arith, u .fewer)
+sub-result c =
+    let a = c .before .before .before .before .before .before .before .before .args in
+    let u = usable-has (length (a .s .now)) (a .source-locations) (a .num-source-locations) (a .ranges) (a .num-ranges) (sym (c .before .before .before .before .is-usable .ensures) ∙ c .before .before .before .if3 .taken) in
+    omega (arith, u .fewer)
 
 cast-result : tie.Need-cast-result
 cast-result c = omega (arith, c .before .before .search .ensures .1)
 
 add-result : tie.Need-add-result
-add-result c = let u = usable-has (length (c .before .before .before .before .before .before .before .before .args .s .now)) (lookupTables (c .before .before .before .before .before .before .before .before .args .source-locations) (c .before .before .before .before .before .before .before .before .args .num-source-locations) (c .before .before .before .before .before .before .before .before .args .ranges) (c .before .before .before .before .before .before .before .before .args .num-ranges)) (sym (c .before .before .before .before .is-usable .ensures) ∙ c .before .before .before .if3 .taken) in omega (arith, u .fewer, c .before .before .search .ensures .1)
+add-result c =
+    let a = c .before .before .before .before .before .before .before .before .args in
+    let u = usable-has (length (a .s .now)) (a .source-locations) (a .num-source-locations) (a .ranges) (a .num-ranges) (sym (c .before .before .before .before .is-usable .ensures) ∙ c .before .before .before .if3 .taken) in
+    omega (arith, u .fewer, c .before .before .search .ensures .1)
 
 returns-3 : tie.Need-returns-3
-returns-3 c = found-here (c .before .before .before .before .before .before .before .before .args .s .now) (lookupTables (c .before .before .before .before .before .before .before .before .args .source-locations) (c .before .before .before .before .before .before .before .before .args .num-source-locations) (c .before .before .before .before .before .before .before .before .args .ranges) (c .before .before .before .before .before .before .before .before .args .num-ranges)) (c .before .before .before .before .before .before .before .before .args .addr) (sym (c .before .before .before .before .is-usable .ensures) ∙ c .before .before .before .if3 .taken) (c .before .before .before .before .before .before .if1 .left) (c .before .before .before .before .before .if2 .left) (c .before .before .search .result) (c .before .before .search .ensures .0) (rw (c .before .range-start .ensures) at (c .if4 .taken))
+returns-3 c =
+    let a = c .before .before .before .before .before .before .before .before .args in
+    found-here (a .s .now) (a .source-locations) (a .num-source-locations) (a .ranges) (a .num-ranges) (a .addr) (sym (c .before .before .before .before .is-usable .ensures) ∙ c .before .before .before .if3 .taken) (c .before .before .before .before .before .before .if1 .left) (c .before .before .before .before .before .if2 .left) (c .before .before .search .result) (c .before .before .search .ensures .0) (rw (c .before .range-start .ensures) at (c .if4 .taken))
 
 returns-4 : tie.Need-returns-4
-returns-4 c = found-above (c .before .before .before .before .before .before .before .before .args .s .now) (lookupTables (c .before .before .before .before .before .before .before .before .args .source-locations) (c .before .before .before .before .before .before .before .before .args .num-source-locations) (c .before .before .before .before .before .before .before .before .args .ranges) (c .before .before .before .before .before .before .before .before .args .num-ranges)) (c .before .before .before .before .before .before .before .before .args .addr) (sym (c .before .before .before .before .is-usable .ensures) ∙ c .before .before .before .if3 .taken) (c .before .before .before .before .before .before .if1 .left) (c .before .before .before .before .before .if2 .left) (c .before .before .search .result) (c .before .before .search .ensures .0) (rw (c .before .range-start .ensures) at (c .if4 .left))
+returns-4 c =
+    let a = c .before .before .before .before .before .before .before .before .args in
+    found-above (a .s .now) (a .source-locations) (a .num-source-locations) (a .ranges) (a .num-ranges) (a .addr) (sym (c .before .before .before .before .is-usable .ensures) ∙ c .before .before .before .if3 .taken) (c .before .before .before .before .before .before .if1 .left) (c .before .before .before .before .before .if2 .left) (c .before .before .search .result) (c .before .before .search .ensures .0) (rw (c .before .range-start .ensures) at (c .if4 .left))
 
 returns-5 : tie.Need-returns-5
-returns-5 c = found-unusable (c .before .before .before .before .before .args .s .now) (lookupTables (c .before .before .before .before .before .args .source-locations) (c .before .before .before .before .before .args .num-source-locations) (c .before .before .before .before .before .args .ranges) (c .before .before .before .before .before .args .num-ranges)) (c .before .before .before .before .before .args .addr) (sym (c .before .is-usable .ensures) ∙ c .if3 .left)
+returns-5 c =
+    let a = c .before .before .before .before .before .args in
+    found-unusable (a .s .now) (a .source-locations) (a .num-source-locations) (a .ranges) (a .num-ranges) (a .addr) (sym (c .before .is-usable .ensures) ∙ c .if3 .left)
 
 pub find-in-spec : {M : Type 1} → statement M
 find-in-spec =

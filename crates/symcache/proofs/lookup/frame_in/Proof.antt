@@ -7,15 +7,12 @@ use Rattle.symcache.proofs.lookup.frame_in.Tie as tie
 location-in-requires : tie.Need-location-in-requires
 location-in-requires c κs = search needs
 
--- src/lookup.rt:250:9
 function-or-missing-requires : tie.Need-function-or-missing-requires
 function-or-missing-requires c κs = search needs
 
--- src/lookup.rt:251:9
 frame-file-requires : tie.Need-frame-file-requires
 frame-file-requires c κs = search needs
 
--- src/lookup.rt:245:1
 returns : tie.Need-returns
 returns c =
     let a = c .before .before .before .before .args in

@@ -8,20 +8,16 @@ use Rattle.symcache.proofs.lookup.function_in.Tie as tie
 mul-function-at : tie.Need-mul-function-at
 mul-function-at c = search needs
 
--- src/lookup.rt:339:58
 add-function-at : tie.Need-add-function-at
 add-function-at c = search needs
 
--- src/lookup.rt:339:38
 function-at-requires : tie.Need-function-at-requires
 function-at-requires c κs = search needs
 
--- src/lookup.rt:339:9
 returns : tie.Need-returns
 unfolding functionIn
 returns c = rw (lt-ltb (c .before .before .before .before .before .args .i) (c .before .before .before .before .before .args .c .«num_functions») (c .before .before .if1 .taken), c .function-at .ensures)
 
--- src/lookup.rt:334:1
 returns-2 : tie.Need-returns-2
 unfolding functionIn
 returns-2 c = rw (le-ltb (c .before .before .before .args .i) (c .before .before .before .args .c .«num_functions») (c .if1 .left))

@@ -13,24 +13,19 @@ use Rattle.symcache.proofs.lookup.get_file.Tie as tie
 parse-requires : tie.Need-parse-requires
 parse-requires c κs = search needs
 
--- src/lookup.rt:329:23
 enum-known-parsed : tie.Need-enum-known-parsed
 enum-known-parsed c = search needs
 
--- src/lookup.rt:329:29
 file-in-requires : tie.Need-file-in-requires
 file-in-requires c κs = let w = parsed-within (c .before .before .before .before .before .args .s .now) (c .before .parsed .given .0 .0) (sym (c .before .before .before .parse .ensures) ∙ ap parseAnswer (c .before .parsed .given .1)) .1 .files in omega arith
 
--- src/lookup.rt:330:25
 enum-known-parsed-2 : tie.Need-enum-known-parsed-2
 enum-known-parsed-2 c = search needs
 
--- src/lookup.rt:324:1
 returns : tie.Need-returns
 unfolding gotFile
 returns c = then-gives (parsed (c .before .before .before .before .before .before .args .s .now)) (c .before .before .parsed .given .0 .0) _ _ (sym (c .before .before .before .before .parse .ensures) ∙ ap parseAnswer (c .before .before .parsed .given .1)) (c .file-in .ensures)
 
--- src/lookup.rt:324:1
 returns-2 : tie.Need-returns-2
 unfolding gotFile
 returns-2 c = then-refuses (parsed (c .before .before .before .before .before .args .s .now)) _ _ (sym (c .before .before .before .parse .ensures) ∙ ap parseAnswer (c .before .parsed2 .given .1))

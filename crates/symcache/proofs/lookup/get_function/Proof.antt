@@ -13,24 +13,19 @@ use Rattle.symcache.proofs.lookup.get_function.Tie as tie
 parse-requires : tie.Need-parse-requires
 parse-requires c κs = search needs
 
--- src/lookup.rt:349:23
 enum-known-parsed : tie.Need-enum-known-parsed
 enum-known-parsed c = search needs
 
--- src/lookup.rt:349:29
 function-in-requires : tie.Need-function-in-requires
 function-in-requires c κs = let w = parsed-within (c .before .before .before .before .before .args .s .now) (c .before .parsed .given .0 .0) (sym (c .before .before .before .parse .ensures) ∙ ap parseAnswer (c .before .parsed .given .1)) .1 .functions in omega arith
 
--- src/lookup.rt:350:25
 enum-known-parsed-2 : tie.Need-enum-known-parsed-2
 enum-known-parsed-2 c = search needs
 
--- src/lookup.rt:344:1
 returns : tie.Need-returns
 unfolding gotFunction
 returns c = then-gives (parsed (c .before .before .before .before .before .before .args .s .now)) (c .before .before .parsed .given .0 .0) _ _ (sym (c .before .before .before .before .parse .ensures) ∙ ap parseAnswer (c .before .before .parsed .given .1)) (c .function-in .ensures)
 
--- src/lookup.rt:344:1
 returns-2 : tie.Need-returns-2
 unfolding gotFunction
 returns-2 c = then-refuses (parsed (c .before .before .before .before .before .args .s .now)) _ _ (sym (c .before .before .before .parse .ensures) ∙ ap parseAnswer (c .before .parsed2 .given .1))

@@ -10,21 +10,17 @@ returns : tie.Need-returns
 unfolding ended
 returns c = rw (eq-eqb (c .before .before .before .args .walk .current) max32 (c .if1 .taken))
 
--- src/lookup.rt:272:9
 returns-2 : tie.Need-returns-2
 unfolding ended
 returns-2 c = rw (ne-eqb (c .before .before .before .before .before .before .args .walk .current) max32 (c .before .before .before .if1 .left), le-leb (c .before .before .before .before .before .before .args .c .«num_source_locations») (c .before .before .before .before .before .before .args .walk .current) (c .if2 .taken))
 
--- src/lookup.rt:275:9
 returns-3 : tie.Need-returns-3
 unfolding ended
 returns-3 c = rw (ne-eqb (c .before .before .before .before .before .before .before .before .before .args .walk .current) max32 (c .before .before .before .before .before .before .if1 .left), lt-leb (c .before .before .before .before .before .before .before .before .before .args .c .«num_source_locations») (c .before .before .before .before .before .before .before .before .before .args .walk .current) (c .before .before .before .if2 .left), le-leb (c .before .before .before .before .before .before .before .before .before .args .c .«num_source_locations») (c .before .before .before .before .before .before .before .before .before .args .walk .steps) (c .if3 .taken))
 
--- src/lookup.rt:277:5
 is-met-requires : tie.Need-is-met-requires
 is-met-requires c κs = search needs
 
--- src/lookup.rt:264:1
 returns-4 : tie.Need-returns-4
 unfolding ended
 returns-4 c = rw (ne-eqb (c .before .before .before .before .before .before .before .before .before .before .args .walk .current) max32 (c .before .before .before .before .before .before .before .if1 .left), lt-leb (c .before .before .before .before .before .before .before .before .before .before .args .c .«num_source_locations») (c .before .before .before .before .before .before .before .before .before .before .args .walk .current) (c .before .before .before .before .if2 .left), lt-leb (c .before .before .before .before .before .before .before .before .before .before .args .c .«num_source_locations») (c .before .before .before .before .before .before .before .before .before .before .args .walk .steps) (c .before .if3 .left)) (c .is-met .ensures)

@@ -12,35 +12,27 @@ Inv-loop s c i first steps at₀ left₀ at left = met s c i at left ≡ met s c
 abbrev μ-loop : tie.MeasureT-loop
 μ-loop s c i first steps at₀ left₀ at left = left
 
--- src/lookup.rt:205:5
 loop-holds : tie.Need-loop-holds Inv-loop μ-loop
 loop-holds c = refl
 
--- src/lookup.rt:207:13
 returns : tie.Need-returns Inv-loop μ-loop
 returns c = sym (met-here (c .before .before .before .before .args .s .now) (c .before .before .before .before .args .c) (c .before .before .before .before .args .i) (c .before .before .loop .at) (c .before .before .loop .left) (c .before .loop-test .taken) (c .if1 .taken)) ∙ c .before .before .loop .inv
 
--- src/lookup.rt:210:13
 returns-2 : tie.Need-returns-2 Inv-loop μ-loop
 returns-2 c = sym (met-outside (c .before .before .before .before .before .before .args .s .now) (c .before .before .before .before .before .before .args .c) (c .before .before .before .before .before .before .args .i) (c .before .before .before .before .loop .at) (c .before .before .before .before .loop .left) (c .before .before .before .loop-test .taken) (c .before .before .if1 .left) (c .if2 .taken)) ∙ c .before .before .before .before .loop .inv
 
--- src/lookup.rt:212:13
 location-in-requires : tie.Need-location-in-requires Inv-loop μ-loop
 location-in-requires c κs = omega arith
 
--- src/lookup.rt:214:9
 sub-left : tie.Need-sub-left Inv-loop μ-loop
 sub-left c = omega arith
 
--- src/lookup.rt:205:5
 loop-less : tie.Need-loop-less Inv-loop μ-loop
 loop-less c = omega arith
 
--- src/lookup.rt:205:5
 loop-again : tie.Need-loop-again Inv-loop μ-loop
 loop-again c = let a = c .before .before .before .before .before .before .before .args in let l = c .before .before .before .before .before .loop in rw (c .location-in .ensures) (met-further (a .s .now) (a .c) (a .i) (l .at) (l .left) (c .before .before .before .before .loop-test .taken) (c .before .before .before .if1 .left) (c .before .if2 .left) ∙ l .inv)
 
--- src/lookup.rt:199:1
 returns-3 : tie.Need-returns-3 Inv-loop μ-loop
 returns-3 c = met-nowhere (c .before .before .before .args .s .now) (c .before .before .before .args .c) (c .before .before .before .args .i) (c .before .loop .at) (c .before .loop .left) (c .loop-test .left) ∙ c .before .loop .inv
 

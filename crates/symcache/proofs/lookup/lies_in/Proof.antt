@@ -10,7 +10,6 @@ use Rattle.symcache.proofs.lookup.lies_in.Tie as tie
 returns : tie.Need-returns
 returns c = sym (lt-leb (c .before .args .at + c .before .args .n) (c .before .args .len) (omega arith))
 
--- src/lookup.rt:107:1
 returns-2 : tie.Need-returns-2
 returns-2 c = leb-shift (c .before .args .at) (c .before .args .n) (c .before .args .len) (omega arith)
 

@@ -7,15 +7,12 @@ use Rattle.symcache.proofs.lookup.location_in.Tie as tie
 mul-location-at : tie.Need-mul-location-at
 mul-location-at c = search needs
 
--- src/lookup.rt:155:25
 add-location-at : tie.Need-add-location-at
 add-location-at c = search needs
 
--- src/lookup.rt:155:5
 location-at-requires : tie.Need-location-at-requires
 location-at-requires c κs = search needs
 
--- src/lookup.rt:151:1
 returns : tie.Need-returns
 unfolding locationIn
 returns c = c .location-at .ensures

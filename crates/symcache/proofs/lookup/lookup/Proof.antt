@@ -11,24 +11,19 @@ use Rattle.symcache.proofs.lookup.lookup.Tie as tie
 open-requires : tie.Need-open-requires
 open-requires c κs = search needs
 
--- src/lookup.rt:191:23
 enum-known-opened : tie.Need-enum-known-opened
 enum-known-opened c = search needs
 
--- src/lookup.rt:191:44
 walk-requires : tie.Need-walk-requires
 walk-requires c κs = search needs
 
--- src/lookup.rt:192:25
 enum-known-opened-2 : tie.Need-enum-known-opened-2
 enum-known-opened-2 c = search needs
 
--- src/lookup.rt:186:1
 returns : tie.Need-returns
 unfolding lookedUp
 returns c = then-gives (opened (c .before .before .before .before .before .before .args .s .now)) (c .before .before .opened .given .0 .0) _ _ (sym (c .before .before .before .before .«open» .ensures) ∙ ap parseAnswer (c .before .before .opened .given .1)) (ap gives (c .walk .ensures))
 
--- src/lookup.rt:186:1
 returns-2 : tie.Need-returns-2
 unfolding lookedUp
 returns-2 c = then-refuses (opened (c .before .before .before .before .before .args .s .now)) _ _ (sym (c .before .before .before .«open» .ensures) ∙ ap parseAnswer (c .before .opened2 .given .1))

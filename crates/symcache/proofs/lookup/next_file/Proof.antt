@@ -8,24 +8,19 @@ use Rattle.symcache.proofs.lookup.next_file.Tie as tie
 mul-file-at : tie.Need-mul-file-at
 mul-file-at c = search needs
 
--- src/lookup.rt:395:35
 add-file-at : tie.Need-add-file-at
 add-file-at c = search needs
 
--- src/lookup.rt:395:19
 file-at-requires : tie.Need-file-at-requires
 file-at-requires c κs = search needs
 
--- src/lookup.rt:396:37
 add-t9 : tie.Need-add-t9
 add-t9 c = search needs
 
--- src/lookup.rt:393:9
 returns : tie.Need-returns
 unfolding nextFile
 returns c = rw (lt-ltb (c .before .before .before .before .before .args .i) (c .before .before .before .before .before .args .c .«num_files») (c .before .before .if1 .taken), c .file-at .ensures)
 
--- src/lookup.rt:388:1
 returns-2 : tie.Need-returns-2
 unfolding nextFile
 returns-2 c = rw (le-ltb (c .before .before .before .args .i) (c .before .before .before .args .c .«num_files») (c .if1 .left))

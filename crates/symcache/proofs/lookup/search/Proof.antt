@@ -9,13 +9,16 @@ use Rattle.symcache.proofs.lookup.search.Statement.{statement}
 use Rattle.symcache.proofs.lookup.search.Tie as tie
 
 abbrev Inv-loop : tie.InvT-loop
-Inv-loop s ranges n addr base₀ size₀ base size = (1 ≤ size) × (base + size ≤ n) × (searchIn (startAt s ranges) addr size base size ≡ searchIn (startAt s ranges) addr n 0 n)
+Inv-loop s ranges n addr base₀ size₀ base size = (1 ≤ size) × (size ≤ 1024) × (base + size ≤ n) × (searchIn (startAt s ranges) addr size base size ≡ searchIn (startAt s ranges) addr n 0 n)
 
 abbrev μ-loop : tie.MeasureT-loop
 μ-loop s ranges n addr base₀ size₀ base size = size
 
+halves-requires : tie.Need-halves-requires Inv-loop μ-loop
+halves-requires c κs = omega arith
+
 loop-holds : tie.Need-loop-holds Inv-loop μ-loop
-loop-holds c = (omega arith, omega arith, refl)
+loop-holds c = c .halves .ensures
 
 quarters-requires : tie.Need-quarters-requires Inv-loop μ-loop
 quarters-requires c κs = omega arith
@@ -37,11 +40,11 @@ loop-less c = omega arith
 
 loop-again : tie.Need-loop-again Inv-loop μ-loop
 loop-again c =
-    let a = c .before .before .before .before .args in
+    let a = c .before .before .before .before .before .args in
     let l = c .before .before .loop in
     let f = startAt (a .s .now) (a .ranges) in
     let t : l .size / 4 * c .quarters .result ≤ 3 * (l .size / 4) = times-three (l .size / 4) (c .quarters .result) (c .quarters .ensures .1) in
-    (omega arith, omega (arith, t), rw (c .quarters .ensures .0) (turn f (a .addr) (l .base) (l .size) (omega arith) ∙ l .inv .2))
+    (omega arith, omega arith, omega (arith, t), rw (c .quarters .ensures .0) (turn f (a .addr) (l .base) (l .size) (omega arith) (l .inv .1) ∙ l .inv .3))
 
 add-count : tie.Need-add-count Inv-loop μ-loop
 add-count c = omega arith
@@ -57,11 +60,11 @@ add-result c = omega (arith, c .count .ensures .1)
 
 returns : tie.Need-returns Inv-loop μ-loop
 returns c =
-    let a = c .before .before .before .before .args in
+    let a = c .before .before .before .before .before .args in
     let l = c .before .before .loop in
     let f = startAt (a .s .now) (a .ranges) in
     let e : l .base + c .count .result ≡ searchIn f (a .addr) (l .size) (l .base) (l .size) = rw (c .count .ensures .0) (sym (search-done f (a .addr) (l .size) (l .base) (l .size) (omega arith))) in
-    (e ∙ l .inv .2, omega (arith, c .count .ensures .1))
+    (e ∙ l .inv .3, omega (arith, c .count .ensures .1))
 
 pub search-spec : {M : Type 1} → statement M
 search-spec =
@@ -69,6 +72,7 @@ search-spec =
     (tie.spec
     Inv-loop
     μ-loop
+    halves-requires
     loop-holds
     quarters-requires
     mul-base

@@ -10,24 +10,19 @@ use Rattle.symcache.proofs.lookup.step_in.Tie as tie
 is-ended-requires : tie.Need-is-ended-requires
 is-ended-requires c κs = search needs
 
--- src/lookup.rt:285:9
 returns : tie.Need-returns
 unfolding stepIn
 returns c = rw (sym (c .before .is-ended .ensures) ∙ c .if1 .taken)
 
--- src/lookup.rt:287:9
 location-in-requires : tie.Need-location-in-requires
 location-in-requires c κs = search needs
 
--- src/lookup.rt:288:9
 frame-in-requires : tie.Need-frame-in-requires
 frame-in-requires c κs = (c .before .before .before .before .pre, goes-on (c .before .before .before .before .args .s .now) (c .before .before .before .before .args .c) (c .before .before .before .before .args .walk) (sym (c .before .before .is-ended .ensures) ∙ c .before .if1 .left) .0)
 
--- src/lookup.rt:294:20
 add-t7 : tie.Need-add-t7
 add-t7 c = let g = goes-on (c .before .before .before .before .before .before .args .s .now) (c .before .before .before .before .before .before .args .c) (c .before .before .before .before .before .before .args .walk) (sym (c .before .before .before .before .is-ended .ensures) ∙ c .before .before .before .if1 .left) .1 in omega arith
 
--- src/lookup.rt:280:1
 returns-2 : tie.Need-returns-2
 returns-2 c = step-made (c .before .before .before .before .before .before .args .s .now) (c .before .before .before .before .before .before .args .c) (c .before .before .before .before .before .before .args .walk) (c .before .frame-in .result) (c .before .before .location-in .result) (sym (c .before .before .before .before .is-ended .ensures) ∙ c .before .before .before .if1 .left) (c .before .frame-in .ensures) (c .before .before .location-in .ensures)
 

@@ -1,7 +1,7 @@
 -- `walk` meets its contract: only the first location is tested for the empty mapping.
 use native.Mathlib.Omega.{arith}
 use mathlib.Core.Path.{sym, _∙_}
-use Rattle.symcache.proofs.SearchLaws.{found-inside, found-tables}
+use Rattle.symcache.proofs.SearchLaws.{found-inside}
 use Rattle.symcache.proofs.LookupLaws.{walk-nowhere, walk-tested}
 use borrow.Author.Needs.{needs}
 use Rattle.symcache.proofs.lookup.walk.Statement.{statement}
@@ -10,22 +10,18 @@ use Rattle.symcache.proofs.lookup.walk.Tie as tie
 find-in-requires : tie.Need-find-in-requires
 find-in-requires c κs = search needs
 
--- src/lookup.rt:176:9
 walk-from-requires : tie.Need-walk-from-requires
 walk-from-requires c κs = search needs
 
--- src/lookup.rt:176:9
 returns : tie.Need-returns
-returns c = c .walk-from .ensures ∙ walk-nowhere (c .before .before .before .before .args .s .now) (c .before .before .before .before .args .cache) (c .before .before .before .before .args .addr) (c .before .before .find-in .result) (found-tables (c .before .before .before .before .args .s .now) (c .before .before .before .before .args .cache) (c .before .before .before .before .args .addr) (c .before .before .find-in .ensures)) (c .before .if1 .taken)
+returns c = c .walk-from .ensures ∙ walk-nowhere (c .before .before .before .before .args .s .now) (c .before .before .before .before .args .cache) (c .before .before .before .before .args .addr) (c .before .before .find-in .result) (c .before .before .find-in .ensures) (c .before .if1 .taken)
 
--- src/lookup.rt:178:9
 location-in-requires : tie.Need-location-in-requires
 location-in-requires c κs =
-    let e = (found-tables (c .before .before .before .args .s .now) (c .before .before .before .args .cache) (c .before .before .before .args .addr) (c .before .find-in .ensures)) in
+    let e = c .before .find-in .ensures in
     let f = found-inside (c .before .before .before .args .s .now) (c .before .before .before .args .cache) (c .before .before .before .args .addr) (rw e at (c .if1 .left)) in
     omega (arith, e)
 
--- src/lookup.rt:179:8
 is-no-source-location-requires : tie.Need-is-no-source-location-requires
 is-no-source-location-requires c κs = search needs
 
@@ -36,7 +32,7 @@ walk-from-requires-2 : tie.Need-walk-from-requires-2
 walk-from-requires-2 c κs = search needs
 
 returns-2 : tie.Need-returns-2
-returns-2 c = c .walk-from2 .ensures ∙ walk-tested (c .before .before .before .before .before .before .before .args .s .now) (c .before .before .before .before .before .before .before .args .cache) (c .before .before .before .before .before .before .before .args .addr) (c .before .before .before .before .before .find-in .result) (found-tables (c .before .before .before .before .before .before .before .args .s .now) (c .before .before .before .before .before .before .before .args .cache) (c .before .before .before .before .before .before .before .args .addr) (c .before .before .before .before .before .find-in .ensures)) (c .before .before .before .before .if1 .left) (rw (c .before .before .before .location-in .ensures) at (c .before .before .is-no-source-location .ensures)) (c .before .unless .ensures)
+returns-2 c = c .walk-from2 .ensures ∙ walk-tested (c .before .before .before .before .before .before .before .args .s .now) (c .before .before .before .before .before .before .before .args .cache) (c .before .before .before .before .before .before .before .args .addr) (c .before .before .before .before .before .find-in .result) (c .before .before .before .before .before .find-in .ensures) (c .before .before .before .before .if1 .left) (rw (c .before .before .before .location-in .ensures) at (c .before .before .is-no-source-location .ensures)) (c .before .unless .ensures)
 
 pub walk-spec : {M : Type 1} → statement M
 walk-spec =

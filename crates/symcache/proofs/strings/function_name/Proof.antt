@@ -11,59 +11,45 @@ use Rattle.symcache.proofs.strings.function_name.Tie as tie
 parse-requires : tie.Need-parse-requires
 parse-requires c κs = search needs
 
--- src/strings.rt:65:23
 enum-known-c : tie.Need-enum-known-c
 enum-known-c c = search needs
 
--- src/strings.rt:66:9
 enum-told : tie.Need-enum-told
 enum-told c = search needs
 
--- src/strings.rt:66:9
 returns : tie.Need-returns
 returns c = name-refused (c .before .before .before .before .before .args .s .now) _ (sym (c .before .before .parse .ensures) ∙ ap parseAnswer (c .enum-told .given .1)) (c .before .before .before .before .before .args .stand-in .now) (c .before .before .before .before .before .args .function-idx)
 
--- src/strings.rt:69:58
 mul-function-at : tie.Need-mul-function-at
 mul-function-at c = search needs
 
--- src/strings.rt:69:44
 add-function-at : tie.Need-add-function-at
 add-function-at c = let w = parsed-within (c .before .before .before .before .before .before .before .before .before .args .s .now) (c .before .before .before .before .c .given .0 .0) (sym (c .before .before .before .before .before .before .parse .ensures) ∙ ap parseAnswer (c .before .before .before .before .c .given .1)) .1 .functions in omega arith
 
--- src/strings.rt:69:13
 function-at-requires : tie.Need-function-at-requires
 function-at-requires c κs = search needs
 
--- src/strings.rt:71:26
 cast-to : tie.Need-cast-to
 cast-to c = search needs
 
--- src/strings.rt:71:18
 add-to : tie.Need-add-to
 add-to c = let w = parsed-within (c .before .before .before .before .before .before .before .before .before .before .before .args .s .now) (c .before .before .before .before .before .before .c .given .0 .0) (sym (c .before .before .before .before .before .before .before .before .parse .ensures) ∙ ap parseAnswer (c .before .before .before .before .before .before .c .given .1)) .1 .strings in omega arith
 
--- src/strings.rt:72:24
 sub-text-or : tie.Need-sub-text-or
 sub-text-or c = search needs
 
--- src/strings.rt:72:24
 part-text-or-start : tie.Need-part-text-or-start
 part-text-or-start c = search needs
 
--- src/strings.rt:72:24
 part-text-or-end : tie.Need-part-text-or-end
 part-text-or-end c = parsed-within (c .before .before .before .before .before .before .before .before .before .before .before .args .s .now) (c .before .before .before .before .before .before .c .given .0 .0) (sym (c .before .before .before .before .before .before .before .before .parse .ensures) ∙ ap parseAnswer (c .before .before .before .before .before .before .c .given .1)) .1 .strings
 
--- src/strings.rt:72:9
 text-or-requires : tie.Need-text-or-requires
 text-or-requires c κs = search needs
 
--- src/strings.rt:72:9
 returns-2 : tie.Need-returns-2
 returns-2 c = name-given (c .before .before .before .before .before .before .before .before .before .before .before .before .before .args .s .now) (c .before .before .before .before .before .before .before .before .c .given .0 .0) (sym (c .before .before .before .before .before .before .before .before .before .before .parse .ensures) ∙ ap parseAnswer (c .before .before .before .before .before .before .before .before .c .given .1)) (c .before .before .before .before .before .before .before .before .before .before .before .before .before .args .stand-in .now) (c .before .before .before .before .before .before .before .before .before .before .before .before .before .args .function-idx) (c .before .before .before .function-at .result) _ (c .before .before .before .before .before .if1 .taken) (c .before .before .before .function-at .ensures) (c .text-or .ensures)
 
--- src/strings.rt:62:1
 returns-3 : tie.Need-returns-3
 returns-3 c = name-missing (c .before .before .before .before .before .before .before .before .args .s .now) (c .before .before .before .c .given .0 .0) (sym (c .before .before .before .before .before .parse .ensures) ∙ ap parseAnswer (c .before .before .before .c .given .1)) (c .before .before .before .before .before .before .before .before .args .stand-in .now) (c .before .before .before .before .before .before .before .before .args .function-idx) (c .if1 .left)
 

@@ -11,55 +11,42 @@ use Rattle.symcache.proofs.strings.get_string.Tie as tie
 parse-requires : tie.Need-parse-requires
 parse-requires c κs = search needs
 
--- src/strings.rt:42:23
 enum-known-c : tie.Need-enum-known-c
 enum-known-c c = search needs
 
--- src/strings.rt:43:16
 enum-told : tie.Need-enum-told
 enum-told c = search needs
 
--- src/strings.rt:43:16
 sub-result : tie.Need-sub-result
 sub-result c = search needs
 
--- src/strings.rt:43:16
 part-result-start : tie.Need-part-result-start
 part-result-start c = search needs
 
--- src/strings.rt:43:16
 part-result-end : tie.Need-part-result-end
 part-result-end c = search needs
 
--- src/strings.rt:43:9
 returns : tie.Need-returns
 returns c = bytes-refused (c .before .before .before .before .before .args .s .now) _ (sym (c .before .before .before .parse .ensures) ∙ ap parseAnswer (c .before .enum-told .given .1)) (c .before .before .before .before .before .args .offset)
 
--- src/strings.rt:46:22
 cast-to : tie.Need-cast-to
 cast-to c = search needs
 
--- src/strings.rt:46:14
 add-to : tie.Need-add-to
 add-to c = let w = parsed-within (c .before .before .before .before .before .before .args .s .now) (c .before .before .c .given .0 .0) (sym (c .before .before .before .before .parse .ensures) ∙ ap parseAnswer (c .before .before .c .given .1)) .1 .strings in omega arith
 
--- src/strings.rt:47:30
 sub-text-part : tie.Need-sub-text-part
 sub-text-part c = search needs
 
--- src/strings.rt:47:30
 part-text-part-start : tie.Need-part-text-part-start
 part-text-part-start c = search needs
 
--- src/strings.rt:47:30
 part-text-part-end : tie.Need-part-text-part-end
 part-text-part-end c = parsed-within (c .before .before .before .before .before .before .args .s .now) (c .before .before .c .given .0 .0) (sym (c .before .before .before .before .parse .ensures) ∙ ap parseAnswer (c .before .before .c .given .1)) .1 .strings
 
--- src/strings.rt:47:5
 text-part-requires : tie.Need-text-part-requires
 text-part-requires c κs = search needs
 
--- src/strings.rt:39:1
 returns-2 : tie.Need-returns-2
 returns-2 c = bytes-given (c .before .before .before .before .before .before .before .before .args .s .now) (c .before .before .before .before .c .given .0 .0) (sym (c .before .before .before .before .before .before .parse .ensures) ∙ ap parseAnswer (c .before .before .before .before .c .given .1)) (c .before .before .before .before .before .before .before .before .args .offset) _ (c .text-part .ensures)
 

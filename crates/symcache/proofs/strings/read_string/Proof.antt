@@ -11,59 +11,45 @@ use Rattle.symcache.proofs.strings.read_string.Tie as tie
 parse-requires : tie.Need-parse-requires
 parse-requires c κs = search needs
 
--- src/strings.rt:22:23
 enum-known-parsed : tie.Need-enum-known-parsed
 enum-known-parsed c = search needs
 
--- src/strings.rt:24:30
 cast-to : tie.Need-cast-to
 cast-to c = search needs
 
--- src/strings.rt:24:22
 add-to : tie.Need-add-to
 add-to c = let w = parsed-within (c .before .before .before .before .before .before .args .s .now) (c .before .before .parsed .given .0 .0) (sym (c .before .before .before .before .parse .ensures) ∙ ap parseAnswer (c .before .before .parsed .given .1)) .1 .strings in omega arith
 
--- src/strings.rt:25:49
 sub-read-text : tie.Need-sub-read-text
 sub-read-text c = search needs
 
--- src/strings.rt:25:49
 part-read-text-start : tie.Need-part-read-text-start
 part-read-text-start c = search needs
 
--- src/strings.rt:25:49
 part-read-text-end : tie.Need-part-read-text-end
 part-read-text-end c = parsed-within (c .before .before .before .before .before .before .args .s .now) (c .before .before .parsed .given .0 .0) (sym (c .before .before .before .before .parse .ensures) ∙ ap parseAnswer (c .before .before .parsed .given .1)) .1 .strings
 
--- src/strings.rt:25:17
 read-text-requires : tie.Need-read-text-requires
 read-text-requires c κs = search needs
 
--- src/strings.rt:27:28
 enum-known-read : tie.Need-enum-known-read
 enum-known-read c = search needs
 
--- src/strings.rt:28:28
 add-t17 : tie.Need-add-t17
 add-t17 c = let i = string-inside (c .before .before .before .before .before .before .before .before .before .before .before .args .s .now) (c .before .before .before .before .before .before .before .parsed .given .0 .0) (sym (c .before .before .before .before .before .before .before .before .before .parse .ensures) ∙ ap parseAnswer (c .before .before .before .before .before .before .before .parsed .given .1)) (c .before .before .before .before .before .before .before .before .before .before .before .args .offset) (c .before .read .given .0 .0) (c .before .read .given .0 .1 .0) (sym (c .before .before .before .read-text .ensures) ∙ c .before .read .given .1) in omega arith
 
--- src/strings.rt:31:33
 enum-told : tie.Need-enum-told
 enum-told c = search needs
 
--- src/strings.rt:34:25
 enum-known-parsed-2 : tie.Need-enum-known-parsed-2
 enum-known-parsed-2 c = search needs
 
--- src/strings.rt:17:1
 returns : tie.Need-returns
 returns c = string-there (c .before .before .before .before .before .before .before .before .before .before .before .args .s .now) (c .before .before .before .before .before .before .before .parsed .given .0 .0) (sym (c .before .before .before .before .before .before .before .before .before .parse .ensures) ∙ ap parseAnswer (c .before .before .before .before .before .before .before .parsed .given .1)) (c .before .before .before .before .before .before .before .before .before .before .before .args .offset) (c .before .read .given .0 .0) (c .before .read .given .0 .1 .0) (sym (c .before .before .before .read-text .ensures) ∙ c .before .read .given .1)
 
--- src/strings.rt:17:1
 returns-2 : tie.Need-returns-2
 returns-2 c = string-absent (c .before .before .before .before .before .before .before .before .before .before .args .s .now) (c .before .before .before .before .before .before .parsed .given .0 .0) (sym (c .before .before .before .before .before .before .before .before .parse .ensures) ∙ ap parseAnswer (c .before .before .before .before .before .before .parsed .given .1)) (c .before .before .before .before .before .before .before .before .before .before .args .offset) (sym (c .before .before .read-text .ensures) ∙ c .enum-told .given .1)
 
--- src/strings.rt:17:1
 returns-3 : tie.Need-returns-3
 returns-3 c = string-refused (c .before .before .before .before .before .args .s .now) _ (sym (c .before .before .before .parse .ensures) ∙ ap parseAnswer (c .before .parsed2 .given .1)) (c .before .before .before .before .before .args .offset)
 

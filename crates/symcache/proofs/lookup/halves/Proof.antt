@@ -1,0 +1,43 @@
+-- `halves` meets its contract. The invariant is `search`'s: what is left of the search ends where all of it does.
+use native.Mathlib.Omega.{arith}
+use mathlib.Core.Path.{_≡_, refl, _∙_}
+use Prim.Native.Nat.{_≤_, _+_}
+use Rattle.symcache.specs.Lookup.{searchIn}
+use Rattle.symcache.specs.Reader.{startAt}
+use Rattle.symcache.proofs.SearchLaws.{half-turn}
+use Rattle.symcache.proofs.lookup.halves.Statement.{statement}
+use Rattle.symcache.proofs.lookup.halves.Tie as tie
+
+abbrev Inv-loop : tie.InvT-loop
+Inv-loop s ranges n addr base₀ size₀ base size = (1 ≤ size) × (base + size ≤ n) × (searchIn (startAt s ranges) addr size base size ≡ searchIn (startAt s ranges) addr n 0 n)
+
+abbrev μ-loop : tie.MeasureT-loop
+μ-loop s ranges n addr base₀ size₀ base size = size
+
+loop-holds : tie.Need-loop-holds Inv-loop μ-loop
+loop-holds c = (omega arith, omega arith, refl)
+
+half-of-requires : tie.Need-half-of-requires Inv-loop μ-loop
+half-of-requires c κs = omega arith
+
+add-base : tie.Need-add-base Inv-loop μ-loop
+add-base c = omega (arith, c .half-of .ensures .1)
+
+sub-size : tie.Need-sub-size Inv-loop μ-loop
+sub-size c = omega arith
+
+loop-less : tie.Need-loop-less Inv-loop μ-loop
+loop-less c = omega arith
+
+loop-again : tie.Need-loop-again Inv-loop μ-loop
+loop-again c =
+    let a = c .before .before .before .before .args in
+    let l = c .before .before .loop in
+    let f = startAt (a .s .now) (a .ranges) in
+    (omega arith, omega (arith, c .half-of .ensures .1), rw (c .half-of .ensures .0) (half-turn f (a .addr) (l .base) (l .size) (omega arith) ∙ l .inv .2))
+
+returns : tie.Need-returns Inv-loop μ-loop
+returns c = let l = c .before .loop in (l .inv .0, omega arith, l .inv .1, l .inv .2)
+
+pub halves-spec : {M : Type 1} → statement M
+halves-spec = tie.close (tie.spec Inv-loop μ-loop loop-holds half-of-requires add-base sub-size loop-less loop-again returns)
