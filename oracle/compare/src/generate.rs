@@ -87,9 +87,9 @@ fn less(r: &mut Random) -> Room {
     Room::Less(1 + if r.one_in(2) { 0 } else { r.below(80) as usize })
 }
 
-/// Many roots over wide windows.
+/// Many roots over wide windows; one in ten so wide that its file has more than the 1,024 ranges from which on a search halves.
 fn large(r: &mut Random) -> (Begin, Vec<Call>) {
-    let span = r.within(100, 500);
+    let span = if r.one_in(10) { r.within(30_000, 90_000) } else { r.within(100, 500) };
     let (begin, mut calls) = good_list_of(r, Symbols::Any, span);
     for _ in 0..r.below(8) {
         mutate(r, &mut calls);
