@@ -9,7 +9,7 @@ use lib.Seq.{length-sets}
 use Rattle.model.specs.Rows.{MAX, Text}
 use Rattle.model.specs.Converter.{Setup, Six, input, function-name, symbol-name, line-texts, entry-of}
 use Rattle.raw.specs.declared.SourceLocation.{SourceLocation}
-use Rattle.tables.specs.Table.{Left, rowAt, sameRow, insertOf, insertAt, bucketOf, bucketIn, headAt, lookupOf, capacityOf}
+use Rattle.tables.specs.Table.{Left, rowAt, sameRow, insertOf, insertAt, bucketOf, bucketIn, headAt, newestOf, lookupOf, capacityOf}
 use Rattle.tables.specs.Ranges.{rangeRow, putOf, putAt, replaceOf}
 use Rattle.tables.specs.Strings.{StringsLeft, textSize, storedText, textCapacityOf, textRow, findText, insertTextOf, insertTextAt, storeOf, indexOf}
 use Rattle.tables.specs.declared.Row.{Row}
@@ -30,9 +30,8 @@ pub insert-long : (w : ℕ) (t : List ℕ) (n : ℕ) (q : Row) → length (inser
 unfolding insertOf insertAt
 insert-long w t n q =
     let cap = capacityOf (length t) in
-    let h = bucketIn w t q in
     either (λ (x : Left Inserted). length (x .table)) (length t) (ltb (lookupOf w t n q) n) refl
-    (either (λ (x : Left Inserted). length (x .table)) (length t) (ltb n cap) (length-append cap t n q (headAt cap t h) h) refl)
+    (either (λ (x : Left Inserted). length (x .table)) (length t) (ltb n cap) (length-append cap t n q (newestOf w t q) (bucketIn w t q)) refl)
 
 replace-long : (t : List ℕ) (i : ℕ) (q : Row) → length (replaceOf t i q .table) ≡ length t
 unfolding replaceOf

@@ -10,7 +10,7 @@ use native.Mathlib.Nat.{zero-add}
 use lib.Dec.{eqb, ltb}
 use lib.ListN.{length, getD, replicate, length-replicate}
 use borrow.Author.Tests.{eqb-true, eqb-false, lt-ltb, le-ltb, ltb-true, ltb-false}
-use Rattle.tables.specs.Table.{rowAt, headAt, hitAt, keyOf, hashOf, bucketIn, capacityOf, lookupOf, appendOf, overOf, insertAt, insertOf, left, inserted, Left}
+use Rattle.tables.specs.Table.{rowAt, hitAt, keyOf, hashOf, bucketIn, capacityOf, newestOf, lookupOf, appendOf, overOf, insertAt, insertOf, left, inserted, Left}
 use Rattle.tables.specs.Plain.{rowsOf, sameKey, keyHash, intern, internAll, indicesIn, insertAll, indicesOf, Holds}
 use Rattle.tables.specs.declared.Row.{Row}
 use Rattle.tables.specs.declared.Inserted.{Inserted}
@@ -39,7 +39,7 @@ module _ (w : ℕ) (t : List ℕ) (n : ℕ) (rows : List Row) (q : Row) (H : Hol
   hit-is i = refl
 
   pub looked : Look hit n (lookupOf w t n q)
-  unfolding lookupOf
+  unfolding lookupOf newestOf
   looked =
       look (keyHash w) (capacityOf (length t)) n t (H .chained) hit (keyHash w q)
       (λ i e. ap (λ (k : Row). hashOf k) (same-eq (keyOf w (rowAt t i)) (keyOf w q) (sym (hit-is i) ∙ e)))
@@ -64,12 +64,13 @@ module _ (w : ℕ) (t : List ℕ) (n : ℕ) (rows : List Row) (q : Row) (H : Hol
 
   -- the table with one more row
   abbrev pub more : List ℕ
-  more = appendOf (capacityOf (length t)) t n q (headAt (capacityOf (length t)) t (bucketIn w t q)) (bucketIn w t q)
+  more = appendOf (capacityOf (length t)) t n q (newestOf w t q) (bucketIn w t q)
 
   pub long-more : length more ≡ length t
-  long-more = length-append (capacityOf (length t)) t n q (headAt (capacityOf (length t)) t (bucketIn w t q)) (bucketIn w t q)
+  long-more = length-append (capacityOf (length t)) t n q (newestOf w t q) (bucketIn w t q)
 
   pub holds-more : n < capacityOf (length t) → ((i : ℕ) → i < n → hit i ≡ false) → Holds w more (n + 1) (rows ++ (q ∷ []))
+  unfolding newestOf
   holds-more r m = record {
     same = rows-stored (keyHash w) (capacityOf (length t)) n t q (H .chained) r fits ∙ ap (λ (x : List Row). x ++ (q ∷ [])) (H .same);
     room = rw long-more (omega arith);
@@ -147,7 +148,7 @@ pub stays : (w : ℕ) (t : List ℕ) (n : ℕ) (q : Row) → capacityOf (length 
 unfolding insertOf insertAt
 stays w t n q h = go (ltb (lookupOf w t n q) n)
   where
-    go : (b : Bool) → Stays t n (cond b (left (inserted (lookupOf w t n q) n) t) (cond (ltb n (capacityOf (length t))) (left (inserted (lookupOf w t n q) (n + 1)) (appendOf (capacityOf (length t)) t n q (headAt (capacityOf (length t)) t (bucketIn w t q)) (bucketIn w t q))) (left (inserted (lookupOf w t n q) (overOf n (capacityOf (length t)))) t)))
+    go : (b : Bool) → Stays t n (cond b (left (inserted (lookupOf w t n q) n) t) (cond (ltb n (capacityOf (length t))) (left (inserted (lookupOf w t n q) (n + 1)) (appendOf (capacityOf (length t)) t n q (newestOf w t q) (bucketIn w t q))) (left (inserted (lookupOf w t n q) (overOf n (capacityOf (length t)))) t)))
     go true = record { count = refl; table = refl }
     go false = rw (le-ltb n (capacityOf (length t)) (omega arith)) (record { count = over-above n (capacityOf (length t)) h; table = refl })
 

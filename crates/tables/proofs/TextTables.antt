@@ -18,7 +18,7 @@ use Rattle.text.specs.Texts.{text-part}
 use Rattle.text.proofs.Leb128Laws.{decoded-past}
 use Rattle.text.proofs.TextLaws.{stored-bytes, part-stored, part-absent, absent-prefix}
 use Rattle.tables.specs.Table.{rowAt, capacityOf, overOf, sameWords}
-use Rattle.tables.specs.Strings.{textCapacityOf, storedText, textSize, textHash, textRow, isText, textAt, findText, indexOf, fullOf, storeOf, insertTextAt, insertTextOf, StringsLeft, stringsLeft, stored}
+use Rattle.tables.specs.Strings.{textCapacityOf, storedText, textSize, textHash, textRow, isText, textAt, newestText, findText, indexOf, fullOf, storeOf, insertTextAt, insertTextOf, StringsLeft, stringsLeft, stored}
 use Rattle.tables.specs.Plain.{intern, rowsOf, rowsFrom, Chained}
 use Rattle.tables.specs.PlainTexts.{textBytes, textOffset, section, withText, offsetIn, withTexts, offsetsIn, insertTexts, offsetsOf, textRows, rowHash, Texts}
 use Rattle.tables.specs.declared.Row.{Row}
@@ -85,7 +85,7 @@ module _ (text strings : List ℕ) (bytes count : ℕ) (ts : List Text) (T : Tex
   hashed t i e = eqb-true _ _ (and-first _ _ e)
 
   looked : (t : Text) → Look (textAt text strings t) count (findText text strings count t)
-  unfolding findText
+  unfolding findText newestText
   looked t = look rowHash (capacityOf (length strings)) count strings (T .chained) (textAt text strings t) (textHash t) (hashed t)
 
   at-found : (t : Text) (i : ℕ) → i < count → textAt text strings t i ≡ true → intern sameWords ts t ≡ record { index = i; table = ts }

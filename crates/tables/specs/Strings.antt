@@ -72,7 +72,7 @@ newestText strings t = headAt (capacityOf (length strings)) strings (bucketOf (t
 
 -- the number of the row whose text is t among the first n; n where there is none
 unfoldable pub findText : List ℕ → List ℕ → ℕ → List ℕ → ℕ
-findText text strings n t = walk (linkAt strings) (textAt text strings t) n n (headAt (capacityOf (length strings)) strings (bucketOf (textHash t) (capacityOf (length strings))))
+findText text strings n t = walk (linkAt strings) (textAt text strings t) n n (newestText strings t)
 
 -- row n, at the head of its hash's bucket
 unfoldable pub indexOf : ℕ → List ℕ → ℕ → Row → List ℕ

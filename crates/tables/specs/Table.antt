@@ -96,7 +96,7 @@ newestOf w t q = headAt (capacityOf (length t)) t (bucketIn w t q)
 
 -- the number of the row with q's key among the first n; n where there is none
 unfoldable pub lookupOf : ℕ → List ℕ → ℕ → Row → ℕ
-lookupOf w t n q = walk (linkAt t) (hitAt t w (keyOf w q)) n n (headAt (capacityOf (length t)) t (bucketIn w t q))
+lookupOf w t n q = walk (linkAt t) (hitAt t w (keyOf w q)) n n (newestOf w t q)
 
 -- ── Inserting ──────────────────────────────────────────────────────────────────────────────────────────────────────────
 
@@ -119,4 +119,4 @@ insertAt t n q cap h l i =
 
 -- `IndexSet::insert_full`: the number of the row with q's key, which is appended where there is none
 unfoldable pub insertOf : ℕ → List ℕ → ℕ → Row → Left Inserted
-insertOf w t n q = insertAt t n q (capacityOf (length t)) (bucketIn w t q) (headAt (capacityOf (length t)) t (bucketIn w t q)) (lookupOf w t n q)
+insertOf w t n q = insertAt t n q (capacityOf (length t)) (bucketIn w t q) (newestOf w t q) (lookupOf w t n q)

@@ -254,10 +254,8 @@ fn newest(t: &[u32], row: Row, width: u32) -> u32
 fn lookup(t: &[u32], n: u32, row: Row, width: u32) -> u32
     ensures { λ r. ⌜ r ≡ lookupOf width (now (t .entry)) n row ⌝ }
 {
-    let k = key(row, width);
-    let cap = capacity(t);
-    let h = bucket(hash(k), cap);
-    find(t, n, head_at(t, cap, h), k, width)
+    let l = newest(t, row, width);
+    find(t, n, l, key(row, width), width)
 }
 
 // The number of the row with the key of `row`, which is appended where there is none. With no room nothing is written, and the count is capacity + 1.

@@ -5,36 +5,28 @@ use crate::scratch::word;
 use crate::tree::entry_pc;
 use tables::Row;
 
-// The newest row in the bucket of each name, as a link.
-fn links(
+// The newest row in the bucket of a function's name, as a link.
+fn name_link(
+    undecorate: bool,
     strings: &[u32],
     s: &mut [u32],
     functions64: &[u64],
     functions32: &[u32],
     text: &[u8],
-    undecorate: bool,
-    n: u32,
+    i: u32,
 ) {
-    let mut i: u32 = 0;
-    while i < n {
-        let k = (i as usize) * 4;
-        let q = rows::function_row(functions64, functions32, i as usize);
-        let name = steps::shown_name(rows::part(text, q.name), undecorate);
-        set_word(s, k, tables::strings::newest(strings, name));
-        i += 1;
-    }
+    let k = (i as usize) * 4;
+    let q = rows::function_row(functions64, functions32, i as usize);
+    let name = steps::shown_name(rows::part(text, q.name), undecorate);
+    set_word(s, k, tables::strings::newest(strings, name));
 }
 
-// The same for the range that starts at each function's address.
-fn range_links(ranges: &[u32], s: &mut [u32], functions64: &[u64], functions32: &[u32], n: u32) {
-    let mut i: u32 = 0;
-    while i < n {
-        let k = (i as usize) * 4 + 1;
-        let q = rows::function_row(functions64, functions32, i as usize);
-        let address = (q.address % 4294967296) as u32;
-        set_word(s, k, tables::ranges::newest(ranges, address));
-        i += 1;
-    }
+// The same for the range that starts at its address.
+fn range_link(ranges: &[u32], s: &mut [u32], functions64: &[u64], functions32: &[u32], i: u32) {
+    let k = (i as usize) * 4 + 1;
+    let q = rows::function_row(functions64, functions32, i as usize);
+    let address = (q.address % 4294967296) as u32;
+    set_word(s, k, tables::ranges::newest(ranges, address));
 }
 
 // The row that a link names; row 0 where it names none.
@@ -45,16 +37,12 @@ fn linked(t: &[u32], link: u32) -> Row {
     tables::row_at(t, link - 1)
 }
 
-// The offset of each name, and where its bytes begin.
-fn offsets(strings: &[u32], s: &mut [u32], n: u32) {
-    let mut i: u32 = 0;
-    while i < n {
-        let k = (i as usize) * 4;
-        let row = linked(strings, word(s, k));
-        set_word(s, k, row.a);
-        set_word(s, k + 2, row.b);
-        i += 1;
-    }
+// The offset of the name, and where its bytes begin.
+fn name_row(strings: &[u32], s: &mut [u32], i: u32) {
+    let k = (i as usize) * 4;
+    let row = linked(strings, word(s, k));
+    set_word(s, k, row.a);
+    set_word(s, k + 2, row.b);
 }
 
 fn wide(b: u8) -> u32 {
@@ -69,50 +57,62 @@ fn byte(string_bytes: &[u8], at: usize) -> u32 {
     0
 }
 
-// The first byte of each name, and one that lies 60 bytes on.
-fn bytes(string_bytes: &[u8], s: &mut [u32], n: u32) {
-    let mut i: u32 = 0;
-    while i < n {
-        let k = (i as usize) * 4 + 2;
-        let at = word(s, k) as usize;
-        set_word(s, k, byte(string_bytes, at) ^ byte(string_bytes, at + 60));
-        i += 1;
-    }
+// The first byte of the name, and one that lies 60 bytes on.
+fn name_bytes(string_bytes: &[u8], s: &mut [u32], i: u32) {
+    let k = (i as usize) * 4 + 2;
+    let at = word(s, k) as usize;
+    set_word(s, k, byte(string_bytes, at) ^ byte(string_bytes, at + 60));
 }
 
-// The newest row in the bucket of each function, as a link.
-fn functions_of(
+// The newest row in the bucket of the function, as a link.
+fn function_link(
     functions: &[u32],
     s: &mut [u32],
     functions64: &[u64],
     functions32: &[u32],
-    n: u32,
+    i: u32,
 ) {
-    let mut i: u32 = 0;
-    while i < n {
-        let k = (i as usize) * 4;
-        let q = rows::function_row(functions64, functions32, i as usize);
-        let row = Row {
-            a: word(s, k),
-            b: 4294967295,
-            c: entry_pc(q),
-            d: q.language,
-            e: 0,
-            f: 0,
-        };
-        set_word(s, k, tables::index_set::newest(functions, row));
-        i += 1;
-    }
+    let k = (i as usize) * 4;
+    let q = rows::function_row(functions64, functions32, i as usize);
+    let row = Row {
+        a: word(s, k),
+        b: 4294967295,
+        c: entry_pc(q),
+        d: q.language,
+        e: 0,
+        f: 0,
+    };
+    set_word(s, k, tables::index_set::newest(functions, row));
 }
 
-// A word of each function's row.
-fn function_rows(functions: &[u32], s: &mut [u32], n: u32) {
-    let mut i: u32 = 0;
-    while i < n {
-        let k = (i as usize) * 4;
-        let row = linked(functions, word(s, k));
-        set_word(s, k, row.a);
-        i += 1;
+// A word of the function's row.
+fn function_word(functions: &[u32], s: &mut [u32], i: u32) {
+    let k = (i as usize) * 4;
+    let row = linked(functions, word(s, k));
+    set_word(s, k, row.a);
+}
+
+// A step for function i. Later steps go on from what earlier ones left in scratch memory.
+fn look(
+    step: u32,
+    undecorate: bool,
+    string_bytes: &[u8],
+    strings: &[u32],
+    functions: &[u32],
+    ranges: &[u32],
+    s: &mut [u32],
+    functions64: &[u64],
+    functions32: &[u32],
+    text: &[u8],
+    i: u32,
+) {
+    match step {
+        0 => name_link(undecorate, strings, s, functions64, functions32, text, i),
+        1 => range_link(ranges, s, functions64, functions32, i),
+        2 => name_row(strings, s, i),
+        3 => name_bytes(string_bytes, s, i),
+        4 => function_link(functions, s, functions64, functions32, i),
+        _ => function_word(functions, s, i),
     }
 }
 
@@ -124,6 +124,7 @@ fn few(n: usize) -> u32 {
     8
 }
 
+// Six steps, each for all of these functions.
 pub(crate) fn read_ahead(
     undecorate: bool,
     string_bytes: &[u8],
@@ -136,10 +137,25 @@ pub(crate) fn read_ahead(
     text: &[u8],
 ) {
     let n = few(functions64.len() / 2);
-    links(strings, s, functions64, functions32, text, undecorate, n);
-    range_links(ranges, s, functions64, functions32, n);
-    offsets(strings, s, n);
-    bytes(string_bytes, s, n);
-    functions_of(functions, s, functions64, functions32, n);
-    function_rows(functions, s, n);
+    let mut step: u32 = 0;
+    while step < 6 {
+        let mut i: u32 = 0;
+        while i < n {
+            look(
+                step,
+                undecorate,
+                string_bytes,
+                strings,
+                functions,
+                ranges,
+                s,
+                functions64,
+                functions32,
+                text,
+                i,
+            );
+            i += 1;
+        }
+        step += 1;
+    }
 }

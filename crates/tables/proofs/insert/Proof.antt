@@ -5,7 +5,7 @@ use native.Mathlib.Omega.{arith}
 use lib.ListN.{length}
 use borrow.Author.Needs.{needs}
 use borrow.Author.Tests.{lt-ltb, le-ltb}
-use Rattle.tables.specs.Table.{walk, linkAt, headAt, hitAt, keyOf, hashOf, bucketOf, capacityOf, lookupOf, appendOf, overOf, insertAt, insertOf, left, inserted}
+use Rattle.tables.specs.Table.{walk, linkAt, headAt, hitAt, keyOf, hashOf, bucketOf, capacityOf, newestOf, lookupOf, appendOf, overOf, insertAt, insertOf, left, inserted}
 use Rattle.tables.specs.declared.Row.{Row}
 use Rattle.tables.proofs.Room.{cap-most}
 use Rattle.tables.proofs.insert.Statement.{statement}
@@ -13,7 +13,7 @@ use Rattle.tables.proofs.insert.Tie as tie
 
 module _ (w : ℕ) (t : List ℕ) (n : ℕ) (q : Row) {k : Row} {cap x h l i : ℕ} (e2 : cap ≡ capacityOf (length t)) (e1 : k ≡ keyOf w q) (e6 : x ≡ hashOf k) (e3 : h ≡ bucketOf x cap) (e4 : l ≡ headAt cap t h) (e5 : i ≡ walk (linkAt t) (hitAt t w k) n n l) where
   at-law : insertAt t n q cap h l i ≡ insertOf w t n q
-  unfolding insertOf lookupOf
+  unfolding insertOf lookupOf newestOf
   at-law = rw (e5, e4, e3, e6, e2, e1)
 
   found : i < n → left (inserted i n) t ≡ insertOf w t n q

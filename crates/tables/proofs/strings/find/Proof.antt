@@ -4,13 +4,13 @@ use mathlib.Core.List.{List}
 use lib.ListN.{length}
 use borrow.Author.Needs.{needs}
 use Rattle.tables.specs.Table.{linkAt, headAt, capacityOf, bucketOf, walk}
-use Rattle.tables.specs.Strings.{textHash, textAt, findText}
+use Rattle.tables.specs.Strings.{textHash, textAt, newestText, findText}
 use Rattle.tables.proofs.strings.find.Statement.{statement}
 use Rattle.tables.proofs.strings.find.Tie as tie
 
 law : (text strings : List ℕ) (n : ℕ) (t : List ℕ) {hash cap h l i : ℕ} → hash ≡ textHash t → cap ≡ capacityOf (length strings) → h ≡ bucketOf hash cap → l ≡ headAt cap strings h
     → i ≡ walk (linkAt strings) (textAt text strings t) n n l → i ≡ findText text strings n t
-unfolding findText
+unfolding findText newestText
 law text strings n t e1 e2 e3 e4 e5 = rw (e5, e4, e3, e2, e1)
 
 capacity-requires : tie.Need-capacity-requires
