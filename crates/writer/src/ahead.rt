@@ -116,6 +116,39 @@ fn look(
     }
 }
 
+// A step for each of the first n functions.
+fn look_at_all(
+    step: u32,
+    undecorate: bool,
+    string_bytes: &[u8],
+    strings: &[u32],
+    functions: &[u32],
+    ranges: &[u32],
+    s: &mut [u32],
+    functions64: &[u64],
+    functions32: &[u32],
+    text: &[u8],
+    n: u32,
+) {
+    let mut i: u32 = 0;
+    while i < n {
+        look(
+            step,
+            undecorate,
+            string_bytes,
+            strings,
+            functions,
+            ranges,
+            s,
+            functions64,
+            functions32,
+            text,
+            i,
+        );
+        i += 1;
+    }
+}
+
 // At most eight functions are read ahead.
 fn few(n: usize) -> u32 {
     if n < 8 {
@@ -139,23 +172,19 @@ pub(crate) fn read_ahead(
     let n = few(functions64.len() / 2);
     let mut step: u32 = 0;
     while step < 6 {
-        let mut i: u32 = 0;
-        while i < n {
-            look(
-                step,
-                undecorate,
-                string_bytes,
-                strings,
-                functions,
-                ranges,
-                s,
-                functions64,
-                functions32,
-                text,
-                i,
-            );
-            i += 1;
-        }
+        look_at_all(
+            step,
+            undecorate,
+            string_bytes,
+            strings,
+            functions,
+            ranges,
+            s,
+            functions64,
+            functions32,
+            text,
+            n,
+        );
         step += 1;
     }
 }
