@@ -31,35 +31,27 @@ less k m e = mod-lt (placed k m) (omega (arith, e))
 product : (k m : ℕ) → k < 4294967296 → m < 4294967296 → k / 512 * m ≤ 8388608 * 4294967296
 product k m p q = let h : k / 512 * m ≤ 8388608 * m = mul-le-mul-right m (omega arith) in omega (arith, h)
 
--- src/lib.rt:137:9
 returns : tie.Need-returns
 returns c = none (c .before .args .hash) (c .before .args .cap) (c .if1 .taken)
 
--- src/lib.rt:140:14
 mul-at : tie.Need-mul-at
 mul-at c = let p = product (c .before .args .hash) (c .before .args .cap) (omega arith) (omega arith) in omega (arith, p)
 
--- src/lib.rt:140:14
 add-at : tie.Need-add-at
 add-at c = let p = product (c .before .args .hash) (c .before .args .cap) (omega arith) (omega arith) in omega (arith, p)
 
--- src/lib.rt:142:16
 cast-result : tie.Need-cast-result
 cast-result c = search needs
 
--- src/lib.rt:142:9
 returns-2 : tie.Need-returns-2
 returns-2 c = below (c .before .before .args .hash) (c .before .before .args .cap) (c .before .if1 .left) (c .if2 .taken)
 
--- src/lib.rt:144:6
 rem-result : tie.Need-rem-result
 rem-result c = search needs
 
--- src/lib.rt:144:5
 cast-result-2 : tie.Need-cast-result-2
 cast-result-2 c = let p = less (c .before .before .args .hash) (c .before .before .args .cap) (c .before .if1 .left) in omega (arith, p)
 
--- src/lib.rt:133:1
 returns-3 : tie.Need-returns-3
 returns-3 c = some (c .before .before .args .hash) (c .before .before .args .cap) (c .before .if1 .left)
 
