@@ -124,7 +124,7 @@ fn convert(what: &str, rows: &[Vec<Row>]) -> Made {
         let each = whole.times.iter().zip(&tenths.times).map(|(w, t)| (w[i] + w[i + 1]) / (t[i] + t[i + 1]));
         least_median(each.collect()).1
     });
-    println!("{what}: time of the whole over that of its tenths: {:.2} and {:.2}", growth[0], growth[1]);
+    println!("{what}: time of the whole over that of its tenths: {:.3} and {:.3}", growth[0], growth[1]);
     Made { ratio: whole.over(ratio).1, growth, file: whole.ours }
 }
 
@@ -229,5 +229,5 @@ fn main() {
     println!("shuffled-ratio {:.2}", shuffled.ratio);
     println!("lookup-ratio {:.2}", worse(0));
     println!("walk-ratio {:.2}", worse(2));
-    println!("growth-ratio {growth:.2}");
+    println!("growth-ratio {growth:.3}");
 }
