@@ -1,6 +1,6 @@
 -- `search` meets its contract. The invariant: what is left of the search ends where all of it does.
 use native.Mathlib.Omega.{arith}
-use mathlib.Core.Path.{_≡_, refl, sym, _∙_}
+use mathlib.Core.Path.{_≡_, sym, _∙_}
 use Prim.Native.Nat.{_≤_, _+_, _*_, _/_}
 use Rattle.symcache.specs.Lookup.{searchIn}
 use Rattle.symcache.specs.Reader.{startAt}

@@ -1,6 +1,6 @@
 -- `walk` meets its contract: only the first location is tested for the empty mapping.
 use native.Mathlib.Omega.{arith}
-use mathlib.Core.Path.{sym, _∙_}
+use mathlib.Core.Path.{_∙_}
 use Rattle.symcache.proofs.SearchLaws.{found-inside}
 use Rattle.symcache.proofs.LookupLaws.{walk-nowhere, walk-tested}
 use borrow.Author.Needs.{needs}
