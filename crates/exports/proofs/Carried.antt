@@ -25,11 +25,11 @@ use Rattle.steps.specs.declared.Converter.{Converter}
 use Rattle.writer.specs.Calls.{Called, called, setup, words-of, usable?, finished, beginOf, rows-converted, treeOf, symbolOf}
 use Rattle.symbols.specs.Symbols.{symbolRow}
 use Rattle.line_rows.specs.Calls.{LinesCalled, unpackRoom?, linesOf}
-use Rattle.words.proofs.StoreLaws.{sets-at}
-use Rattle.words.specs.Words.{stored, yes, flagOf}
-use Rattle.words.specs.Record.{lastOf, idOf, stateOf, converterOf, lastWords, idWords, countWords, switchWords, wordsOf, Bytes, IdFits}
+use Rattle.c_words.proofs.StoreLaws.{sets-at}
+use Rattle.c_words.specs.Words.{stored, yes, flagOf}
+use Rattle.c_words.specs.Record.{lastOf, idOf, stateOf, converterOf, lastWords, idWords, countWords, switchWords, wordsOf, Bytes, IdFits}
 use Rattle.exports.specs.Writing.{leaves, beginCall, treeCall, linesCall, symbolCall}
-use Rattle.words.specs.Record.{kept}
+use Rattle.c_words.specs.Record.{kept}
 
 -- ── Bytes ──────────────────────────────────────────────────────────────────────────────────────────────────────────────
 

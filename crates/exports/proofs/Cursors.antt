@@ -20,14 +20,14 @@ use Rattle.symcache.specs.Answers.{Answer, gives, refuses, only, refuseIf, andT
 use Rattle.symcache.specs.Reader.{layoutOf, parsed, startAt, ascending, opened}
 use Rattle.symcache.specs.Lookup.{foundAt, walkAt, lookedUp, stepped}
 use Rattle.symcache.proofs.ReaderLaws.{parsed-within}
-use Rattle.reads.specs.Shown.{Shown, ends, goes}
-use Rattle.reads.specs.Shown.{Walked as PlainWalked, Found as PlainFound}
-use Rattle.words.specs.Words.{stored}
-use Rattle.words.specs.Record.{Bytes}
-use Rattle.words.specs.Reading.{filled, answered, stepsTo, cacheWords, cacheOf, cached, openCall, findCall, walkWords, walkOf, walkCall, lookupCall, frameWords, nextCall, indexOf}
+use Rattle.read_back.specs.Shown.{Shown, ends, goes}
+use Rattle.read_back.specs.Shown.{Walked as PlainWalked, Found as PlainFound}
+use Rattle.c_words.specs.Words.{stored}
+use Rattle.c_words.specs.Record.{Bytes}
+use Rattle.c_words.specs.Reading.{filled, answered, stepsTo, cacheWords, cacheOf, cached, openCall, findCall, walkWords, walkOf, walkCall, lookupCall, frameWords, nextCall, indexOf}
 use Rattle.exports.specs.Walks.{Walked, Found}
 use Rattle.exports.specs.Walks as words
-use Rattle.words.proofs.StoreLaws.{sets-at}
+use Rattle.c_words.proofs.StoreLaws.{sets-at}
 use Rattle.exports.proofs.Carried.{byte-below}
 
 -- ── Cursors ────────────────────────────────────────────────────────────────────────────────────────────────────────────

@@ -18,13 +18,13 @@ use Rattle.symbols.specs.Symbols.{symbolRow}
 use Rattle.unpacked.specs.Lines.{lineColumns}
 use Rattle.line_rows.specs.Calls.{linesOf}
 use Rattle.serialize.specs.File.{serializeOf}
-use Rattle.reopened.specs.Lists.{Call, tree, lines-tree, symbol, write, givenTree, Standing as PlainStanding, next as plain-next, run as plain-run, begun as plain-begun}
-use Rattle.reopened.specs.Demand3.{Reopened}
-use Rattle.reopened.proofs.Claim.{demand3}
-use Rattle.words.specs.Words.{yes}
-use Rattle.words.specs.Record.{converterOf, Bytes}
+use Rattle.demand3.specs.Lists.{Call, tree, lines-tree, symbol, write, givenTree, Standing as PlainStanding, next as plain-next, run as plain-run, begun as plain-begun}
+use Rattle.demand3.specs.Demand3.{Reopened}
+use Rattle.demand3.proofs.Claim.{demand3}
+use Rattle.c_words.specs.Words.{yes}
+use Rattle.c_words.specs.Record.{converterOf, Bytes}
 use Rattle.exports.specs.Writing.{beginCall, treeCall, linesCall, symbolCall, serializeCall}
-use Rattle.words.specs.Record.{lenWords}
+use Rattle.c_words.specs.Record.{lenWords}
 use Rattle.exports.specs.Lists.{Standing, next, run, begun, ExportedDemand3}
 use Rattle.exports.proofs.Carried.{tree-carried, lines-carried, symbol-carried, begin-carried}
 

@@ -18,9 +18,9 @@ use Rattle.symcache.specs.Answers.{Answer, gives, refuses, Refusal, refuseIf, a
 use Rattle.symcache.specs.Reader.{tested, parsed}
 use Rattle.symcache.specs.Lookup.{functionIn, gotFunction}
 use Rattle.symcache.specs.Strings.{Part, sectionOf, placed, gotString, orElse, textOr, nameIn, nameOf}
-use Rattle.words.specs.Words.{stored}
-use Rattle.words.specs.Reading.{answered, partWords, nameAfter, gotName, nameCall, nameBytes}
-use Rattle.words.proofs.StoreLaws.{sets-at}
+use Rattle.c_words.specs.Words.{stored}
+use Rattle.c_words.specs.Reading.{answered, partWords, nameAfter, gotName, nameCall, nameBytes}
+use Rattle.c_words.proofs.StoreLaws.{sets-at}
 
 -- ── No refusal has number 0 ────────────────────────────────────────────────────────────────────────────────────────────
 

@@ -11,9 +11,9 @@ use Rattle.symcache.specs.Lookup.{countIn, searchIn, foundAmong, usable, foundI
 use Rattle.symcache.proofs.Worked.{worked}
 use Rattle.steps.specs.Words.{memory}
 use Rattle.writer.specs.Calls.{beginOf}
-use Rattle.words.specs.Record.{wordsOf}
+use Rattle.c_words.specs.Record.{wordsOf}
 use Rattle.exports.specs.Writing.{left, beginCall}
-use Rattle.words.specs.Reading.{filled, moved, answered, stepsTo, refused, cached, parseCall, openCall, walkOf, lookupCall, nextCall}
+use Rattle.c_words.specs.Reading.{filled, moved, answered, stepsTo, refused, cached, parseCall, openCall, walkOf, lookupCall, nextCall}
 
 -- a beginning: the debug id 01 02, arch 5, names of functions undecorated; the record's words after it
 pub worked-begun : beginCall (replicate 21 7) (1 ∷ 2 ∷ []) 5 3 0 (memory (7 ∷ []) [] [] [] [] (7 ∷ 7 ∷ []))

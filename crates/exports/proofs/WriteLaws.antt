@@ -15,10 +15,10 @@ use Rattle.steps.specs.Words.{Memory}
 use Rattle.steps.specs.declared.Converter.{Converter}
 use Rattle.writer.specs.Calls.{Called, called, beginOf, treeOf, symbolOf}
 use Rattle.serialize.specs.File.{Wrote, wrote, serializeOf}
-use Rattle.words.specs.Words.{stored, yes}
-use Rattle.words.specs.Record.{converterOf, wordsOf}
+use Rattle.c_words.specs.Words.{stored, yes}
+use Rattle.c_words.specs.Record.{converterOf, wordsOf}
 use Rattle.exports.specs.Writing.{Left, left, leaves, beginCall, treeCall, nameAt, symbolCall, LeftFile, leftFile, serializeCall}
-use Rattle.words.specs.Record.{kept, lenWords}
+use Rattle.c_words.specs.Record.{kept, lenWords}
 
 pub id-bytes : (s : List ℕ) (h : Header) → h ≡ headerAt s 0 → h .«debug_id» ≡ bytesAt 32 s 0
 unfolding headerAt

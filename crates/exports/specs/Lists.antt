@@ -11,10 +11,10 @@ use Rattle.model.specs.Rows.{MAX, Given, symbol-row}
 use Rattle.symbols.specs.Symbols.{symbolRow}
 use Rattle.steps.specs.Words.{Memory}
 use Rattle.unpacked.specs.Lines.{lineColumns}
-use Rattle.reopened.specs.Lists.{Call, tree, lines-tree, symbol, write, givenTree, Typed}
-use Rattle.reopened.specs.Demand3.{Reopened}
-use Rattle.words.specs.Words.{yes}
-use Rattle.words.specs.Record.{Bytes}
+use Rattle.demand3.specs.Lists.{Call, tree, lines-tree, symbol, write, givenTree, Typed}
+use Rattle.demand3.specs.Demand3.{Reopened}
+use Rattle.c_words.specs.Words.{yes}
+use Rattle.c_words.specs.Record.{Bytes}
 use Rattle.exports.specs.Writing.{Left, beginCall, treeCall, linesCall, symbolCall, LeftFile, serializeCall}
 
 -- where a list stands: the record's words and the tables as the call before left them, and the calls accepted since the beginning

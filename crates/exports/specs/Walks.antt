@@ -4,9 +4,9 @@ use Prim.Native.Nat.{ℕ}
 use mathlib.Core.Path.{_≡_}
 use mathlib.Core.List.{List, [], _∷_, map}
 use Rattle.symcache.specs.declared.lookup.Frame.{Frame}
-use Rattle.reads.specs.Shown.{Shown, shown}
-use Rattle.words.specs.Words.{stored}
-use Rattle.words.specs.Reading.{filled, moved, frameWords, lookupCall, nextCall}
+use Rattle.read_back.specs.Shown.{Shown, shown}
+use Rattle.c_words.specs.Words.{stored}
+use Rattle.c_words.specs.Reading.{filled, moved, frameWords, lookupCall, nextCall}
 
 -- `symcache_next` from the cursor k on stores these frames one by one, and then the end; every call answers 0
 pub data Walked (s : List ℕ) : List ℕ → List ℕ → List Frame → Type 0 where

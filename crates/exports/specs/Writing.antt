@@ -13,8 +13,8 @@ use Rattle.steps.specs.declared.Converter.{Converter}
 use Rattle.writer.specs.Calls.{Called, beginOf, treeOf, symbolOf}
 use Rattle.line_rows.specs.Calls.{LinesCalled, linesOf}
 use Rattle.serialize.specs.File.{Wrote, serializeOf}
-use Rattle.words.specs.Words.{stored, yes}
-use Rattle.words.specs.Record.{converterOf, wordsOf, kept, lenWords}
+use Rattle.c_words.specs.Words.{stored, yes}
+use Rattle.c_words.specs.Record.{converterOf, wordsOf, kept, lenWords}
 
 -- what a call leaves: document 01's number, the record's words, the six tables, scratch
 pub record Left : Type 0 where

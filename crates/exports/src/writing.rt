@@ -7,11 +7,11 @@ ghost use Rattle.steps.specs.Words.{memory};
 ghost use Rattle.exports.specs.Writing.{left, beginCall, treeCall, nameAt, symbolCall, leftFile, serializeCall};
 use rows::OptionalPart;
 use rows::TextPart;
-use words::file::put_len;
-use words::record::load;
-use words::record::store;
-use words::record::store_answer;
-use words::slices::is_set;
+use c_words::file::put_len;
+use c_words::record::load;
+use c_words::record::store;
+use c_words::record::store_answer;
+use c_words::slices::is_set;
 
 // The first 32 bytes, zeros past the end: a header row begins with its debug id.
 fn debug_id_of(bytes: &[u8]) -> [u8; 32]

@@ -22,9 +22,9 @@ use Rattle.rows.proofs.RowLaws.{lineAt-address, lineAt-boundaries}
 use Rattle.steps.specs.declared.State.{State}
 use Rattle.steps.specs.Words.{Words, words, no-part, sixOf, locate-six, over-words}
 use Rattle.steps.proofs.RowTexts.{dirPart, locate-is}
-use Rattle.loops.specs.Scratch.{pairsAt, refsAt, turned, turn, Lined}
-use Rattle.loops.proofs.Walks.{turn-past, turn-last, turn-stops, turn-takes, Stopped}
-use Rattle.loops.proofs.Lines.{Outer, line-skipped, line-done, ended}
+use Rattle.scratch.specs.Scratch.{pairsAt, refsAt, turned, turn, Lined}
+use Rattle.scratch.proofs.Walks.{turn-past, turn-last, turn-stops, turn-takes, Stopped}
+use Rattle.scratch.proofs.Lines.{Outer, line-skipped, line-done, ended}
 use Rattle.writer.specs.Walk.{cursor}
 use Rattle.writer.specs.declared.lines.Current.{Current}
 

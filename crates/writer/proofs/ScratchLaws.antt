@@ -15,9 +15,9 @@ use Rattle.rows.specs.declared.LineRow.{LineRow as LineStruct}
 use Rattle.rows.specs.declared.Boundaries.{Boundaries}
 use Rattle.rows.specs.Columns.{Columns, functionRows, functionStruct, lineStruct, boundariesOf}
 use Rattle.rows.specs.Refusals.{firstLine}
-use Rattle.loops.specs.Scratch.{two32, setCalls, line-spans, kid-spans}
-use Rattle.loops.proofs.Rows.{first-line}
-use Rattle.loops.proofs.Gathered.{Pushed, pushed-more, Gathering, gathered, gather-deeper, gather-here, spans-end, spans-none}
+use Rattle.scratch.specs.Scratch.{two32, setCalls, line-spans, kid-spans}
+use Rattle.scratch.proofs.Rows.{first-line}
+use Rattle.scratch.proofs.Gathered.{Pushed, pushed-more, Gathering, gathered, gather-deeper, gather-here, spans-end, spans-none}
 
 -- the four words of a depth's call locations
 pub calls-stored : (s s₁ s₂ s₃ s₄ : List ℕ) (d start len : ℕ)

@@ -21,12 +21,12 @@ use Rattle.rows.proofs.RowLaws.{functionAt-lines, functionAt-skipped}
 use Rattle.rows.proofs.Accepted.{Accepted}
 use Rattle.steps.specs.Words.{Words, put-range, location, begin-named, over-words}
 use Rattle.steps.proofs.RowTexts.{begin-is}
-use Rattle.loops.specs.Scratch.{pairsAt, ref-of, refsAt, startAt, lenAt, setCalls, callsOf, topOf, kid-spans, LinesWithin, Lined, RowDone}
-use Rattle.loops.proofs.Pairs.{pairs-kept}
-use Rattle.loops.proofs.Rows.{first-line}
-use Rattle.loops.proofs.Visits.{row-empty, row-skipped, row-visited, calls-root, calls-none, calls-some, visited, passed-over}
-use Rattle.loops.proofs.Gathered.{spans-text, sorted-pairs, sorted-kept}
-use Rattle.loops.proofs.Tree.{Rowing, depth-low, room-fits, next}
+use Rattle.scratch.specs.Scratch.{pairsAt, ref-of, refsAt, startAt, lenAt, setCalls, callsOf, topOf, kid-spans, LinesWithin, Lined, RowDone}
+use Rattle.scratch.proofs.Pairs.{pairs-kept}
+use Rattle.scratch.proofs.Rows.{first-line}
+use Rattle.scratch.proofs.Visits.{row-empty, row-skipped, row-visited, calls-root, calls-none, calls-some, visited, passed-over}
+use Rattle.scratch.proofs.Gathered.{spans-text, sorted-pairs, sorted-kept}
+use Rattle.scratch.proofs.Tree.{Rowing, depth-low, room-fits, next}
 use Rattle.writer.specs.Walk.{OwnCalls, Sorted, row-spans, RowReady, RowLeft, ref}
 
 -- ── What is read of a row ──

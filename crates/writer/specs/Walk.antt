@@ -10,7 +10,7 @@ use Rattle.model.specs.Converter.{Setup, input}
 use Rattle.rows.specs.Columns.{Columns, functionRows, functionStruct, functionAt}
 use Rattle.rows.specs.Refusals.{firstLine}
 use Rattle.steps.specs.Words.{Words, over-words}
-use Rattle.loops.specs.Scratch.{pairsAt, refsAt, callsOf, topOf, kid-spans, LinesWithin, RowDone}
+use Rattle.scratch.specs.Scratch.{pairsAt, refsAt, callsOf, topOf, kid-spans, LinesWithin, RowDone}
 
 -- ── Call locations ──
 

@@ -17,7 +17,7 @@ ghost use Rattle.model.specs.Machine.{advanceM, loopM};
 ghost use Rattle.model.specs.Converter.{Setup, input};
 ghost use Rattle.rows.specs.Columns.{columns, functionRow, functionAt, linesFrom};
 ghost use Rattle.steps.specs.Words.{words, put-range, over-words};
-ghost use Rattle.loops.specs.Scratch.{pairsAt, refsAt, turned, turn, Lined};
+ghost use Rattle.scratch.specs.Scratch.{pairsAt, refsAt, turned, turn, Lined};
 ghost use Rattle.writer.specs.Walk.{cursor};
 
 // Where the walk over the call locations stands: the current one, and how many of those after it are passed.

@@ -9,7 +9,7 @@ ghost use lib.Seq.{sets};
 ghost use Rattle.sorting.specs.Pairs.{pairWords};
 ghost use Rattle.rows.specs.Columns.{columns};
 ghost use Rattle.rows.specs.Refusals.{firstLine};
-ghost use Rattle.loops.specs.Scratch.{startAt, lenAt, setCalls, line-spans, kid-spans, LinesWithin};
+ghost use Rattle.scratch.specs.Scratch.{startAt, lenAt, setCalls, line-spans, kid-spans, LinesWithin};
 
 // The word at j, 0 past the end.
 pub(crate) fn word(s: &[u32], j: usize) -> u32

@@ -27,7 +27,7 @@ ghost use Rattle.model.specs.Converter.{Setup, input, deep};
 ghost use Rattle.rows.specs.Columns.{columns, functionRow, functionAt, textOf, treeRows};
 ghost use Rattle.rows.specs.Refusals.{firstLine, refusalOf};
 ghost use Rattle.steps.specs.Words.{words, gave, begin-named, over-words};
-ghost use Rattle.loops.specs.Scratch.{refsAt, callsOf, topOf, kid-spans, LinesWithin};
+ghost use Rattle.scratch.specs.Scratch.{refsAt, callsOf, topOf, kid-spans, LinesWithin};
 ghost use Rattle.writer.specs.Walk.{OwnCalls, Sorted, RowReady, RowLeft, ref};
 ghost use Rattle.symbols.specs.Symbols.{switches};
 

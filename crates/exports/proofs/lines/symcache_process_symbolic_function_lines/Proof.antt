@@ -57,9 +57,9 @@ use Rattle.line_rows.proofs.process_function_lines as process
 use Rattle.line_rows.proofs.process_function_lines.Symbol as process-def
 use Rattle.line_rows.proofs.process_function_lines.Symbol.{name as #line-rows·process-function-lines}
 use Rattle.line_rows.proofs.process_function_lines.Met as process-thm
-use Rattle.words.specs.Record.{converterOf}
+use Rattle.c_words.specs.Record.{converterOf}
 use Rattle.exports.specs.Writing.{left, linesLeft, linesCall}
-use Rattle.words.specs.Record.{kept}
+use Rattle.c_words.specs.Record.{kept}
 use Rattle.exports.proofs.LinesLaws.{lines-stored}
 use Rattle.exports.proofs.lines.read_record as read-record
 use Rattle.exports.proofs.lines.read_record.Symbol as read-record-def

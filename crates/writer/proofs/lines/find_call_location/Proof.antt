@@ -4,8 +4,8 @@ use mathlib.Core.Path.{_≡_, refl, sym, ap, _∙_}
 use native.Mathlib.Omega.{arith}
 use borrow.Author.Needs.{needs}
 use Rattle.model.specs.Machine.{advanceM}
-use Rattle.loops.specs.Scratch.{refsAt}
-use Rattle.loops.proofs.Lines.{cursor-end, cursor-stays, cursor-moves}
+use Rattle.scratch.specs.Scratch.{refsAt}
+use Rattle.scratch.proofs.Lines.{cursor-end, cursor-stays, cursor-moves}
 use Rattle.writer.proofs.lines.find_call_location.Statement.{statement}
 use Rattle.writer.proofs.lines.find_call_location.Tie as tie
 

@@ -11,9 +11,9 @@ use borrow.Author.Needs.{needs}
 use Rattle.model.specs.Converter.{Setup, input}
 use Rattle.rows.specs.Columns.{columns, functionRow, functionAt}
 use Rattle.steps.specs.Words.{words, over-words}
-use Rattle.loops.specs.Scratch.{turned}
-use Rattle.loops.proofs.Walks.{Inner, begins, turn-less, turn-more, turn-done}
-use Rattle.loops.proofs.Lines.{starts}
+use Rattle.scratch.specs.Scratch.{turned}
+use Rattle.scratch.proofs.Walks.{Inner, begins, turn-less, turn-more, turn-done}
+use Rattle.scratch.proofs.Lines.{starts}
 use Rattle.symbols.specs.Symbols.{switches}
 use Rattle.writer.proofs.LineLaws.{falls-more, dir-is, lines-low, Goes, goes-same, line-passed, line-walked, lines-ended}
 use Rattle.writer.proofs.lines.process_lines.Statement.{statement}

@@ -6,7 +6,7 @@ use native.Mathlib.Omega.{arith}
 use lib.ListN.{length}
 use borrow.Author.Needs.{needs}
 use Rattle.rows.specs.Columns.{columns}
-use Rattle.loops.proofs.Gathered.{Pushed, pushed-none, pushed-all}
+use Rattle.scratch.proofs.Gathered.{Pushed, pushed-none, pushed-all}
 use Rattle.writer.proofs.ScratchLaws.{line-pushed}
 use Rattle.writer.proofs.scratch.push_lines.Statement.{statement}
 use Rattle.writer.proofs.scratch.push_lines.Tie as tie

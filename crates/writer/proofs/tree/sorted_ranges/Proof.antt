@@ -1,7 +1,7 @@
 -- `sorted_ranges` meets its contract: the part of scratch that is lent to `sort_pairs` is the words of the inlinee ranges.
 use mathlib.Core.List.{[]}
 use Rattle.rows.specs.Columns.{columns}
-use Rattle.loops.specs.Scratch.{kid-spans}
+use Rattle.scratch.specs.Scratch.{kid-spans}
 use Rattle.writer.proofs.TreeLaws.{ranges-sorted}
 use borrow.Author.Needs.{needs}
 use Rattle.writer.proofs.tree.sorted_ranges.Statement.{statement}

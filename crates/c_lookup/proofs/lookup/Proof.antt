@@ -1,0 +1,26 @@
+-- `lookup` meets its contract: what `lookup` gives, as words.
+use mathlib.Core.Path.{ap, _∙_}
+use Rattle.symcache.specs.declared.lookup.SourceLocations.{SourceLocations}
+use Rattle.symcache.specs.Answers.{Answer}
+use Rattle.c_words.specs.Reading.{answered, walkWords, lookupCall}
+use borrow.Author.Needs.{needs}
+use Rattle.c_lookup.proofs.lookup.Statement.{statement}
+use Rattle.c_lookup.proofs.lookup.Tie as tie
+
+lookup-requires : tie.Need-lookup-requires
+lookup-requires c κs = search needs
+
+put-looked-up-requires : tie.Need-put-looked-up-requires
+put-looked-up-requires c κs = search needs
+
+same-length : tie.Need-same-length
+same-length c = search needs
+
+returns : tie.Need-returns
+unfolding lookupCall
+returns c = let a = c .before .before .before .before .before .before .before .args in
+    (c .before .before .put-looked-up .ensures) ∙ ap (λ (o : Answer SourceLocations). answered walkWords o (a .cursor .now)) (c .before .before .before .lookup .ensures)
+
+pub lookup-spec : {M : Type 1} → statement M
+lookup-spec =
+    tie.close (tie.spec lookup-requires put-looked-up-requires same-length returns)

@@ -1,0 +1,36 @@
+-- `next` meets its contract: the next one, as words, and the cursor after it.
+use mathlib.Core.Path.{ap, _∙_}
+use mathlib.Core.Option.{Option}
+use Prim.Native.Nat.{ℕ}
+use Rattle.symcache.specs.declared.lookup.SourceLocations.{SourceLocations}
+use Rattle.symcache.specs.Answers.{Answer, Framed}
+use Rattle.symcache.specs.Lookup.{stepped}
+use Rattle.c_words.specs.Reading.{stepsTo, framedNext, framedWords, nextCall}
+use borrow.Author.Needs.{needs}
+use Rattle.c_lookup.proofs.next.Statement.{statement}
+use Rattle.c_lookup.proofs.next.Tie as tie
+
+walk-of-requires : tie.Need-walk-of-requires
+walk-of-requires c κs = search needs
+
+next-requires : tie.Need-next-requires
+next-requires c κs = search needs
+
+put-step-requires : tie.Need-put-step-requires
+put-step-requires c κs = search needs
+
+same-length : tie.Need-same-length
+same-length c = search needs
+
+same-length-2 : tie.Need-same-length-2
+same-length-2 c = search needs
+
+returns : tie.Need-returns
+unfolding nextCall
+returns c = let a = c .before .before .before .before .before .before .before .before .before .before .before .before .before .args in
+    (c .before .before .before .before .put-step .ensures) ∙ ap (λ (o : Answer (Option Framed)). stepsTo framedNext framedWords o (a .cursor .now) (a .frame .now)) ((c .before .before .before .before .before .next .ensures) ∙ ap (λ (k : SourceLocations). stepped (a .bytes .now) k) (c .before .before .before .before .before .before .before .before .walk-of .ensures))
+
+pub next-spec : {M : Type 1} → statement M
+next-spec =
+    tie.close
+    (tie.spec walk-of-requires next-requires put-step-requires same-length same-length-2 returns)

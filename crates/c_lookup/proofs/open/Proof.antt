@@ -1,0 +1,25 @@
+-- `open` meets its contract: what `open` gives, as words.
+use mathlib.Core.Path.{ap, _∙_}
+use Rattle.symcache.specs.declared.SymCache.{SymCache}
+use Rattle.symcache.specs.Answers.{Answer}
+use Rattle.c_words.specs.Reading.{cached, openCall}
+use borrow.Author.Needs.{needs}
+use Rattle.c_lookup.proofs.open.Statement.{statement}
+use Rattle.c_lookup.proofs.open.Tie as tie
+
+open-requires : tie.Need-open-requires
+open-requires c κs = search needs
+
+put-parsed-requires : tie.Need-put-parsed-requires
+put-parsed-requires c κs = search needs
+
+same-length : tie.Need-same-length
+same-length c = search needs
+
+returns : tie.Need-returns
+unfolding openCall
+returns c = let a = c .before .before .before .before .before .before .before .args in
+    (c .before .before .put-parsed .ensures) ∙ ap (λ (o : Answer SymCache). cached o (a .cache .now)) (c .before .before .before .«open» .ensures)
+
+pub open-spec : {M : Type 1} → statement M
+open-spec = tie.close (tie.spec open-requires put-parsed-requires same-length returns)

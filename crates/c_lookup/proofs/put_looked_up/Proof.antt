@@ -1,0 +1,43 @@
+-- `put_looked_up` meets its contract: by what the lookup gave.
+use mathlib.Core.Path.{ap}
+use Rattle.symcache.specs.Answers.{refusalOf, lookupAnswer}
+use Rattle.c_words.specs.Reading.{walkWords}
+use Rattle.c_words.proofs.ReadLaws.{given, declined}
+use borrow.Author.Needs.{needs}
+use Rattle.c_lookup.proofs.put_looked_up.Statement.{statement}
+use Rattle.c_lookup.proofs.put_looked_up.Tie as tie
+
+enum-known-found : tie.Need-enum-known-found
+enum-known-found c = search needs
+
+put-walk-requires : tie.Need-put-walk-requires
+put-walk-requires c κs = search needs
+
+enum-known-found-2 : tie.Need-enum-known-found-2
+enum-known-found-2 c = search needs
+
+number-requires : tie.Need-number-requires
+number-requires c κs = search needs
+
+same-length : tie.Need-same-length
+same-length c = search needs
+
+returns : tie.Need-returns
+returns c = let a = c .before .before .before .before .before .before .before .before .args in
+    given walkWords (lookupAnswer (a .found)) (c .before .before .before .before .before .found .given .0 .0) (a .cursor .now) (ap lookupAnswer (c .before .before .before .before .before .found .given .1)) (c .before .before .put-walk .ensures)
+
+returns-2 : tie.Need-returns-2
+returns-2 c = let a = c .before .before .before .before .before .args in
+    declined walkWords (lookupAnswer (a .found)) (refusalOf (c .before .before .found2 .given .0 .0)) (c .number .result) (a .cursor .now) (ap lookupAnswer (c .before .before .found2 .given .1)) (c .number .ensures)
+
+pub put-looked-up-spec : {M : Type 1} → statement M
+put-looked-up-spec =
+    tie.close
+    (tie.spec
+    enum-known-found
+    put-walk-requires
+    enum-known-found-2
+    number-requires
+    same-length
+    returns
+    returns-2)

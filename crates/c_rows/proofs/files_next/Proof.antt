@@ -1,0 +1,42 @@
+-- `files_next` meets its contract: the next one, as words, and the cursor after it.
+use mathlib.Core.Path.{ap, _∙_}
+use mathlib.Core.Option.{Option}
+use Prim.Native.Nat.{ℕ}
+use Rattle.symcache.specs.declared.lookup.SourceLocations.{SourceLocations}
+use Rattle.symcache.specs.Answers.{Answer, NextFile}
+use Rattle.symcache.specs.Lookup.{filesNext}
+use Rattle.c_words.specs.Reading.{stepsTo, fileNext, nextFileWords, filesCall}
+use borrow.Author.Needs.{needs}
+use Rattle.c_rows.proofs.files_next.Statement.{statement}
+use Rattle.c_rows.proofs.files_next.Tie as tie
+
+index-of-requires : tie.Need-index-of-requires
+index-of-requires c κs = search needs
+
+next-requires : tie.Need-next-requires
+next-requires c κs = search needs
+
+put-file-step-requires : tie.Need-put-file-step-requires
+put-file-step-requires c κs = search needs
+
+same-length : tie.Need-same-length
+same-length c = search needs
+
+same-length-2 : tie.Need-same-length-2
+same-length-2 c = search needs
+
+returns : tie.Need-returns
+unfolding filesCall
+returns c = let a = c .before .before .before .before .before .before .before .before .before .before .before .before .before .args in
+    (c .before .before .before .before .put-file-step .ensures) ∙ ap (λ (o : Answer (Option NextFile)). stepsTo fileNext nextFileWords o (a .cursor .now) (a .row .now)) ((c .before .before .before .before .before .next .ensures) ∙ ap (λ (i : ℕ). filesNext (a .bytes .now) (record { «file_idx» = i })) (c .before .before .before .before .before .before .before .before .index-of .ensures))
+
+pub files-next-spec : {M : Type 1} → statement M
+files-next-spec =
+    tie.close
+    (tie.spec
+    index-of-requires
+    next-requires
+    put-file-step-requires
+    same-length
+    same-length-2
+    returns)

@@ -1,0 +1,27 @@
+-- `function_name` meets its contract: where the name lies, as words.
+use mathlib.Core.Path.{ap, _∙_}
+use mathlib.Core.Option.{Option}
+use Rattle.symcache.specs.Answers.{Answer}
+use Rattle.symcache.specs.Strings.{Part}
+use Rattle.c_words.specs.Reading.{answered, partWords, nameCall}
+use borrow.Author.Needs.{needs}
+use Rattle.c_rows.proofs.function_name.Statement.{statement}
+use Rattle.c_rows.proofs.function_name.Tie as tie
+
+name-of-requires : tie.Need-name-of-requires
+name-of-requires c κs = search needs
+
+put-string-requires : tie.Need-put-string-requires
+put-string-requires c κs = search needs
+
+same-length : tie.Need-same-length
+same-length c = search needs
+
+returns : tie.Need-returns
+unfolding nameCall
+returns c = let a = c .before .before .before .before .before .before .before .args in
+    (c .before .before .put-string .ensures) ∙ ap (λ (o : Answer (Option Part)). answered partWords o (a .part .now)) (c .before .before .before .name-of .ensures)
+
+pub function-name-spec : {M : Type 1} → statement M
+function-name-spec =
+    tie.close (tie.spec name-of-requires put-string-requires same-length returns)

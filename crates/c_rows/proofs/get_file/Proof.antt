@@ -1,0 +1,27 @@
+-- `get_file` meets its contract: what `get_file` gives, as words.
+use mathlib.Core.Path.{ap, _∙_}
+use mathlib.Core.Option.{Option}
+use Rattle.symcache.specs.Answers.{Answer}
+use Rattle.raw.specs.declared.File.{File}
+use Rattle.c_words.specs.Reading.{answered, fileRow, fileCall}
+use borrow.Author.Needs.{needs}
+use Rattle.c_rows.proofs.get_file.Statement.{statement}
+use Rattle.c_rows.proofs.get_file.Tie as tie
+
+get-file-requires : tie.Need-get-file-requires
+get-file-requires c κs = search needs
+
+put-got-file-requires : tie.Need-put-got-file-requires
+put-got-file-requires c κs = search needs
+
+same-length : tie.Need-same-length
+same-length c = search needs
+
+returns : tie.Need-returns
+unfolding fileCall
+returns c = let a = c .before .before .before .before .before .before .before .args in
+    (c .before .before .put-got-file .ensures) ∙ ap (λ (o : Answer (Option File)). answered fileRow o (a .row .now)) (c .before .before .before .get-file .ensures)
+
+pub get-file-spec : {M : Type 1} → statement M
+get-file-spec =
+    tie.close (tie.spec get-file-requires put-got-file-requires same-length returns)

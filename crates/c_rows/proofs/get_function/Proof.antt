@@ -1,0 +1,27 @@
+-- `get_function` meets its contract: what `get_function` gives, as words.
+use mathlib.Core.Path.{ap, _∙_}
+use mathlib.Core.Option.{Option}
+use Rattle.symcache.specs.Answers.{Answer}
+use Rattle.raw.specs.declared.Function.{Function}
+use Rattle.c_words.specs.Reading.{answered, functionRow, functionCall}
+use borrow.Author.Needs.{needs}
+use Rattle.c_rows.proofs.get_function.Statement.{statement}
+use Rattle.c_rows.proofs.get_function.Tie as tie
+
+get-function-requires : tie.Need-get-function-requires
+get-function-requires c κs = search needs
+
+put-got-function-requires : tie.Need-put-got-function-requires
+put-got-function-requires c κs = search needs
+
+same-length : tie.Need-same-length
+same-length c = search needs
+
+returns : tie.Need-returns
+unfolding functionCall
+returns c = let a = c .before .before .before .before .before .before .before .args in
+    (c .before .before .put-got-function .ensures) ∙ ap (λ (o : Answer (Option Function)). answered functionRow o (a .row .now)) (c .before .before .before .get-function .ensures)
+
+pub get-function-spec : {M : Type 1} → statement M
+get-function-spec =
+    tie.close (tie.spec get-function-requires put-got-function-requires same-length returns)

@@ -1,0 +1,27 @@
+-- `read_string` meets its contract: what `read_string` gives, as words.
+use mathlib.Core.Path.{ap, _∙_}
+use mathlib.Core.Option.{Option}
+use Rattle.symcache.specs.Answers.{Answer}
+use Rattle.symcache.specs.Strings.{Part}
+use Rattle.c_words.specs.Reading.{answered, partWords, stringCall}
+use borrow.Author.Needs.{needs}
+use Rattle.c_rows.proofs.read_string.Statement.{statement}
+use Rattle.c_rows.proofs.read_string.Tie as tie
+
+read-string-requires : tie.Need-read-string-requires
+read-string-requires c κs = search needs
+
+put-string-requires : tie.Need-put-string-requires
+put-string-requires c κs = search needs
+
+same-length : tie.Need-same-length
+same-length c = search needs
+
+returns : tie.Need-returns
+unfolding stringCall
+returns c = let a = c .before .before .before .before .before .before .before .args in
+    (c .before .before .put-string .ensures) ∙ ap (λ (o : Answer (Option Part)). answered partWords o (a .part .now)) (c .before .before .before .read-string .ensures)
+
+pub read-string-spec : {M : Type 1} → statement M
+read-string-spec =
+    tie.close (tie.spec read-string-requires put-string-requires same-length returns)

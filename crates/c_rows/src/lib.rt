@@ -1,0 +1,178 @@
+// Texts, names, rows and the two iterators of the reader over words. The exported functions of these names pass on what these answer.
+ghost use mathlib.Core.Path.{_≡_};
+ghost use Rattle.symcache.specs.Answers.{fileAnswer, functionAnswer, functionsAnswer, filesAnswer};
+ghost use Rattle.symcache.specs.Strings.{stringAnswer};
+ghost use Rattle.c_words.specs.Reading.{filled, moved, answered, stepsTo, partWords, stringCall, gotName, nameCall, functionRow, fileRow, functionCall, fileCall, indexOf, nextFunctionWords, functionNext, functionsCall, nextFileWords, fileNext, filesCall};
+use symcache::lookup::FileStep;
+use symcache::lookup::Files;
+use symcache::lookup::FunctionStep;
+use symcache::lookup::Functions;
+use symcache::lookup::GotFile;
+use symcache::lookup::GotFunction;
+use symcache::strings::GotString;
+use c_words::rows::put_file;
+use c_words::rows::put_function;
+use c_words::slices::put;
+use c_words::slices::put64;
+use c_words::slices::word;
+
+fn put_string(part: &mut [u64], string: GotString) -> u32
+    ensures { λ r. ⌜ filled r (now (part .exit)) ≡ answered partWords (stringAnswer string) (now (part .entry)) ⌝ }
+{
+    match string {
+        GotString::At { start, len } => {
+            put64(part, 0, 1);
+            put64(part, 1, start as u64);
+            put64(part, 2, len as u64);
+            0
+        }
+        GotString::Absent => {
+            put64(part, 0, 0);
+            0
+        }
+        GotString::Refused(kind) => kind.number(),
+    }
+}
+
+// Resolves a string reference: 1 to 11, or 0 and where the text lies.
+pub fn read_string(bytes: &[u8], offset: u32, part: &mut [u64]) -> u32
+    ensures { λ r. ⌜ filled r (now (part .exit)) ≡ stringCall (now (bytes .entry)) offset (now (part .entry)) ⌝ }
+{
+    put_string(part, symcache::strings::read_string(bytes, offset))
+}
+
+fn name_of(bytes: &[u8], function_idx: u32) -> GotString
+    ensures { λ r. ⌜ stringAnswer r ≡ gotName (now (bytes .entry)) «function_idx» ⌝ }
+{
+    let function = symcache::lookup::get_function(bytes, function_idx);
+    match function {
+        GotFunction::Function(f) => symcache::strings::read_string(bytes, f.name_offset),
+        GotFunction::Nothing => GotString::Absent,
+        GotFunction::Refused(kind) => GotString::Refused(kind),
+    }
+}
+
+// The name of a function: 1 to 11, or 0 and where it lies. Absent means the stand-in.
+pub fn function_name(bytes: &[u8], function_idx: u32, part: &mut [u64]) -> u32
+    ensures { λ r. ⌜ filled r (now (part .exit)) ≡ nameCall (now (bytes .entry)) «function_idx» (now (part .entry)) ⌝ }
+{
+    put_string(part, name_of(bytes, function_idx))
+}
+
+fn put_got_function(row: &mut [u32], function: GotFunction) -> u32
+    ensures { λ r. ⌜ filled r (now (row .exit)) ≡ answered functionRow (functionAnswer function) (now (row .entry)) ⌝ }
+{
+    match function {
+        GotFunction::Function(f) => {
+            put(row, 0, 1);
+            put_function(row, 1, f);
+            0
+        }
+        GotFunction::Nothing => {
+            put(row, 0, 0);
+            0
+        }
+        GotFunction::Refused(kind) => kind.number(),
+    }
+}
+
+pub fn get_function(bytes: &[u8], function_idx: u32, row: &mut [u32]) -> u32
+    ensures { λ r. ⌜ filled r (now (row .exit)) ≡ functionCall (now (bytes .entry)) «function_idx» (now (row .entry)) ⌝ }
+{
+    put_got_function(row, symcache::lookup::get_function(bytes, function_idx))
+}
+
+fn put_got_file(row: &mut [u32], file: GotFile) -> u32
+    ensures { λ r. ⌜ filled r (now (row .exit)) ≡ answered fileRow (fileAnswer file) (now (row .entry)) ⌝ }
+{
+    match file {
+        GotFile::File(f) => {
+            put(row, 0, 1);
+            put_file(row, 1, f);
+            0
+        }
+        GotFile::Nothing => {
+            put(row, 0, 0);
+            0
+        }
+        GotFile::Refused(kind) => kind.number(),
+    }
+}
+
+pub fn get_file(bytes: &[u8], file_idx: u32, row: &mut [u32]) -> u32
+    ensures { λ r. ⌜ filled r (now (row .exit)) ≡ fileCall (now (bytes .entry)) «file_idx» (now (row .entry)) ⌝ }
+{
+    put_got_file(row, symcache::lookup::get_file(bytes, file_idx))
+}
+
+// The index from which on to look; a cursor of no words is at the end.
+fn index_of(cursor: &[u32]) -> u32
+    ensures { λ r. ⌜ r ≡ indexOf (now (cursor .entry)) ⌝ }
+{
+    if cursor.len() == 0 {
+        return 4294967295;
+    }
+    word(cursor, 0)
+}
+
+fn put_function_step(cursor: &mut [u32], row: &mut [u32], step: FunctionStep) -> u32
+    ensures { λ r. ⌜ moved r (now (cursor .exit)) (now (row .exit)) ≡ stepsTo functionNext nextFunctionWords (functionsAnswer step) (now (cursor .entry)) (now (row .entry)) ⌝ }
+{
+    match step {
+        FunctionStep::Function {
+            index,
+            function,
+            next,
+        } => {
+            put(cursor, 0, next.function_idx);
+            put(row, 0, 1);
+            put(row, 1, index);
+            put_function(row, 2, function);
+            0
+        }
+        FunctionStep::End => {
+            put(row, 0, 0);
+            0
+        }
+        FunctionStep::Refused(kind) => kind.number(),
+    }
+}
+
+// The next function that has an entry, from the cursor on.
+pub fn functions_next(bytes: &[u8], cursor: &mut [u32], row: &mut [u32]) -> u32
+    ensures { λ r. ⌜ moved r (now (cursor .exit)) (now (row .exit)) ≡ functionsCall (now (bytes .entry)) (now (cursor .entry)) (now (row .entry)) ⌝ }
+{
+    let functions = Functions {
+        function_idx: index_of(cursor),
+    };
+    put_function_step(cursor, row, functions.next(bytes))
+}
+
+fn put_file_step(cursor: &mut [u32], row: &mut [u32], step: FileStep) -> u32
+    ensures { λ r. ⌜ moved r (now (cursor .exit)) (now (row .exit)) ≡ stepsTo fileNext nextFileWords (filesAnswer step) (now (cursor .entry)) (now (row .entry)) ⌝ }
+{
+    match step {
+        FileStep::File { index, file, next } => {
+            put(cursor, 0, next.file_idx);
+            put(row, 0, 1);
+            put(row, 1, index);
+            put_file(row, 2, file);
+            0
+        }
+        FileStep::End => {
+            put(row, 0, 0);
+            0
+        }
+        FileStep::Refused(kind) => kind.number(),
+    }
+}
+
+// The next file, from the cursor on.
+pub fn files_next(bytes: &[u8], cursor: &mut [u32], row: &mut [u32]) -> u32
+    ensures { λ r. ⌜ moved r (now (cursor .exit)) (now (row .exit)) ≡ filesCall (now (bytes .entry)) (now (cursor .entry)) (now (row .entry)) ⌝ }
+{
+    let files = Files {
+        file_idx: index_of(cursor),
+    };
+    put_file_step(cursor, row, files.next(bytes))
+}

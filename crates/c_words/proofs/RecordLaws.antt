@@ -1,0 +1,88 @@
+-- The record's words, read and stored.
+use Prim.Native.Nat.{ℕ, _+_, _*_}
+use mathlib.Core.Bool.{Bool, cond}
+use mathlib.Core.Path.{_≡_, refl, sym, ap, _∙_}
+use mathlib.Core.List.{List, [], _∷_, _++_}
+use lib.Dec.{eqb}
+use lib.ListN.{getD, set, replicate}
+use lib.Seq.{sets}
+use borrow.Author.Tests.{eq-eqb, ne-eqb}
+use Rattle.raw.specs.Bytes.{le, leAt, bytesAt, words}
+use Rattle.raw.specs.Rows.{rangeBytes, rangeAt}
+use Rattle.raw.specs.declared.Range.{Range}
+use Rattle.steps.specs.declared.LastAddr.{LastAddr}
+use Rattle.steps.specs.declared.LastAddr.the-variants.{Unset, Set}
+use Rattle.steps.specs.declared.State.{State}
+use Rattle.steps.specs.declared.Converter.{Converter}
+use Rattle.c_words.specs.Words.{stored, yes, flagOf}
+use Rattle.c_words.specs.Record.{lastOf, idOf, stateOf, converterOf, lastWords, idWords, countWords, switchWords, wordsOf}
+use Rattle.c_words.specs.Record.{kept, lenWords}
+
+-- ── Read ───────────────────────────────────────────────────────────────────────────────────────────────────────────────
+
+pub last-unset : (present a : ℕ) → present ≡ 0 → Unset ≡ lastOf present a
+last-unset present a e = sym (ap (λ (b : Bool). cond b Unset (Set a)) (eq-eqb present 0 e))
+
+pub last-set : (present a : ℕ) → (present ≡ 0 → ⊥) → Set a ≡ lastOf present a
+last-set present a n = sym (ap (λ (b : Bool). cond b Unset (Set a)) (ne-eqb present 0 n))
+
+pub word-bytes : (t : List ℕ) (k : ℕ) (r : List ℕ) (v : Range) {t₁ : List ℕ} → v .0 ≡ getD r k 0 → t₁ ≡ sets t (4 * k) (rangeBytes v) → t₁ ≡ sets t (4 * k) (le 4 (getD r k 0))
+unfolding rangeBytes words le
+word-bytes t k r v e h = h ∙ ap (λ (w : ℕ). sets t (4 * k) (le 4 w)) e
+
+pub id-read : (r : List ℕ) {t₁ t₂ t₃ t₄ t₅ t₆ t₇ t₈ : List ℕ} → t₁ ≡ sets (replicate 32 0) 0 (le 4 (getD r 0 0)) → t₂ ≡ sets t₁ 4 (le 4 (getD r 1 0))
+    → t₃ ≡ sets t₂ 8 (le 4 (getD r 2 0)) → t₄ ≡ sets t₃ 12 (le 4 (getD r 3 0)) → t₅ ≡ sets t₄ 16 (le 4 (getD r 4 0)) → t₆ ≡ sets t₅ 20 (le 4 (getD r 5 0))
+    → t₇ ≡ sets t₆ 24 (le 4 (getD r 6 0)) → t₈ ≡ sets t₇ 28 (le 4 (getD r 7 0)) → t₈ ≡ idOf r
+unfolding idOf words bytesAt le
+id-read r e₁ e₂ e₃ e₄ e₅ e₆ e₇ e₈ = rw (e₈, e₇, e₆, e₅, e₄, e₃, e₂, e₁)
+
+pub state-read : (r : List ℕ) {a b c d e f : ℕ} {l : LastAddr} {p q : ℕ} → a ≡ getD r 11 0 → b ≡ getD r 12 0 → c ≡ getD r 13 0 → d ≡ getD r 14 0 → e ≡ getD r 15 0 → f ≡ getD r 16 0
+    → p ≡ getD r 17 0 → q ≡ getD r 18 0 → l ≡ lastOf p q
+    → record { «string_bytes» = a; strings = b; files = c; functions = d; «call_locations» = e; ranges = f; «last_addr» = l } ≡ stateOf r
+unfolding stateOf
+state-read r ea eb ec ed ee ef ep eq el = rw (ea, eb, ec, ed, ee, ef, el, ep, eq)
+
+pub converter-read : (r : List ℕ) {i : List ℕ} {s : State} {a u v w : ℕ} {f g o : Bool} → i ≡ idOf r → s ≡ stateOf r → a ≡ getD r 8 0 → u ≡ getD r 9 0 → f ≡ yes u → v ≡ getD r 10 0 → g ≡ yes v
+    → w ≡ getD r 19 0 → o ≡ yes w
+    → record { «debug_id» = i; arch = a; «undecorate_functions» = f; «undecorate_symbols» = g; «open» = o; state = s } ≡ converterOf r
+unfolding converterOf
+converter-read r ei es ea eu ef ev eg ew eo = rw (ei, es, ea, ef, eg, eo, eu, ev, ew)
+
+-- ── Stored ─────────────────────────────────────────────────────────────────────────────────────────────────────────────
+
+pub word-of-id : (t : List ℕ) (k : ℕ) (b : List ℕ) (w : Range) {t₁ : List ℕ} → w ≡ rangeAt b (4 * k) → t₁ ≡ set t k (w .0) → t₁ ≡ set t k (leAt 4 b (4 * k))
+unfolding rangeAt
+word-of-id t k b w e h = h ∙ ap (λ (v : Range). set t k (v .0)) e
+
+last-then : (x : List ℕ) (l : LastAddr) (w : ℕ) → set (sets x 17 (lastWords l)) 19 w ≡ sets x 17 (lastWords l ++ (w ∷ []))
+last-then x Unset w = refl
+last-then x (Set a) w = refl
+
+pub record-stored : (t : List ℕ) (c : Converter) {t₁ t₂ t₃ t₄ t₅ : List ℕ} {w : ℕ} → t₁ ≡ stored (idWords (c .«debug_id»)) t → t₂ ≡ sets t₁ 8 (switchWords c)
+    → t₃ ≡ sets t₂ 11 (countWords (c .state)) → t₄ ≡ sets t₃ 17 (lastWords (c .state .«last_addr»)) → w ≡ flagOf (c .«open») → t₅ ≡ set t₄ 19 w → t₅ ≡ stored (wordsOf c) t
+unfolding wordsOf
+record-stored t c e₁ e₂ e₃ e₄ ew e₅ =
+    rw (e₅, ew, e₄, e₃, e₂, e₁)
+    (last-then (sets (sets (sets t 0 (idWords (c .«debug_id»))) 8 (switchWords c)) 11 (countWords (c .state))) (c .state .«last_addr») (flagOf (c .«open»)))
+
+-- "only accepted calls and 17 store it"
+pub kept-accepted : (n : ℕ) (c : Converter) (t : List ℕ) {t₁ : List ℕ} → n ≡ 0 → t₁ ≡ stored (wordsOf c) t → t₁ ≡ kept n c t
+unfolding kept
+kept-accepted n c t e h = rw (e, h)
+
+pub kept-closed : (n : ℕ) (c : Converter) (t : List ℕ) {t₁ : List ℕ} → n ≡ 17 → t₁ ≡ stored (wordsOf c) t → t₁ ≡ kept n c t
+unfolding kept
+kept-closed n c t e h = rw (e, h)
+
+pub kept-refused : (n : ℕ) (c : Converter) (t : List ℕ) → (n ≡ 0 → ⊥) → (n ≡ 17 → ⊥) → t ≡ kept n c t
+unfolding kept
+kept-refused n c t p q = rw (ne-eqb n 0 p, ne-eqb n 17 q)
+
+-- the length of a file
+pub len-given : (n len : ℕ) (l : List ℕ) {l₁ : List ℕ} → n ≡ 0 → l₁ ≡ set l 0 len → l₁ ≡ lenWords n len l
+unfolding lenWords
+len-given n len l e h = rw (e, h)
+
+pub len-kept : (n len : ℕ) (l : List ℕ) → (n ≡ 0 → ⊥) → l ≡ lenWords n len l
+unfolding lenWords
+len-kept n len l h = rw (ne-eqb n 0 h)

@@ -1,0 +1,163 @@
+// The converter's record as twenty words: the debug id in eight, four bytes a word, little-endian; arch; the two switches; what is in use of the six tables; the last end; whether it is open.
+ghost use mathlib.Core.Path.{_≡_};
+ghost use mathlib.Core.List.{[], _∷_};
+ghost use Prim.Native.Nat.{_*_, _≤_};
+ghost use lib.ListN.{getD, set};
+ghost use lib.Seq.{sets};
+ghost use Rattle.raw.specs.Bytes.{le, leAt};
+ghost use Rattle.c_words.specs.Words.{stored};
+ghost use Rattle.c_words.specs.Record.{lastOf, idOf, stateOf, converterOf, lastWords, idWords, countWords, switchWords, wordsOf, kept};
+use crate::slices::flag;
+use crate::slices::is_set;
+use crate::slices::put;
+use crate::slices::word;
+use raw::Range;
+use steps::Converter;
+use steps::LastAddr;
+use steps::State;
+
+// Reading it
+
+// Four bytes a word.
+fn debug_id(record: &[u32]) -> [u8; 32]
+    ensures { λ r. ⌜ r ≡ idOf (now («record» .entry)) ⌝ }
+{
+    let mut id = [0u8; 32];
+    put_word(&mut id, record, 0);
+    put_word(&mut id, record, 1);
+    put_word(&mut id, record, 2);
+    put_word(&mut id, record, 3);
+    put_word(&mut id, record, 4);
+    put_word(&mut id, record, 5);
+    put_word(&mut id, record, 6);
+    put_word(&mut id, record, 7);
+    id
+}
+
+// Word k of the record, as four bytes.
+fn put_word(id: &mut [u8], record: &[u32], k: u32)
+    ensures { λ _. ⌜ now (id .exit) ≡ sets (now (id .entry)) (4 * k) (le 4 (getD (now («record» .entry)) k 0)) ⌝ }
+{
+    let j = k as usize;
+    raw::write_range(id, 4 * j, Range(word(record, j)));
+}
+
+fn last_addr(is_some: u32, a: u32) -> LastAddr
+    ensures { λ r. ⌜ r ≡ lastOf «is_some» a ⌝ }
+{
+    if is_some == 0 {
+        return LastAddr::Unset;
+    }
+    LastAddr::Set(a)
+}
+
+fn state(record: &[u32]) -> State
+    ensures { λ r. ⌜ r ≡ stateOf (now («record» .entry)) ⌝ }
+{
+    State {
+        string_bytes: word(record, 11),
+        strings: word(record, 12),
+        files: word(record, 13),
+        functions: word(record, 14),
+        call_locations: word(record, 15),
+        ranges: word(record, 16),
+        last_addr: last_addr(word(record, 17), word(record, 18)),
+    }
+}
+
+// A record of fewer than twenty words is closed: its last word is read as 0.
+pub fn load(record: &[u32]) -> Converter
+    ensures { λ r. ⌜ r ≡ converterOf (now («record» .entry)) ⌝ }
+{
+    let debug_id = debug_id(record);
+    let state = state(record);
+    Converter {
+        debug_id,
+        arch: word(record, 8),
+        undecorate_functions: is_set(word(record, 9)),
+        undecorate_symbols: is_set(word(record, 10)),
+        open: is_set(word(record, 19)),
+        state,
+    }
+}
+
+// Storing it
+
+// Word k of the debug id.
+fn put_id_word(record: &mut [u32], id: &[u8], k: u32)
+    ensures { λ _. ⌜ now («record» .exit) ≡ set (now («record» .entry)) k (leAt 4 (now (id .entry)) (4 * k)) ⌝ }
+{
+    let j = k as usize;
+    let w = raw::range_at(id, 4 * j);
+    put(record, j, w.0);
+}
+
+fn put_id(record: &mut [u32], id: &[u8])
+    ensures { λ _. ⌜ now («record» .exit) ≡ stored (idWords (now (id .entry))) (now («record» .entry)) ⌝ }
+{
+    put_id_word(record, id, 0);
+    put_id_word(record, id, 1);
+    put_id_word(record, id, 2);
+    put_id_word(record, id, 3);
+    put_id_word(record, id, 4);
+    put_id_word(record, id, 5);
+    put_id_word(record, id, 6);
+    put_id_word(record, id, 7);
+}
+
+fn put_last_addr(record: &mut [u32], last: LastAddr)
+    ensures { λ _. ⌜ now («record» .exit) ≡ sets (now («record» .entry)) 17 (lastWords last) ⌝ }
+{
+    let LastAddr::Set(a) = last else {
+        put(record, 17, 0);
+        put(record, 18, 0);
+        return;
+    };
+    put(record, 17, 1);
+    put(record, 18, a);
+}
+
+fn put_counts(record: &mut [u32], s: State)
+    ensures { λ _. ⌜ now («record» .exit) ≡ sets (now («record» .entry)) 11 (countWords s) ⌝ }
+{
+    put(record, 11, s.string_bytes);
+    put(record, 12, s.strings);
+    put(record, 13, s.files);
+    put(record, 14, s.functions);
+    put(record, 15, s.call_locations);
+    put(record, 16, s.ranges);
+}
+
+fn put_switches(record: &mut [u32], c: Converter)
+    ensures { λ _. ⌜ now («record» .exit) ≡ sets (now («record» .entry)) 8 (switchWords c) ⌝ }
+{
+    put(record, 8, c.arch);
+    put(record, 9, flag(c.undecorate_functions));
+    put(record, 10, flag(c.undecorate_symbols));
+}
+
+pub fn store(record: &mut [u32], c: Converter)
+    ensures { λ _. ⌜ now («record» .exit) ≡ stored (wordsOf c) (now («record» .entry)) ⌝ }
+{
+    let id = c.debug_id;
+    let state = c.state;
+    let last = state.last_addr;
+    put_id(record, &id);
+    put_switches(record, c);
+    put_counts(record, state);
+    put_last_addr(record, last);
+    put(record, 19, flag(c.open));
+}
+
+// Accepted calls and 17 store it; no other refusal does.
+pub fn store_answer(record: &mut [u32], code: u32, c: Converter)
+    ensures { λ _. ⌜ now («record» .exit) ≡ kept code c (now («record» .entry)) ⌝ }
+{
+    if code == 0 {
+        store(record, c);
+        return;
+    }
+    if code == 17 {
+        store(record, c);
+    }
+}

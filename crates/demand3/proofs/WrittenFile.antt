@@ -1,0 +1,307 @@
+-- WHAT IS WRITTEN IS THE PLAIN FILE: where words hold the plain tables of a list, the bytes that `serialize` writes are the sections of these tables, with the ranges ascending by start.
+-- Section by section: a row of words is the file's row. The ranges: sorting entries (start, row number) is putting what they stand for in order of start, since no start stands twice;
+-- and there is no sentinel, since a set last end is a start.
+use mathlib.Core.Path.{_≡_, refl, sym, ap, ap₂, _∙_, subst}
+use mathlib.Core.Bool.{Bool, true, false, cond, _&&_}
+use mathlib.Core.Option.{Option, none, some}
+use mathlib.Core.List.{List, [], _∷_, _++_, map, append-assoc, append-nil}
+use Prim.Native.Nat.{ℕ, zero, suc, _+_, _*_, _≤_, _<_}
+use native.Mathlib.Nat.{zero-add, add-zero, add-suc, suc-add}
+use native.Mathlib.Omega.{arith}
+use lib.Dec.{ltb, leb, eqb}
+use lib.ListN.{length, getD, take, drop, length-map, length-append, List·getD-map}
+use borrow.Author.Tests.{ltb-true, ltb-false, eqb-true, eqb-false}
+use Rattle.text.specs.Leb128.{encoded}
+use Rattle.model.specs.Basics.{Span, Entry, before, place, sort}
+use Rattle.model.specs.Rows.{Text, Given}
+use Rattle.model.specs.Converter.{Setup, File, Function, Location, nowhere, at, Tables, range-at, converted}
+use Rattle.model.specs.Written.{place-range, by-start, written, locations}
+use Rattle.model.specs.Words.{file-words, function-words, location-words, starts, string-section}
+use Rattle.model.proofs.Chains.{both-of, range-here, range-there, Unique}
+use Rattle.model.proofs.Always.{starts-unique, last-end-starts}
+use Rattle.model.proofs.Written.{by-start-same, by-start-length}
+use Rattle.model.proofs.FileRows.{section-length}
+use Rattle.model.proofs.Sections.{Sections, sections}
+use Rattle.raw.specs.Bytes.{le, words, tableBytes}
+use Rattle.raw.specs.Rows.{versionInfoBytes, headerBytes, fileBytes, functionBytes, locationBytes, rangeBytes}
+use Rattle.raw.specs.Head.{version-info, header, padding}
+use Rattle.raw.specs.declared.SourceLocation.{SourceLocation}
+use Rattle.tables.specs.Table.{rowAt}
+use Rattle.tables.specs.Ranges.{getOf, locationOf}
+use Rattle.tables.specs.Strings.{storedText}
+use Rattle.tables.specs.Plain.{rowsOf, Holds}
+use Rattle.tables.specs.PlainTexts.{section}
+use Rattle.tables.specs.declared.Row.{Row}
+use Rattle.tables.specs.declared.ranges.Found.{Found}
+use Rattle.tables.specs.declared.ranges.Found.the-variants.{Absent, At}
+use Rattle.tables.proofs.Rows.{rows-getD}
+use Rattle.steps.specs.Words.{Memory, fits?, held, last-of}
+use Rattle.steps.specs.declared.LastAddr.{LastAddr}
+use Rattle.steps.specs.declared.LastAddr.the-variants.{Unset, Set}
+use Rattle.steps.specs.declared.Converter.{Converter}
+use Rattle.steps.proofs.Lengths.{Lens}
+use Rattle.serialize.specs.Sections.{file-row, function-row, call-row, entries, if-vacant, vacant-end, in-order, entry-location, location-row, start-row}
+use Rattle.serialize.specs.File.{ranges-of, header-of, written-file, wrote, serializeOf}
+use Rattle.serialize.proofs.Rows.{table-append}
+use Rattle.read_back.specs.Bytes.{file-bytes}
+use Rattle.read_back.specs.Bytes as reads
+use Rattle.writer.specs.Calls.{words-of}
+use Rattle.demand3.proofs.WordRows.{range-row, source, range-row-location}
+use Rattle.demand3.proofs.WordRows as rows
+use Rattle.demand3.proofs.Interned.{shown, got, holds-count}
+use Rattle.demand3.proofs.Encoding.{Enc, has-room, enc-room, count-bytes, count-files, count-functions, count-calls}
+
+-- ── Tables of rows ──
+
+table-of : {A B : Type 0} (bytes : B → List ℕ) (f : A → B) (xs : List A) → tableBytes bytes (map f xs) ≡ tableBytes (λ (x : A). bytes (f x)) xs
+unfolding tableBytes
+table-of bytes f [] = refl
+table-of bytes f (x ∷ xs) = ap (λ (l : List ℕ). bytes (f x) ++ l) (table-of bytes f xs)
+
+table-same : {A : Type 0} (p q : A → List ℕ) → ((x : A) → p x ≡ q x) → (xs : List A) → tableBytes p xs ≡ tableBytes q xs
+unfolding tableBytes
+table-same p q h [] = refl
+table-same p q h (x ∷ xs) = ap₂ (λ (a b : List ℕ). a ++ b) (h x) (table-same p q h xs)
+
+-- a table that holds rows f x, where the file's bytes of such a row are the words g x
+section-is : {A : Type 0} (bytes : Row → List ℕ) (f : A → Row) (g : A → List ℕ) → ((x : A) → bytes (f x) ≡ words (g x)) → (w : ℕ) (t : List ℕ) (n : ℕ) (xs : List A) → Holds w t n (map f xs)
+    → tableBytes bytes (rowsOf t n) ≡ tableBytes words (map g xs)
+section-is {A} bytes f g e w t n xs h =
+    ap (tableBytes bytes) (h .same) ∙ table-of bytes f xs ∙ table-same (λ (x : A). bytes (f x)) (λ (x : A). words (g x)) e xs ∙ sym (table-of words g xs)
+
+file-is : (ts : List Text) (x : File) → file-row (rows.file-row ts x) ≡ words (file-words ts x)
+unfolding file-row fileBytes
+file-is ts x = refl
+
+function-is : (ts : List Text) (f : Function) → function-row (rows.function-row ts f) ≡ words (function-words ts f)
+unfolding function-row functionBytes
+function-is ts f = refl
+
+call-is : (l : Location) → call-row (rows.call-row l) ≡ words (location-words l)
+unfolding call-row locationBytes
+call-is nowhere = refl
+call-is (at f n i c) = refl
+
+source-is : (l : Location) → locationBytes (source l) ≡ words (location-words l)
+unfolding locationBytes
+source-is nowhere = refl
+source-is (at f n i c) = refl
+
+-- the texts
+strings-is : (ts : List Text) → section ts ≡ string-section ts
+unfolding storedText string-section
+strings-is [] = refl
+strings-is (t ∷ ts) = append-assoc (encoded (length t)) t (section ts) ∙ ap (λ (l : List ℕ). encoded (length t) ++ (t ++ l)) (strings-is ts)
+
+-- ── Sorting entries is putting what they stand for in order of start ──
+
+no-held : {A L : Type 0} {l : L} → _≡_ {A = Option L} (some l) none → A
+no-held e = let bad : _≡_ {A = ℕ} 0 1 = cc in absurd (omega arith)
+
+module _ {L : Type 0} (value-at : ℕ → L) where
+  -- what an entry stands for, where a row number has a value
+  abbrev meant : Span → Entry L
+  meant p = record { key = p .from; value = value-at (p .to) }
+
+  place-is : (p : Span) (ps : List Span) → range-at (map meant ps) (p .from) ≡ none → map meant (place p ps) ≡ place-range (p .from) (value-at (p .to)) (map meant ps)
+  unfolding place place-range before
+  place-is p [] h = refl
+  place-is p (q ∷ ps) h = go (ltb (p .from) (q .from)) refl (eqb (p .from) (q .from)) refl (λ k. place-is p ps k)
+    where
+      go : (b : Bool) → ltb (p .from) (q .from) ≡ b → (c : Bool) → eqb (p .from) (q .from) ≡ c
+          → (range-at (map meant ps) (p .from) ≡ none → map meant (place p ps) ≡ place-range (p .from) (value-at (p .to)) (map meant ps))
+          → map meant (place p (q ∷ ps)) ≡ place-range (p .from) (value-at (p .to)) (map meant (q ∷ ps))
+      go true e c f ih = rw e
+      go false e true f ih = no-held (sym (range-here (meant q) (map meant ps) (p .from) (eqb-true _ _ f)) ∙ h)
+      go false e false f ih = rw (e, f) (ap (λ (l : List (Entry L)). meant q ∷ l) (ih (sym (range-there (meant q) (map meant ps) (p .from) (eqb-false _ _ f)) ∙ h)))
+
+  pub sort-is : (ps : List Span) → Unique (map meant ps) → map meant (sort ps) ≡ by-start (map meant ps)
+  unfolding sort by-start
+  sort-is [] u = refl
+  sort-is (p ∷ ps) u =
+      let ih : map meant (sort ps) ≡ by-start (map meant ps) = sort-is ps (u .1) in
+      place-is p (sort ps) (ap (λ (l : List (Entry L)). range-at l (p .from)) ih ∙ by-start-same (map meant ps) (p .from) ∙ u .0)
+      ∙ ap (place-range (p .from) (value-at (p .to))) ih
+
+-- ── The entries of the ranges ──
+
+abbrev no-entry : Entry Location
+no-entry = record { key = 0; value = nowhere }
+
+-- the location of a row number
+abbrev pub location-at : List (Entry Location) → ℕ → Location
+location-at rs i = getD rs i no-entry .value
+
+entries-are : (at-row : ℕ → Location) (k : ℕ) (rs : List (Entry Location)) → ((i : ℕ) → at-row (k + i) ≡ location-at rs i) → map (meant at-row) (entries k (map range-row rs)) ≡ rs
+unfolding entries
+entries-are at-row k [] h = refl
+entries-are at-row k (e ∷ rs) h =
+    let first : at-row k ≡ e .value = ap at-row (sym (add-zero k)) ∙ h 0 in
+    ap₂ (λ (l : Location) (r : List (Entry Location)). record { key = e .key; value = l } ∷ r) first
+    (entries-are at-row (suc k) rs (λ i. ap at-row (suc-add k i ∙ sym (add-suc k i)) ∙ h (suc i)))
+
+past-end : (rs : List (Entry Location)) (i : ℕ) → length rs ≤ i → location-at rs i ≡ nowhere
+past-end [] i h = refl
+past-end (e ∷ rs) zero h = absurd (omega arith)
+past-end (e ∷ rs) (suc i) h = past-end rs i (omega arith)
+
+-- what an entry of the ranges rs stands for
+abbrev pub stands-for : List (Entry Location) → Span → Entry Location
+stands-for rs = meant (location-at rs)
+
+-- the starts as bytes
+starts-are : (rs : List (Entry Location)) → tableBytes (λ (e : Entry Location). words (e .key ∷ [])) rs ≡ words (map (λ (e : Entry Location). e .key) rs)
+unfolding tableBytes words
+starts-are [] = refl
+starts-are (e ∷ rs) = ap₂ (λ (a b : List ℕ). a ++ b) (append-nil (le 4 (e .key))) (starts-are rs)
+
+start-is : (p : Span) → start-row p ≡ words (p .from ∷ [])
+unfolding start-row rangeBytes
+start-is p = refl
+
+module _ (t : List ℕ) (n : ℕ) (rs : List (Entry Location)) (h : Holds 1 t n (map range-row rs)) where
+  -- row i of the table
+  row-is : (i : ℕ) → i < n → rowAt t i ≡ range-row (getD rs i no-entry)
+  row-is i k = ap (rowAt t) (sym (zero-add i)) ∙ sym (rows-getD t 0 n i (range-row no-entry) k) ∙ ap (λ (l : List Row). getD l i (range-row no-entry)) (h .same) ∙ List·getD-map range-row rs i no-entry
+
+  entry-location-is : (p : Span) → entry-location t n p ≡ source (location-at rs (p .to))
+  unfolding entry-location
+  entry-location-is p = go (ltb (p .to) n) refl
+    where
+      go : (b : Bool) → ltb (p .to) n ≡ b → entry-location t n p ≡ source (location-at rs (p .to))
+      go true e = rw e (ap locationOf (row-is (p .to) (ltb-true _ _ e)) ∙ range-row-location (getD rs (p .to) no-entry))
+      go false e = rw e (ap source (sym (past-end rs (p .to) (let c : length rs ≡ n = holds-count range-row 1 t n rs h in let k : n ≤ p .to = ltb-false _ _ e in omega arith))))
+
+  location-row-is : (p : Span) → location-row t n p ≡ words (location-words (location-at rs (p .to)))
+  unfolding location-row
+  location-row-is p = ap locationBytes (entry-location-is p) ∙ source-is (location-at rs (p .to))
+
+  -- the locations and the starts of entries, by what these stand for
+  locations-bytes : (ps : List Span) → tableBytes (location-row t n) ps ≡ tableBytes words (map location-words (map (λ (e : Entry Location). e .value) (map (stands-for rs) ps)))
+  locations-bytes ps =
+      table-same (location-row t n) (λ (p : Span). words (location-words (location-at rs (p .to)))) location-row-is ps
+      ∙ sym (table-of (λ (e : Entry Location). words (location-words (e .value))) (stands-for rs) ps)
+      ∙ sym (table-of (λ (l : Location). words (location-words l)) (λ (e : Entry Location). e .value) (map (stands-for rs) ps))
+      ∙ sym (table-of words location-words (map (λ (e : Entry Location). e .value) (map (stands-for rs) ps)))
+
+  starts-bytes : (ps : List Span) → tableBytes start-row ps ≡ words (map (λ (e : Entry Location). e .key) (map (stands-for rs) ps))
+  starts-bytes ps =
+      table-same start-row (λ (p : Span). words (p .from ∷ [])) start-is ps
+      ∙ sym (table-of (λ (e : Entry Location). words (e .key ∷ [])) (stands-for rs) ps)
+      ∙ starts-are (map (stands-for rs) ps)
+
+  -- with no sentinel, the entries in order stand for the ranges by start
+  in-order-is : (last : LastAddr) → vacant-end last t n ≡ Unset → Unique rs → map (stands-for rs) (in-order last t n) ≡ by-start rs
+  unfolding in-order
+  in-order-is last v u =
+      let all : map (stands-for rs) (entries 0 (map range-row rs)) ≡ rs = entries-are (location-at rs) 0 rs (λ i. ap (location-at rs) (zero-add i)) in
+      rw (v, h .same, append-nil) (sort-is (location-at rs) (entries 0 (map range-row rs)) (subst Unique (sym all) u) ∙ ap by-start all)
+
+  -- a last end that is a start is not vacant
+  no-vacant : (last : LastAddr) → ((a : ℕ) → last-of last ≡ some a → (l : Location) × (range-at rs a ≡ some l)) → vacant-end last t n ≡ Unset
+  no-vacant Unset k = refl
+  no-vacant (Set a) k = let (l, e) = k a refl in go (getOf t n a) (got t n rs a h ∙ ap shown e)
+    where
+      go : {l : SourceLocation} (f : Found) → held f ≡ some l → if-vacant f a ≡ Unset
+      go Absent e = no-held (sym e)
+      go (At x) e = refl
+
+-- ── The file ──
+
+whole : (v h h′ f f′ g g′ k l kl b b′ p p′ x x′ : List ℕ) → h ≡ h′ → f ≡ f′ → g ≡ g′ → k ++ l ≡ kl → b ≡ b′ → p ≡ p′ → x ≡ x′
+    → v ++ (h ++ (f ++ (g ++ (k ++ (l ++ (b ++ (p ++ x))))))) ≡ v ++ (h′ ++ (f′ ++ (g′ ++ (kl ++ (b′ ++ (p′ ++ x′))))))
+whole v h h′ f f′ g g′ k l kl b b′ p p′ x x′ eh ef eg el eb ep ex = let a = append-assoc k l (b ++ (p ++ x)) in cc
+
+header-path : (id : List ℕ) (a f f′ g g′ l l′ r r′ b b′ : ℕ) → f ≡ f′ → g ≡ g′ → l ≡ l′ → r ≡ r′ → b ≡ b′
+    → header id a f g l r b ≡ header id a f′ g′ l′ r′ b′
+header-path id a f f′ g g′ l l′ r r′ b b′ ef eg el er eb = λ i. header id a (ef i) (eg i) (el i) (er i) (eb i)
+
+module _ (n : Lens) (s : Tables) (c : Converter) (m : Memory) (h : Enc n s (words-of c m)) where
+  pub files-written : tableBytes file-row (rowsOf (m .files) (c .state .files)) ≡ tableBytes words (map (file-words (s .texts)) (s .files))
+  files-written = section-is file-row (rows.file-row (s .texts)) (file-words (s .texts)) (file-is (s .texts)) 6 (m .files) (c .state .files) (s .files) (h .files)
+
+  pub functions-written : tableBytes function-row (rowsOf (m .functions) (c .state .functions)) ≡ tableBytes words (map (function-words (s .texts)) (s .functions))
+  functions-written = section-is function-row (rows.function-row (s .texts)) (function-words (s .texts)) (function-is (s .texts)) 6 (m .functions) (c .state .functions) (s .functions) (h .functions)
+
+  pub calls-written : tableBytes call-row (rowsOf (m .calls) (c .state .«call_locations»)) ≡ tableBytes words (map location-words (s .calls))
+  calls-written = section-is call-row rows.call-row location-words call-is 6 (m .calls) (c .state .«call_locations») (s .calls) (h .calls)
+
+  pub strings-written : take (c .state .«string_bytes») (m .text) ≡ string-section (s .texts)
+  strings-written = h .texts .stands ∙ strings-is (s .texts)
+
+  -- starts that stand once, and a last end that is one of them
+  module _ (unique : Unique (s .ranges)) (end : (a : ℕ) → s .last ≡ some a → (l : Location) × (range-at (s .ranges) a ≡ some l)) where
+    pub no-sentinel : vacant-end (c .state .«last_addr») (m .ranges) (c .state .ranges) ≡ Unset
+    no-sentinel = no-vacant (m .ranges) (c .state .ranges) (s .ranges) (h .ranges) (c .state .«last_addr») (λ a e. end a (h .last ∙ e))
+
+    pub ranges-are : map (stands-for (s .ranges)) (ranges-of c m) ≡ by-start (s .ranges)
+    ranges-are = in-order-is (m .ranges) (c .state .ranges) (s .ranges) (h .ranges) (c .state .«last_addr») no-sentinel unique
+
+    pub ranges-count : length (ranges-of c m) ≡ length (s .ranges)
+    ranges-count = sym (length-map (ranges-of c m) (stands-for (s .ranges))) ∙ ap length ranges-are ∙ by-start-length (s .ranges) unique
+
+    pub locations-written : tableBytes (location-row (m .ranges) (c .state .ranges)) (ranges-of c m) ≡ tableBytes words (map location-words (map (λ (e : Entry Location). e .value) (by-start (s .ranges))))
+    locations-written =
+        locations-bytes (m .ranges) (c .state .ranges) (s .ranges) (h .ranges) (ranges-of c m)
+        ∙ ap (λ (l : List (Entry Location)). tableBytes words (map location-words (map (λ (e : Entry Location). e .value) l))) ranges-are
+
+    pub starts-written : tableBytes start-row (ranges-of c m) ≡ words (starts (written s))
+    starts-written =
+        starts-bytes (m .ranges) (c .state .ranges) (s .ranges) (h .ranges) (ranges-of c m)
+        ∙ ap (λ (l : List (Entry Location)). words (map (λ (e : Entry Location). e .key) l)) ranges-are
+
+    abbrev z : Sections
+    z = sections (written s)
+
+    -- as many starts as entries
+    starts-count : length (ranges-of c m) ≡ length (z .starts)
+    starts-count = sym (length-map (ranges-of c m) (stands-for (s .ranges))) ∙ ap length ranges-are ∙ sym (length-map (by-start (s .ranges)) (λ (e : Entry Location). e .key))
+
+    locations-count : c .state .«call_locations» + length (ranges-of c m) ≡ length (z .locations)
+    locations-count =
+        let a : length (z .locations) ≡ length (locations (written s)) = length-map (locations (written s)) location-words in
+        let b : length (locations (written s)) ≡ length (s .calls) + length (map (λ (e : Entry Location). e .value) (by-start (s .ranges))) = length-append (s .calls) (map (λ (e : Entry Location). e .value) (by-start (s .ranges))) in
+        let d : length (map (λ (e : Entry Location). e .value) (by-start (s .ranges))) ≡ length (by-start (s .ranges)) = length-map (by-start (s .ranges)) (λ (e : Entry Location). e .value) in
+        let f : length (by-start (s .ranges)) ≡ length (s .ranges) = by-start-length (s .ranges) unique in
+        omega (arith, ranges-count, count-calls n s (words-of c m) h)
+
+    pub header-is : header-of c (length (ranges-of c m)) ≡ reads.header-of (c .«debug_id») (c .arch) z
+    header-is =
+        header-path (c .«debug_id») (c .arch) _ _ _ _ _ _ _ _ _ _
+        (sym (length-map (s .files) (file-words (s .texts)) ∙ count-files n s (words-of c m) h))
+        (sym (length-map (s .functions) (function-words (s .texts)) ∙ count-functions n s (words-of c m) h))
+        locations-count
+        starts-count
+        (sym (section-length (s .texts) ∙ count-bytes n s (words-of c m) h))
+
+    all-locations : tableBytes call-row (rowsOf (m .calls) (c .state .«call_locations»)) ++ tableBytes (location-row (m .ranges) (c .state .ranges)) (ranges-of c m) ≡ tableBytes words (z .locations)
+    all-locations =
+        let vs = map (λ (e : Entry Location). e .value) (by-start (s .ranges)) in
+        ap₂ (λ (a b : List ℕ). a ++ b) (calls-written ∙ table-of words location-words (s .calls)) (locations-written ∙ table-of words location-words vs)
+        ∙ sym (table-append (λ (l : Location). words (location-words l)) (s .calls) vs)
+        ∙ sym (table-of words location-words (s .calls ++ vs))
+
+    pub file-written : written-file c m ≡ file-bytes (c .«debug_id») (c .arch) z
+    unfolding written-file file-bytes
+    file-written =
+        whole (versionInfoBytes version-info) _ _ _ _ _ _ (tableBytes call-row (rowsOf (m .calls) (c .state .«call_locations»))) (tableBytes (location-row (m .ranges) (c .state .ranges)) (ranges-of c m)) _ _ _ _ _ _ _
+        (ap headerBytes header-is)
+        files-written
+        functions-written
+        all-locations
+        starts-written
+        (ap (λ (k : ℕ). padding (k * 4)) starts-count)
+        strings-written
+
+-- WHAT IS WRITTEN, after every list: the file of the plain tables
+pub written-is : (X : Setup) (gs : List Given) (n : Lens) (c : Converter) (m : Memory) → Enc n (converted X gs) (words-of c m) → written-file c m ≡ file-bytes (c .«debug_id») (c .arch) (sections (written (converted X gs)))
+written-is X gs n c m h = file-written n (converted X gs) c m h (starts-unique X gs) (last-end-starts X gs)
+
+-- and what writing answers: 0, the length, and the plain file before the rest of the output; or 18 where the output is shorter
+pub write-answers : (X : Setup) (gs : List Given) (n : Lens) (c : Converter) (m : Memory) → c .«open» ≡ true → Enc n (converted X gs) (words-of c m) → (out : List ℕ)
+    → let f = file-bytes (c .«debug_id») (c .arch) (sections (written (converted X gs))) in
+    serializeOf c m out ≡ cond (leb (length f) (length out)) (wrote 0 (length f) (f ++ drop (length f) out)) (wrote 18 0 out)
+unfolding serializeOf
+write-answers X gs n c m o h out =
+    let e : (c .«open» && fits? (words-of c m)) ≡ true = both-of (c .«open») (fits? (words-of c m)) o (has-room (words-of c m) (enc-room n (converted X gs) (words-of c m) h)) in
+    rw e (ap (λ (f : List ℕ). cond (leb (length f) (length out)) (wrote 0 (length f) (f ++ drop (length f) out)) (wrote 18 0 out)) (written-is X gs n c m h))
