@@ -7,7 +7,7 @@ use lib.Dec.{eqb}
 use lib.ListN.{getD, set, replicate}
 use lib.Seq.{sets}
 use borrow.Author.Tests.{eq-eqb, ne-eqb}
-use Rattle.raw.specs.Bytes.{le, leAt, bytesAt, words}
+use Rattle.slices.specs.Bytes.{le, leAt, bytesAt, words}
 use Rattle.raw.specs.Rows.{rangeBytes, rangeAt}
 use Rattle.raw.specs.declared.Range.{Range}
 use Rattle.steps.specs.declared.LastAddr.{LastAddr}

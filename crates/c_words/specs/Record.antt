@@ -6,7 +6,7 @@ use mathlib.Core.Path.{_≡_}
 use mathlib.Core.List.{List, [], _∷_, _++_}
 use lib.Dec.{eqb}
 use lib.ListN.{length, getD}
-use Rattle.raw.specs.Bytes.{leAt, bytesAt, words}
+use Rattle.slices.specs.Bytes.{leAt, bytesAt, words}
 use Rattle.steps.specs.declared.LastAddr.{LastAddr}
 use Rattle.steps.specs.declared.LastAddr.the-variants.{Unset, Set}
 use Rattle.steps.specs.declared.State.{State}

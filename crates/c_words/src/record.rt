@@ -4,7 +4,7 @@ ghost use mathlib.Core.List.{[], _∷_};
 ghost use Prim.Native.Nat.{_*_, _≤_};
 ghost use lib.ListN.{getD, set};
 ghost use lib.Seq.{sets};
-ghost use Rattle.raw.specs.Bytes.{le, leAt};
+ghost use Rattle.slices.specs.Bytes.{le, leAt};
 ghost use Rattle.c_words.specs.Words.{stored};
 ghost use Rattle.c_words.specs.Record.{lastOf, idOf, stateOf, converterOf, lastWords, idWords, countWords, switchWords, wordsOf, kept};
 use crate::slices::flag;

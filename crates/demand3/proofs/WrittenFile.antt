@@ -22,7 +22,7 @@ use Rattle.model.proofs.Always.{starts-unique, last-end-starts}
 use Rattle.model.proofs.Written.{by-start-same, by-start-length}
 use Rattle.model.proofs.FileRows.{section-length}
 use Rattle.model.proofs.Sections.{Sections, sections}
-use Rattle.raw.specs.Bytes.{le, words, tableBytes}
+use Rattle.slices.specs.Bytes.{le, words, tableBytes}
 use Rattle.raw.specs.Rows.{versionInfoBytes, headerBytes, fileBytes, functionBytes, locationBytes, rangeBytes}
 use Rattle.raw.specs.Head.{version-info, header, padding}
 use Rattle.raw.specs.declared.SourceLocation.{SourceLocation}

@@ -10,8 +10,8 @@ use lib.Dec.{eqb, ltb}
 use lib.ListN.{length, getD, List·getD-eq-default}
 use lib.Seq.{ext-getD}
 use borrow.Author.Tests.{le-ltb, ltb-true, ltb-false}
-use Rattle.raw.specs.Bytes.{le, leAt, bytesAt, words}
-use Rattle.raw.proofs.Bytes.{length-words, length-bytesAt, getD-bytesAt}
+use Rattle.slices.specs.Bytes.{le, leAt, bytesAt, words}
+use Rattle.slices.proofs.Bytes.{length-words, length-bytesAt, getD-bytesAt}
 use Rattle.rows.specs.Columns.{Columns}
 use Rattle.rows.specs.Refusals.{refusalOf, optional?}
 use Rattle.rows.specs.declared.OptionalPart.{OptionalPart}

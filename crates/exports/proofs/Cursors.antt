@@ -9,10 +9,10 @@ use lib.Dec.{eqb, ltb}
 use lib.ListN.{length, getD}
 use lib.Seq.{length-sets}
 use borrow.Author.Tests.{le-ltb, ne-eqb}
-use Rattle.raw.specs.Bytes.{leAt}
+use Rattle.slices.specs.Bytes.{leAt}
 use Rattle.raw.specs.Rows.{headerAt}
 use Rattle.raw.specs.declared.Header.{Header}
-use Rattle.raw.proofs.Bytes.{leAt-four}
+use Rattle.slices.proofs.Bytes.{leAt-four}
 use Rattle.symcache.specs.declared.SymCache.{SymCache}
 use Rattle.symcache.specs.declared.lookup.SourceLocations.{SourceLocations}
 use Rattle.symcache.specs.declared.lookup.Frame.{Frame}

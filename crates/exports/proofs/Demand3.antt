@@ -7,8 +7,8 @@ use lib.Dec.{eqb}
 use lib.ListN.{length, take, getD}
 use lib.Seq.{getD-set-same}
 use borrow.Author.Tests.{le-ltb}
-use Rattle.raw.specs.Bytes.{bytesAt}
-use Rattle.raw.proofs.Bytes.{length-bytesAt}
+use Rattle.slices.specs.Bytes.{bytesAt}
+use Rattle.slices.proofs.Bytes.{length-bytesAt}
 use Rattle.model.specs.Rows.{Given, symbol-row}
 use Rattle.model.specs.Converter.{Setup}
 use Rattle.steps.specs.Words.{Memory}

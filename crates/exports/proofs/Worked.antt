@@ -3,7 +3,7 @@
 use mathlib.Core.Path.{_≡_, refl}
 use mathlib.Core.List.{[], _∷_}
 use lib.ListN.{take, replicate}
-use Rattle.raw.specs.Bytes.{leAt, bytesAt}
+use Rattle.slices.specs.Bytes.{leAt, bytesAt}
 use Rattle.raw.specs.Rows.{max32, versionInfoAt, headerAt, fileAt, functionAt, locationAt, isNoSourceLocation, rangeAt}
 use Rattle.symcache.specs.Answers.{refuseIf, andThen}
 use Rattle.symcache.specs.Reader.{aligned, layoutOf, tested, parsed, ascendingFrom, ascending, opened}

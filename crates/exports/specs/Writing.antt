@@ -5,7 +5,7 @@ use mathlib.Core.Bool.{cond, _||_}
 use mathlib.Core.List.{List, [], _∷_}
 use lib.Dec.{eqb, ltb}
 use lib.ListN.{length}
-use Rattle.raw.specs.Bytes.{bytesAt}
+use Rattle.slices.specs.Bytes.{bytesAt}
 use Rattle.rows.specs.Columns.{Columns}
 use Rattle.rows.specs.declared.OptionalPart.{OptionalPart}
 use Rattle.steps.specs.Words.{Memory}

@@ -1,7 +1,7 @@
 // The converter and the writer. Between calls the converter is a record of twenty words; the six tables are lent at each call.
 ghost use mathlib.Core.Path.{_≡_};
 ghost use mathlib.Core.List.{[]};
-ghost use Rattle.raw.specs.Bytes.{bytesAt};
+ghost use Rattle.slices.specs.Bytes.{bytesAt};
 ghost use Rattle.rows.specs.Columns.{columns};
 ghost use Rattle.steps.specs.Words.{memory};
 ghost use Rattle.exports.specs.Writing.{left, beginCall, treeCall, nameAt, symbolCall, leftFile, serializeCall};

@@ -5,7 +5,7 @@ use mathlib.Core.List.{List, [], _∷_, _++_}
 use native.Mathlib.Omega.{arith}
 use lib.ListN.{length, take, length-append}
 use lib.Seq.{sets, take-all}
-use Rattle.raw.specs.Bytes.{le, leAt, bytesAt, words, Words, Stands}
+use Rattle.slices.specs.Bytes.{le, leAt, bytesAt, words, Words, Stands}
 use Rattle.raw.specs.Rows.{versionInfoWords, versionInfoBytes, versionInfoAt, headerWords, headerBytes, headerAt, HeaderFits, fileWords, fileBytes, fileAt, functionWords, functionBytes, functionAt, locationWords, locationBytes, locationAt, rangeBytes, rangeAt}
 use Rattle.raw.specs.declared.VersionInfo.{VersionInfo}
 use Rattle.raw.specs.declared.Header.{Header}
@@ -13,7 +13,7 @@ use Rattle.raw.specs.declared.File.{File}
 use Rattle.raw.specs.declared.Function.{Function}
 use Rattle.raw.specs.declared.SourceLocation.{SourceLocation}
 use Rattle.raw.specs.declared.Range.{Range}
-use Rattle.raw.proofs.Bytes.{length-le, length-words, stands-left, stands-right, le-back, bytes-back, word-back, leAt-cut, bytesAt-cut, sets-join}
+use Rattle.slices.proofs.Bytes.{length-le, length-words, stands-left, stands-right, le-back, bytes-back, word-back, leAt-cut, bytesAt-cut, sets-join}
 
 -- Numbers stored one after the other
 

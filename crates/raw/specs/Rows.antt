@@ -5,7 +5,7 @@ use mathlib.Core.Bool.{Bool, _&&_}
 use mathlib.Core.List.{List, [], _∷_, _++_}
 use lib.Dec.{eqb}
 use lib.ListN.{length}
-use Rattle.raw.specs.Bytes.{le, leAt, bytesAt, words, Words}
+use Rattle.slices.specs.Bytes.{le, leAt, bytesAt, words, Words}
 use Rattle.raw.specs.declared.VersionInfo.{VersionInfo}
 use Rattle.raw.specs.declared.Header.{Header}
 use Rattle.raw.specs.declared.File.{File}

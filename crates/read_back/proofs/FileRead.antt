@@ -9,11 +9,11 @@ use native.Mathlib.Omega.{arith}
 use lib.ListN.{length, getD, take, drop, length-append, length-replicate, length-drop}
 use lib.Seq.{take-at, drop-at, drop-drop, take-append-le, drop-append-le}
 use borrow.Author.Tests.{lt-ltb, le-ltb}
-use Rattle.raw.specs.Bytes.{words, Stands, tableBytes}
+use Rattle.slices.specs.Bytes.{words, Stands, tableBytes}
 use Rattle.raw.specs.Rows.{versionInfoBytes, versionInfoAt, headerBytes, headerAt, HeaderFits, rangeAt}
 use Rattle.raw.specs.Head.{version-info, padding}
 use Rattle.raw.specs.declared.Header.{Header}
-use Rattle.raw.proofs.Bytes.{length-words, stands-left, stands-right, stands-between, word-back}
+use Rattle.slices.proofs.Bytes.{length-words, stands-left, stands-right, stands-between, word-back}
 use Rattle.raw.proofs.Rows.{length-version-info, length-header, version-info-back, header-back}
 use Rattle.symcache.specs.declared.SymCache.{SymCache}
 use Rattle.symcache.specs.Answers.{gives, refuseIf}

@@ -5,12 +5,12 @@ use mathlib.Core.List.{List, [], _∷_, _++_, map, append-assoc}
 use native.Mathlib.Nat.{add-zero, mul-zero, mul-suc}
 use native.Mathlib.Omega.{arith}
 use lib.ListN.{length, getD, length-append}
-use Rattle.raw.specs.Bytes.{le, words, Words, Stands, tableBytes}
+use Rattle.slices.specs.Bytes.{le, words, Words, Stands, tableBytes}
 use Rattle.raw.specs.Rows.{fileAt, functionAt, locationAt}
 use Rattle.raw.specs.declared.File.{File}
 use Rattle.raw.specs.declared.Function.{Function}
 use Rattle.raw.specs.declared.SourceLocation.{SourceLocation}
-use Rattle.raw.proofs.Bytes.{length-words, stands-left, stands-right, word-back}
+use Rattle.slices.proofs.Bytes.{length-words, stands-left, stands-right, word-back}
 use Rattle.model.proofs.Sections.{word}
 use Rattle.read_back.specs.Bytes.{Rows}
 

@@ -8,7 +8,7 @@ use native.Mathlib.Omega.{arith}
 use lib.ListN.{getD, replicate}
 use Rattle.text.specs.Leb128.{encoded-in, encoded}
 use Rattle.text.specs.Utf8.{utf8, chars, charLen, UTF8-char, fits, within}
-use Rattle.raw.specs.Bytes.{le, words, tableBytes}
+use Rattle.slices.specs.Bytes.{le, words, tableBytes}
 use Rattle.raw.specs.Rows.{versionInfoBytes, headerBytes}
 use Rattle.raw.specs.Head.{padding}
 use Rattle.symcache.proofs.Worked as original

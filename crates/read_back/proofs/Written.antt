@@ -5,7 +5,7 @@ use mathlib.Core.Bool.{true}
 use mathlib.Core.List.{List, [], _∷_, _++_, map, reverse}
 use native.Mathlib.Omega.{arith}
 use lib.ListN.{length, length-map}
-use Rattle.raw.specs.Bytes.{Words}
+use Rattle.slices.specs.Bytes.{Words}
 use Rattle.model.specs.Basics.{_∈_, Entry, Covers, items, depths, upto}
 use Rattle.model.specs.Rows.{MAX, LineRow, FunctionRow, Given, tree-rows}
 use Rattle.model.specs.Converter.{Setup, Location, nowhere, at, Tables, converted}

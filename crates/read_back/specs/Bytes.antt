@@ -3,7 +3,7 @@ use Prim.Native.Nat.{ℕ, _*_, _≤_}
 use mathlib.Core.Path.{_≡_}
 use mathlib.Core.List.{List, [], _∷_, _++_}
 use lib.ListN.{length}
-use Rattle.raw.specs.Bytes.{words, Words, tableBytes}
+use Rattle.slices.specs.Bytes.{words, Words, tableBytes}
 use Rattle.raw.specs.Rows.{versionInfoBytes, headerWords, headerBytes}
 use Rattle.raw.specs.Head.{version-info, header, padding}
 use Rattle.raw.specs.declared.Header.{Header}

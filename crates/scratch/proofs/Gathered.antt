@@ -6,7 +6,7 @@ use native.Mathlib.Omega.{arith}
 use native.Mathlib.Numerals.{add-one}
 use lib.ListN.{length, getD, set, take, drop, length-append, length-map}
 use lib.Seq.{sets, sets-eq, take-at, drop-at, getD-at, length-take-le}
-use Rattle.raw.proofs.Bytes.{sets-join}
+use Rattle.slices.proofs.Bytes.{sets-join}
 use Rattle.model.specs.Basics.{Span, sort}
 use Rattle.model.specs.Rows.{boundaries}
 use Rattle.model.specs.Machine.{kid-spansM}

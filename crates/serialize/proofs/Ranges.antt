@@ -7,11 +7,11 @@ use native.Mathlib.Omega.{arith}
 use lib.ListN.{length}
 use lib.Seq.{sets, length-sets}
 use Rattle.model.specs.Basics.{Span}
-use Rattle.raw.specs.Bytes.{leAt, tableBytes}
+use Rattle.slices.specs.Bytes.{leAt, tableBytes}
 use Rattle.raw.specs.Rows.{locationBytes, rangeBytes, rangeAt}
 use Rattle.raw.specs.declared.Range.{Range}
 use Rattle.raw.specs.declared.SourceLocation.{SourceLocation}
-use Rattle.raw.proofs.Bytes.{sets-join, length-table}
+use Rattle.slices.proofs.Bytes.{sets-join, length-table}
 use Rattle.serialize.specs.Sections.{entries-at, entry-location, location-row, start-row, range-sections}
 use Rattle.serialize.proofs.Runs.{leAt-below, leAt-above, sets-comm}
 use Rattle.serialize.proofs.Rows.{length-location-row, length-start-row, table-turn, entry-at, length-entries-at, entries-at-more}

@@ -8,10 +8,10 @@ use native.Mathlib.Omega.{arith}
 use lib.Dec.{ltb}
 use lib.ListN.{length, getD}
 use Rattle.model.specs.Basics.{Span}
-use Rattle.raw.specs.Bytes.{Words, Stands, tableBytes}
+use Rattle.slices.specs.Bytes.{Words, Stands, tableBytes}
 use Rattle.raw.specs.Rows.{versionInfoAt, headerAt, HeaderFits, fileAt, functionAt, locationWords, locationAt, rangeAt, noSourceLocation}
 use Rattle.raw.specs.Head.{version-info}
-use Rattle.raw.proofs.Bytes.{row-stands}
+use Rattle.slices.proofs.Bytes.{row-stands}
 use Rattle.raw.proofs.Rows.{version-info-back, header-back, file-back, function-back, location-back, range-back}
 use Rattle.tables.specs.Table.{rowAt}
 use Rattle.tables.specs.Ranges.{locationOf}

@@ -8,10 +8,10 @@ use native.Mathlib.Omega.{arith}
 use lib.ListN.{length}
 use lib.Seq.{sets}
 use Rattle.model.specs.Basics.{Span}
-use Rattle.raw.specs.Bytes.{le, leAt, words, tableBytes}
+use Rattle.slices.specs.Bytes.{le, leAt, words, tableBytes}
 use Rattle.raw.specs.Rows.{rangeBytes}
 use Rattle.raw.specs.Head.{padding}
-use Rattle.raw.proofs.Bytes.{sets-join, length-table, length-words}
+use Rattle.slices.proofs.Bytes.{sets-join, length-table, length-words}
 use Rattle.raw.proofs.Rows.{length-file, length-function, length-location, length-range, all, next, stored}
 use Rattle.tables.specs.Table.{rowAt}
 use Rattle.tables.specs.Plain.{rowsOf}

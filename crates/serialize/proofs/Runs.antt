@@ -5,7 +5,7 @@ use mathlib.Core.List.{List, [], _∷_}
 use native.Mathlib.Omega.{arith}
 use lib.ListN.{length, getD, set, take, drop}
 use lib.Seq.{sets, sets-eq, length-sets, set-comm, take-set-le, drop-set-lt, getD-set-other}
-use Rattle.raw.specs.Bytes.{leAt}
+use Rattle.slices.specs.Bytes.{leAt}
 
 -- ── What is not stored to ──
 

@@ -8,8 +8,8 @@ use lib.ListN.{length, getD, take, drop, length-append}
 use lib.Seq.{sets, sets-eq, take-at, drop-at, length-take-le, drop-drop}
 use borrow.Rule.Slice.PartMut.{midOf, putMid}
 use Rattle.model.specs.Basics.{Span, before, place, sort}
-use Rattle.raw.specs.Bytes.{le, words, Words, Stands, tableBytes}
-use Rattle.raw.proofs.Bytes.{sets-join, length-table, length-words, length-le, stands-left, stands-right, stands-stored, le-back}
+use Rattle.slices.specs.Bytes.{le, words, Words, Stands, tableBytes}
+use Rattle.slices.proofs.Bytes.{sets-join, length-table, length-words, length-le, stands-left, stands-right, stands-stored, le-back}
 use Rattle.tables.specs.Table.{rowAt}
 use Rattle.tables.specs.Plain.{rowsFrom, rowsOf}
 use Rattle.tables.proofs.Rows.{rows-length}

@@ -7,10 +7,10 @@ use native.Mathlib.Omega.{arith}
 use lib.ListN.{length, take, length-append}
 use lib.Seq.{sets, length-take-le}
 use Rattle.model.specs.Basics.{sort}
-use Rattle.raw.specs.Bytes.{Stands, tableBytes}
+use Rattle.slices.specs.Bytes.{Stands, tableBytes}
 use Rattle.raw.specs.Rows.{versionInfoBytes, headerBytes}
 use Rattle.raw.specs.Head.{version-info, padding}
-use Rattle.raw.proofs.Bytes.{sets-join, length-table, stands-left, stands-right, stands-between}
+use Rattle.slices.proofs.Bytes.{sets-join, length-table, stands-left, stands-right, stands-between}
 use Rattle.raw.proofs.Rows.{length-version-info, length-header, length-range}
 use Rattle.tables.specs.Plain.{rowsOf}
 use Rattle.tables.specs.declared.Row.{Row}

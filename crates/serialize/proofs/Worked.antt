@@ -5,7 +5,7 @@ use mathlib.Core.Path.{_≡_, refl}
 use mathlib.Core.List.{List, [], _∷_, _++_}
 use lib.ListN.{replicate}
 use Rattle.model.specs.Basics.{before, place, sort}
-use Rattle.raw.specs.Bytes.{le, words, tableBytes}
+use Rattle.slices.specs.Bytes.{le, words, tableBytes}
 use Rattle.raw.specs.Rows.{max32, versionInfoBytes, headerBytes, fileBytes, functionBytes, locationBytes, rangeBytes}
 use Rattle.raw.specs.Head.{padding}
 use Rattle.raw.specs.declared.SourceLocation.{SourceLocation}

@@ -15,7 +15,7 @@ ghost use mathlib.Core.List.{List, _++_};
 ghost use lib.ListN.{length, take};
 ghost use lib.Seq.{sets};
 ghost use Rattle.model.specs.Basics.{sort};
-ghost use Rattle.raw.specs.Bytes.{Words, tableBytes};
+ghost use Rattle.slices.specs.Bytes.{Words, tableBytes};
 ghost use Rattle.tables.specs.Plain.{rowsOf};
 ghost use Rattle.sorting.specs.Pairs.{pairWords};
 ghost use Rattle.serialize.specs.Sections.{file-row, function-row, call-row, entries, entry-row, entries-at, entry-location, range-sections, vacant-end, sentinel};

@@ -1,11 +1,11 @@
 -- `cut` meets its contract. The invariant: the bytes copied so far are those from `at` on.
-use Rattle.raw.proofs.Bytes.{copied, copy-turn}
+use Rattle.slices.proofs.Bytes.{copied, copy-turn}
 use lib.ListN.{length-set, length, take}
 use mathlib.Core.Path.{_≡_, refl}
 use borrow.Author.Needs.{needs}
 use Prim.Native.Nat.{_≤_, _-_}
 use native.Mathlib.Omega.{arith}
-use Rattle.raw.specs.Bytes.{bytesAt}
+use Rattle.slices.specs.Bytes.{bytesAt}
 use Rattle.raw.proofs.cut.Statement.{statement}
 use Rattle.raw.proofs.cut.Tie as tie
 

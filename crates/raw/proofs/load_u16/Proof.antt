@@ -1,5 +1,5 @@
 -- `load_u16` meets its contract.
-use Rattle.raw.proofs.Bytes.{leAt-two}
+use Rattle.slices.proofs.Bytes.{leAt-two}
 use native.Mathlib.Omega.{arith}
 use borrow.Author.Needs.{needs}
 use Rattle.raw.proofs.load_u16.Statement.{statement}

@@ -3,7 +3,7 @@ use mathlib.Core.Path.{sym, _∙_}
 use native.Mathlib.Omega.{arith}
 use borrow.Author.Tests.{leb-true}
 use lib.ListN.{replicate}
-use Rattle.raw.proofs.Bytes.{take-sets}
+use Rattle.slices.proofs.Bytes.{take-sets}
 use Rattle.raw.proofs.Rows.{length-function}
 use Rattle.raw.specs.Rows.{functionBytes}
 use borrow.Author.Needs.{needs}

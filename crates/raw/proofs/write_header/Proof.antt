@@ -3,7 +3,7 @@ use mathlib.Core.Path.{_≡_, sym, _∙_}
 use lib.ListN.{length, replicate}
 use native.Mathlib.Omega.{arith}
 use borrow.Author.Tests.{leb-true}
-use Rattle.raw.proofs.Bytes.{take-sets}
+use Rattle.slices.proofs.Bytes.{take-sets}
 use Rattle.raw.proofs.Rows.{length-header}
 use Rattle.raw.specs.Rows.{headerBytes}
 use borrow.Author.Needs.{needs}

@@ -6,7 +6,7 @@ use native.Mathlib.Numerals.{add-one}
 use native.Mathlib.Omega.{arith}
 use lib.ListN.{length, getD, set, take, length-set}
 use lib.Seq.{sets, take-suc, length-take-le}
-use Rattle.raw.proofs.Bytes.{sets-join}
+use Rattle.slices.proofs.Bytes.{sets-join}
 use Rattle.serialize.proofs.write_texts.Statement.{statement}
 use Rattle.serialize.proofs.write_texts.Tie as tie
 

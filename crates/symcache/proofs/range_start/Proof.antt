@@ -2,7 +2,7 @@
 use native.Mathlib.Omega.{arith}
 use Prim.Native.Nat.{_+_, _*_}
 use Rattle.raw.specs.Rows.{rangeAt}
-use Rattle.raw.proofs.Bytes.{leAt-four}
+use Rattle.slices.proofs.Bytes.{leAt-four}
 use borrow.Author.Needs.{needs}
 use Rattle.symcache.proofs.range_start.Statement.{statement}
 use Rattle.symcache.proofs.range_start.Tie as tie

@@ -3,7 +3,7 @@ use Prim.Native.Nat.{_+_}
 use native.Mathlib.Omega.{arith}
 use mathlib.Core.Path.{sym}
 use borrow.Author.Tests.{lt-leb}
-use Rattle.raw.proofs.Bytes.{leb-shift}
+use Rattle.slices.proofs.Bytes.{leb-shift}
 use Rattle.symcache.proofs.lookup.lies_in.Statement.{statement}
 use Rattle.symcache.proofs.lookup.lies_in.Tie as tie
 

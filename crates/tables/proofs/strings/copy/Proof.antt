@@ -6,7 +6,7 @@ use native.Mathlib.Omega.{arith}
 use native.Mathlib.Numerals.{add-one}
 use lib.ListN.{length, getD, set, take, length-set}
 use lib.Seq.{sets, take-suc, take-all, length-take-le}
-use Rattle.raw.proofs.Bytes.{sets-join}
+use Rattle.slices.proofs.Bytes.{sets-join}
 use Rattle.tables.proofs.strings.copy.Statement.{statement}
 use Rattle.tables.proofs.strings.copy.Tie as tie
 

@@ -7,7 +7,7 @@ use lib.Seq.{sets, length-sets}
 use borrow.Author.Needs.{needs}
 use borrow.Author.Tests.{le-leb}
 use Rattle.text.specs.Leb128.{encoded, wrote, written, Written}
-use Rattle.raw.proofs.Bytes.{sets-join}
+use Rattle.slices.proofs.Bytes.{sets-join}
 use Rattle.tables.specs.Strings.{storedText}
 use Rattle.tables.proofs.strings.write.Statement.{statement}
 use Rattle.tables.proofs.strings.write.Tie as tie
