@@ -7,6 +7,11 @@ ghost use lib.Seq.{sets};
 ghost use Rattle.symcache.specs.Answers.{refusalOf, parseAnswer, lookupAnswer, stepAnswer};
 ghost use Rattle.c_words.specs.Words.{stored};
 ghost use Rattle.c_words.specs.Reading.{filled, moved, answered, stepsTo, cacheWords, countAt, cacheOf, refused, cached, parseCall, openCall, findCall, walkWords, walkOf, walkCall, lookupCall, headWords, frameWords, framedWords, framedNext, nextCall};
+use c_words::rows::put_file;
+use c_words::slices::put;
+use c_words::slices::put64;
+use c_words::slices::word;
+use c_words::slices::word64;
 use symcache::ErrorKind;
 use symcache::Parsed;
 use symcache::SymCache;
@@ -15,11 +20,6 @@ use symcache::lookup::FrameFile;
 use symcache::lookup::LookedUp;
 use symcache::lookup::SourceLocations;
 use symcache::lookup::Step;
-use c_words::rows::put_file;
-use c_words::slices::put;
-use c_words::slices::put64;
-use c_words::slices::word;
-use c_words::slices::word64;
 
 // Where a table lies and how many rows it has: words k and k + 1.
 fn put_table(cache: &mut [u64], k: u32, at: usize, n: u32)

@@ -3,6 +3,11 @@ ghost use mathlib.Core.Path.{_≡_};
 ghost use Rattle.symcache.specs.Answers.{fileAnswer, functionAnswer, functionsAnswer, filesAnswer};
 ghost use Rattle.symcache.specs.Strings.{stringAnswer};
 ghost use Rattle.c_words.specs.Reading.{filled, moved, answered, stepsTo, partWords, stringCall, gotName, nameCall, functionRow, fileRow, functionCall, fileCall, indexOf, nextFunctionWords, functionNext, functionsCall, nextFileWords, fileNext, filesCall};
+use c_words::rows::put_file;
+use c_words::rows::put_function;
+use c_words::slices::put;
+use c_words::slices::put64;
+use c_words::slices::word;
 use symcache::lookup::FileStep;
 use symcache::lookup::Files;
 use symcache::lookup::FunctionStep;
@@ -10,11 +15,6 @@ use symcache::lookup::Functions;
 use symcache::lookup::GotFile;
 use symcache::lookup::GotFunction;
 use symcache::strings::GotString;
-use c_words::rows::put_file;
-use c_words::rows::put_function;
-use c_words::slices::put;
-use c_words::slices::put64;
-use c_words::slices::word;
 
 fn put_string(part: &mut [u64], string: GotString) -> u32
     ensures { λ r. ⌜ filled r (now (part .exit)) ≡ answered partWords (stringAnswer string) (now (part .entry)) ⌝ }

@@ -4,10 +4,10 @@ ghost use Rattle.steps.specs.Words.{memory};
 ghost use Rattle.unpacked.specs.Lines.{lineColumns};
 ghost use Rattle.c_words.specs.Record.{converterOf, kept};
 ghost use Rattle.exports.specs.Writing.{left, linesLeft, linesCall};
-use rows::LineRow;
-use steps::Converter;
 use c_words::record::load;
 use c_words::record::store_answer;
+use rows::LineRow;
+use steps::Converter;
 use writer::calls::Answer;
 
 // The record as a converter; its words stay.

@@ -5,13 +5,13 @@ ghost use Rattle.slices.specs.Bytes.{bytesAt};
 ghost use Rattle.rows.specs.Columns.{columns};
 ghost use Rattle.steps.specs.Words.{memory};
 ghost use Rattle.exports.specs.Writing.{left, beginCall, treeCall, nameAt, symbolCall, leftFile, serializeCall};
-use rows::OptionalPart;
-use rows::TextPart;
 use c_words::file::put_len;
 use c_words::record::load;
 use c_words::record::store;
 use c_words::record::store_answer;
 use c_words::slices::is_set;
+use rows::OptionalPart;
+use rows::TextPart;
 
 // The first 32 bytes, zeros past the end: a header row begins with its debug id.
 fn debug_id_of(bytes: &[u8]) -> [u8; 32]

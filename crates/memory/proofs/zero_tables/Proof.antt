@@ -1,8 +1,8 @@
 -- `zero_tables` meets its contract: each table is zeroed by its call.
-use Rattle.steps.specs.Words.{memory}
+use Rattle.memory.specs.Memory.{memory}
 use borrow.Author.Needs.{needs}
-use Rattle.writer.proofs.calls.zero_tables.Statement.{statement}
-use Rattle.writer.proofs.calls.zero_tables.Tie as tie
+use Rattle.memory.proofs.zero_tables.Statement.{statement}
+use Rattle.memory.proofs.zero_tables.Tie as tie
 
 zero-bytes-requires : tie.Need-zero-bytes-requires
 zero-bytes-requires c κs = search needs

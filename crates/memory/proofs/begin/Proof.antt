@@ -1,9 +1,9 @@
 -- `begin` meets its contract: `begin-law`.
-use Rattle.steps.specs.Words.{memory}
-use Rattle.writer.proofs.CallLaws.{begin-law}
+use Rattle.memory.specs.Memory.{memory}
+use Rattle.memory.proofs.Laws.{begin-law}
 use borrow.Author.Needs.{needs}
-use Rattle.writer.proofs.calls.begin.Statement.{statement}
-use Rattle.writer.proofs.calls.begin.Tie as tie
+use Rattle.memory.proofs.begin.Statement.{statement}
+use Rattle.memory.proofs.begin.Tie as tie
 
 zero-tables-requires : tie.Need-zero-tables-requires
 zero-tables-requires c κs = search needs

@@ -4,8 +4,8 @@ use mathlib.Core.Path.{_≡_, ap}
 use lib.Dec.{leb}
 use borrow.Author.Tests.{lt-ltb, le-ltb}
 use Rattle.tables.specs.Strings.{textCapacityOf}
-use Rattle.unpacked.proofs.text_within.Statement.{statement}
-use Rattle.unpacked.proofs.text_within.Tie as tie
+use Rattle.memory.proofs.text_within.Statement.{statement}
+use Rattle.memory.proofs.text_within.Tie as tie
 
 few : (words count : ℕ) → words < 268435456 → leb count (words) ≡ leb count (textCapacityOf words)
 unfolding textCapacityOf

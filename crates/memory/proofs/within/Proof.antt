@@ -4,8 +4,8 @@ use mathlib.Core.Path.{_≡_, ap}
 use lib.Dec.{leb}
 use borrow.Author.Tests.{lt-ltb, le-ltb}
 use Rattle.tables.specs.Table.{capacityOf}
-use Rattle.unpacked.proofs.within.Statement.{statement}
-use Rattle.unpacked.proofs.within.Tie as tie
+use Rattle.memory.proofs.within.Statement.{statement}
+use Rattle.memory.proofs.within.Tie as tie
 
 few : (words count : ℕ) → words / 8 < 16777216 → leb count (words / 8) ≡ leb count (capacityOf words)
 unfolding capacityOf

@@ -1,8 +1,8 @@
 -- `opened` meets its contract: `opened-law`.
-use Rattle.symbols.proofs.SymbolLaws.{opened-law}
+use Rattle.memory.proofs.Laws.{opened-law}
 use borrow.Author.Needs.{needs}
-use Rattle.symbols.proofs.opened.Statement.{statement}
-use Rattle.symbols.proofs.opened.Tie as tie
+use Rattle.memory.proofs.opened.Statement.{statement}
+use Rattle.memory.proofs.opened.Tie as tie
 
 nothing-used-requires : tie.Need-nothing-used-requires
 nothing-used-requires c κs = search needs

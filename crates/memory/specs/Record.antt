@@ -1,0 +1,130 @@
+-- THE CONVERTER'S RECORD: what it says of the lent tables, a new one, and one after a call. Document 01 "Converter" and "Who causes which number".
+use mathlib.Core.Bool.{Bool, true, _&&_}
+use mathlib.Core.List.{List}
+use Prim.Native.Nat.{ℕ}
+use lib.Dec.{leb}
+use Rattle.tables.specs.Table.{capacityOf}
+use Rattle.tables.specs.Strings.{textCapacityOf}
+use Rattle.memory.specs.declared.State.{State}
+use Rattle.memory.specs.declared.LastAddr.{LastAddr}
+use Rattle.memory.specs.declared.LastAddr.the-variants.{Unset}
+use Rattle.memory.specs.declared.Converter.{Converter}
+use Rattle.memory.specs.declared.Lent.{Lent}
+use Rattle.memory.specs.Memory.{Memory, Words, lent, zeroed}
+
+-- ── Capacities ─────────────────────────────────────────────────────────────────────────────────────────────────────────
+
+-- no count is above its table's capacity: "one of its counts above the table's capacity" (19); "a table would need more rows or bytes after this call than its capacity" (17)
+unfoldable pub fitsIn : State → Lent → Bool
+fitsIn s l =
+    leb (s .«string_bytes») (textCapacityOf (l .«string_bytes»))
+    && (leb (s .strings) (capacityOf (l .strings))
+    && (leb (s .files) (capacityOf (l .files))
+    && (leb (s .functions) (capacityOf (l .functions))
+    && (leb (s .«call_locations») (capacityOf (l .«call_locations»)) && leb (s .ranges) (capacityOf (l .ranges))))))
+
+abbrev pub fits? : Words → Bool
+fits? w = fitsIn (w .st) (lent (w .mm))
+
+-- 19: "converter closed, or one of its counts above the table's capacity"
+unfoldable pub usableIn : Converter → Lent → Bool
+usableIn c l = c .«open» && fitsIn (c .state) l
+
+abbrev pub usable? : Converter → Memory → Bool
+usable? c m = usableIn c (lent m)
+
+-- ── The state with other counts ────────────────────────────────────────────────────────────────────────────────────────
+
+abbrev pub with-strings : State → ℕ → ℕ → State
+with-strings s b n = record {
+  «string_bytes» = b;
+  strings = n;
+  files = s .files;
+  functions = s .functions;
+  «call_locations» = s .«call_locations»;
+  ranges = s .ranges;
+  «last_addr» = s .«last_addr»;
+}
+
+abbrev pub with-files : State → ℕ → State
+with-files s n = record {
+  «string_bytes» = s .«string_bytes»;
+  strings = s .strings;
+  files = n;
+  functions = s .functions;
+  «call_locations» = s .«call_locations»;
+  ranges = s .ranges;
+  «last_addr» = s .«last_addr»;
+}
+
+abbrev pub with-functions : State → ℕ → State
+with-functions s n = record {
+  «string_bytes» = s .«string_bytes»;
+  strings = s .strings;
+  files = s .files;
+  functions = n;
+  «call_locations» = s .«call_locations»;
+  ranges = s .ranges;
+  «last_addr» = s .«last_addr»;
+}
+
+abbrev pub with-calls : State → ℕ → State
+with-calls s n = record {
+  «string_bytes» = s .«string_bytes»;
+  strings = s .strings;
+  files = s .files;
+  functions = s .functions;
+  «call_locations» = n;
+  ranges = s .ranges;
+  «last_addr» = s .«last_addr»;
+}
+
+abbrev pub with-ranges : State → ℕ → State
+with-ranges s n = record {
+  «string_bytes» = s .«string_bytes»;
+  strings = s .strings;
+  files = s .files;
+  functions = s .functions;
+  «call_locations» = s .«call_locations»;
+  ranges = n;
+  «last_addr» = s .«last_addr»;
+}
+
+abbrev pub with-last : State → LastAddr → State
+with-last s a = record {
+  «string_bytes» = s .«string_bytes»;
+  strings = s .strings;
+  files = s .files;
+  functions = s .functions;
+  «call_locations» = s .«call_locations»;
+  ranges = s .ranges;
+  «last_addr» = a;
+}
+
+-- ── A beginning, and the record after a call ───────────────────────────────────────────────────────────────────────────
+
+-- nothing in use
+abbrev pub unused : State
+unused = record { «string_bytes» = 0; strings = 0; files = 0; functions = 0; «call_locations» = 0; ranges = 0; «last_addr» = Unset }
+
+-- what it was begun with, nothing in use, and open
+abbrev pub begun : List ℕ → ℕ → Bool → Bool → Converter
+begun id arch f s = record { «debug_id» = id; arch = arch; «undecorate_functions» = f; «undecorate_symbols» = s; «open» = true; state = unused }
+
+-- "Beginning takes the debug id, the arch number and the two switches, and zeroes the lent tables"
+unfoldable pub beginOf : List ℕ → ℕ → Bool → Bool → Memory → Converter × Memory
+beginOf id arch f s m = (begun id arch f s, zeroed m)
+
+abbrev pub with-state : Converter → Bool → State → Converter
+with-state c o s = record {
+  «debug_id» = c .«debug_id»;
+  arch = c .arch;
+  «undecorate_functions» = c .«undecorate_functions»;
+  «undecorate_symbols» = c .«undecorate_symbols»;
+  «open» = o;
+  state = s;
+}
+
+-- the counts with the tables
+abbrev pub words-of : Converter → Memory → Words
+words-of c m = record { st = c .state; mm = m }
