@@ -10,11 +10,12 @@ use borrow.Author.Tests.{eq-eqb, ne-eqb}
 use Rattle.slices.specs.Bytes.{le, leAt, bytesAt, words}
 use Rattle.raw.specs.Rows.{rangeBytes, rangeAt}
 use Rattle.raw.specs.declared.Range.{Range}
-use Rattle.steps.specs.declared.LastAddr.{LastAddr}
-use Rattle.steps.specs.declared.LastAddr.the-variants.{Unset, Set}
-use Rattle.steps.specs.declared.State.{State}
-use Rattle.steps.specs.declared.Converter.{Converter}
-use Rattle.c_words.specs.Words.{stored, yes, flagOf}
+use Rattle.memory.specs.declared.LastAddr.{LastAddr}
+use Rattle.memory.specs.declared.LastAddr.the-variants.{Unset, Set}
+use Rattle.memory.specs.declared.State.{State}
+use Rattle.memory.specs.declared.Converter.{Converter}
+use Rattle.c_words.specs.Words.{stored}
+use Rattle.slices.specs.Words.{yes, flagOf}
 use Rattle.c_words.specs.Record.{lastOf, idOf, stateOf, converterOf, lastWords, idWords, countWords, switchWords, wordsOf}
 use Rattle.c_words.specs.Record.{kept, lenWords}
 

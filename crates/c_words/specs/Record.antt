@@ -7,11 +7,12 @@ use mathlib.Core.List.{List, [], _∷_, _++_}
 use lib.Dec.{eqb}
 use lib.ListN.{length, getD}
 use Rattle.slices.specs.Bytes.{leAt, bytesAt, words}
-use Rattle.steps.specs.declared.LastAddr.{LastAddr}
-use Rattle.steps.specs.declared.LastAddr.the-variants.{Unset, Set}
-use Rattle.steps.specs.declared.State.{State}
-use Rattle.steps.specs.declared.Converter.{Converter}
-use Rattle.c_words.specs.Words.{stored, yes, flagOf}
+use Rattle.memory.specs.declared.LastAddr.{LastAddr}
+use Rattle.memory.specs.declared.LastAddr.the-variants.{Unset, Set}
+use Rattle.memory.specs.declared.State.{State}
+use Rattle.memory.specs.declared.Converter.{Converter}
+use Rattle.c_words.specs.Words.{stored}
+use Rattle.slices.specs.Words.{yes, flagOf}
 
 -- ── Read ───────────────────────────────────────────────────────────────────────────────────────────────────────────────
 

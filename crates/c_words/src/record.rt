@@ -11,10 +11,10 @@ use crate::slices::flag;
 use crate::slices::is_set;
 use crate::slices::put;
 use crate::slices::word;
+use memory::Converter;
+use memory::LastAddr;
+use memory::State;
 use raw::Range;
-use steps::Converter;
-use steps::LastAddr;
-use steps::State;
 
 // Reading it
 

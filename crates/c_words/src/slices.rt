@@ -1,7 +1,7 @@
 // Words of lent slices, read and stored where they are there.
 ghost use mathlib.Core.Path.{_≡_};
 ghost use lib.ListN.{getD, set};
-ghost use Rattle.c_words.specs.Words.{yes, flagOf};
+ghost use Rattle.slices.specs.Words.{yes, flagOf};
 
 // The word at j, 0 past the end.
 pub fn word(t: &[u32], j: usize) -> u32

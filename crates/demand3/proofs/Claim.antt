@@ -24,8 +24,8 @@ use Rattle.model.proofs.Sections.{sections}
 use Rattle.rows.specs.Columns.{Columns, rootRow, laterRows}
 use Rattle.rows.specs.Refusals.{refusalOf}
 use Rattle.rows.proofs.Accepted.{Accepted, accepted}
-use Rattle.steps.specs.Words.{Memory}
-use Rattle.steps.specs.declared.Converter.{Converter}
+use Rattle.memory.specs.Memory.{Memory}
+use Rattle.memory.specs.declared.Converter.{Converter}
 use Rattle.steps.proofs.Lengths.{Lens}
 use Rattle.serialize.specs.File.{Wrote, wrote, serializeOf}
 use Rattle.symcache.specs.Answers.{gives}
@@ -33,9 +33,10 @@ use Rattle.symcache.specs.Reader.{layoutOf, opened}
 use Rattle.read_back.specs.Bytes.{header-of, file-bytes}
 use Rattle.read_back.specs.Shown.{with-stand-in, Found}
 use Rattle.read_back.proofs.Written.{file-shows, file-opened, file-demand}
-use Rattle.writer.specs.Calls.{setup, words-of, usable?, treeOf, symbolOf, beginOf}
-use Rattle.symbols.specs.Symbols.{symbolRow}
-use Rattle.unpacked.specs.Lines.{lineColumns}
+use Rattle.writer.specs.Calls.{setup, treeOf, symbolOf}
+use Rattle.memory.specs.Record.{words-of, usable?, beginOf}
+use Rattle.steps.specs.Symbols.{symbolRow}
+use Rattle.line_rows.specs.Lines.{lineColumns}
 use Rattle.demand3.specs.Lists.{Call, tree, lines-tree, symbol, write, Standing, givenTree, next, run, begun, Typed}
 use Rattle.demand3.specs.Demand3.{Nested, Premises, asked, Shows, Reopened, file-of, Demand3}
 use Rattle.demand3.proofs.Encoding.{capacities, capacities-lent}

@@ -30,7 +30,9 @@ use Rattle.tables.specs.PlainTexts.{Texts}
 use Rattle.tables.proofs.Room.{cap-most, text-room}
 use Rattle.tables.proofs.Sets as sets
 use Rattle.tables.proofs.TextTables as text-tables
-use Rattle.steps.specs.Words.{Words, fits?, last-of}
+use Rattle.memory.specs.Memory.{Words}
+use Rattle.memory.specs.Record.{fits?}
+use Rattle.steps.specs.Steps.{last-of}
 use Rattle.steps.proofs.Lengths.{Lens, lens}
 use Rattle.demand3.proofs.WordRows.{file-row, function-row, call-row, range-row, source, grows-length, within-later, text-word-later, Few}
 use Rattle.demand3.proofs.Interned.{holds-count, bytes-same}

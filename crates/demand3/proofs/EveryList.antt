@@ -26,12 +26,16 @@ use Rattle.rows.specs.Refusals.{refusalOf, shaped?, texts?, ends?, room?, insid
 use Rattle.rows.specs.declared.OptionalPart.{OptionalPart}
 use Rattle.rows.specs.declared.LineRow.{LineRow}
 use Rattle.rows.proofs.Accepted.{Accepted, accepted, given-fits}
-use Rattle.steps.specs.Words.{Memory, Words, over-words}
-use Rattle.steps.specs.declared.Converter.{Converter}
+use Rattle.memory.specs.Memory.{Memory, Words}
+use Rattle.steps.specs.Steps.{over-words}
+use Rattle.memory.specs.declared.Converter.{Converter}
 use Rattle.steps.proofs.Lengths.{Lens}
-use Rattle.writer.specs.Calls.{Called, called, zeros, with-state, setup, words-of, usable?, finished, beginOf, rows-converted, treeOf, symbolOf}
-use Rattle.symbols.specs.Symbols.{unused, symbolRow}
-use Rattle.unpacked.specs.Lines.{lineColumns}
+use Rattle.writer.specs.Calls.{Called, called, setup, finished, rows-converted, treeOf, symbolOf}
+use Rattle.slices.specs.Words.{zeros}
+use Rattle.memory.specs.Record.{with-state, words-of, usable?, beginOf}
+use Rattle.memory.specs.Record.{unused}
+use Rattle.steps.specs.Symbols.{symbolRow}
+use Rattle.line_rows.specs.Lines.{lineColumns}
 use Rattle.line_rows.specs.Calls.{linesOf}
 use Rattle.line_rows.proofs.AsTree.{scratch-had, kept, lines-tree as lines-tree-is}
 use Rattle.demand3.specs.Lists.{Call, tree, lines-tree, symbol, write, Standing, givenTree, after, next, run, begun, due, Typed}

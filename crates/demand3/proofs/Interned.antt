@@ -34,7 +34,7 @@ use Rattle.tables.proofs.Sets.{Over}
 use Rattle.tables.proofs.Sets as sets
 use Rattle.tables.proofs.Maps as maps
 use Rattle.tables.proofs.TextTables as texts
-use Rattle.steps.specs.Words.{held}
+use Rattle.steps.specs.Steps.{held}
 use Rattle.raw.specs.declared.SourceLocation.{SourceLocation}
 use Rattle.demand3.proofs.WordRows.{range-row, source, range-row-location, grows-offset}
 

@@ -15,10 +15,12 @@ use Rattle.model.proofs.Grown.{room}
 use Rattle.model.proofs.Encoded.{AllowedGiven, encoded-call}
 use Rattle.tables.proofs.Sets as sets
 use Rattle.tables.proofs.TextTables as text-tables
-use Rattle.steps.specs.Words.{Memory, Words, fits?, over-words}
+use Rattle.memory.specs.Memory.{Memory, Words}
+use Rattle.memory.specs.Record.{fits?}
+use Rattle.steps.specs.Steps.{over-words}
 use Rattle.steps.proofs.Lengths.{Lens, lens, lens-kept}
 use Rattle.steps.proofs.Loops.{op-keeps}
-use Rattle.symbols.specs.Symbols.{unused}
+use Rattle.memory.specs.Record.{unused}
 use Rattle.demand3.proofs.Encoding.{capacities, Enc, encoding, any, has-room, enc-room, enc-fits}
 use Rattle.demand3.proofs.OverWords.{words-encode}
 

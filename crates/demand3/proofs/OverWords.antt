@@ -21,10 +21,11 @@ use Rattle.model.proofs.Couple.{Alike, vacant, held}
 use Rattle.model.proofs.Encoded.{Holds, Goes, goes-then, Encodes}
 use Rattle.raw.specs.Rows.{max32, isNoSourceLocation}
 use Rattle.raw.specs.declared.SourceLocation.{SourceLocation}
-use Rattle.steps.specs.Words.{Words, add-call, fileRow, locate-six, begin-named, get-range, last-of, later-of, cleared-of, over-words}
-use Rattle.steps.specs.Words.{store as word-store, store-six as word-store-six, add-function as word-add-function}
-use Rattle.steps.specs.declared.LastAddr.{LastAddr}
-use Rattle.steps.specs.declared.LastAddr.the-variants.{Unset, Set}
+use Rattle.memory.specs.Memory.{Words}
+use Rattle.steps.specs.Steps.{add-call, fileRow, locate-six, begin-named, get-range, last-of, later-of, cleared-of, over-words}
+use Rattle.steps.specs.Steps.{store as word-store, store-six as word-store-six, add-function as word-add-function}
+use Rattle.memory.specs.declared.LastAddr.{LastAddr}
+use Rattle.memory.specs.declared.LastAddr.the-variants.{Unset, Set}
 use Rattle.steps.proofs.Lengths.{Lens}
 use Rattle.demand3.proofs.WordRows.{source, grows-length, within-later, in-later, Few}
 use Rattle.demand3.proofs.Interned.{intern-below, shown, got}

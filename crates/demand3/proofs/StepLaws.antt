@@ -27,9 +27,11 @@ use Rattle.tables.specs.Ranges.{rangeRow, putOf}
 use Rattle.tables.specs.Strings.{textCapacityOf, insertTextOf}
 use Rattle.tables.specs.Plain.{Holds}
 use Rattle.tables.specs.declared.Row.{Row}
-use Rattle.steps.specs.declared.LastAddr.{LastAddr}
-use Rattle.steps.specs.Words.{Words, fits?, add-file-row, add-call, fileRow, functionRow, locationRow, last-of, with-last}
-use Rattle.steps.specs.Words.{store as word-store, store-six as word-store-six, add-function as word-add-function, put-range as word-put-range}
+use Rattle.memory.specs.declared.LastAddr.{LastAddr}
+use Rattle.memory.specs.Memory.{Words}
+use Rattle.memory.specs.Record.{fits?, with-last}
+use Rattle.steps.specs.Steps.{add-file-row, add-call, fileRow, functionRow, locationRow, last-of}
+use Rattle.steps.specs.Steps.{store as word-store, store-six as word-store-six, add-function as word-add-function, put-range as word-put-range}
 use Rattle.steps.proofs.Lengths.{Lens, lens, insert-long, put-long, text-long, text-long-index, store-lens, add-function-lens, add-file-row-lens, add-call-lens, put-range-lens}
 use Rattle.demand3.proofs.WordRows.{file-row, function-row, call-row, range-row, source, call-row-is, range-row-is, grows-length, grows-bytes, within-later, in-later, file-in-later, file-row-later, function-row-later, file-row-one, function-row-one, call-row-one, row-path}
 use Rattle.demand3.proofs.Interned.{Added, added, set-back, placed, put-back, stored, stored-within, texts-back}

@@ -22,7 +22,7 @@ use Rattle.raw.specs.declared.SourceLocation.{SourceLocation}
 use Rattle.tables.specs.Table.{rowOf}
 use Rattle.tables.specs.Ranges.{rangeRow, locationOf}
 use Rattle.tables.specs.declared.Row.{Row}
-use Rattle.steps.specs.Words.{locationRow}
+use Rattle.steps.specs.Steps.{locationRow}
 
 -- ── The rows: a file's words, with zeros up to six ──
 

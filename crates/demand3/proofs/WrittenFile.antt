@@ -35,17 +35,19 @@ use Rattle.tables.specs.declared.Row.{Row}
 use Rattle.tables.specs.declared.ranges.Found.{Found}
 use Rattle.tables.specs.declared.ranges.Found.the-variants.{Absent, At}
 use Rattle.tables.proofs.Rows.{rows-getD}
-use Rattle.steps.specs.Words.{Memory, fits?, held, last-of}
-use Rattle.steps.specs.declared.LastAddr.{LastAddr}
-use Rattle.steps.specs.declared.LastAddr.the-variants.{Unset, Set}
-use Rattle.steps.specs.declared.Converter.{Converter}
+use Rattle.memory.specs.Memory.{Memory}
+use Rattle.memory.specs.Record.{fits?}
+use Rattle.steps.specs.Steps.{held, last-of}
+use Rattle.memory.specs.declared.LastAddr.{LastAddr}
+use Rattle.memory.specs.declared.LastAddr.the-variants.{Unset, Set}
+use Rattle.memory.specs.declared.Converter.{Converter}
 use Rattle.steps.proofs.Lengths.{Lens}
 use Rattle.serialize.specs.Sections.{file-row, function-row, call-row, entries, if-vacant, vacant-end, in-order, entry-location, location-row, start-row}
 use Rattle.serialize.specs.File.{ranges-of, header-of, written-file, wrote, serializeOf}
 use Rattle.serialize.proofs.Rows.{table-append}
 use Rattle.read_back.specs.Bytes.{file-bytes}
 use Rattle.read_back.specs.Bytes as reads
-use Rattle.writer.specs.Calls.{words-of}
+use Rattle.memory.specs.Record.{words-of}
 use Rattle.demand3.proofs.WordRows.{range-row, source, range-row-location}
 use Rattle.demand3.proofs.WordRows as rows
 use Rattle.demand3.proofs.Interned.{shown, got, holds-count}

@@ -15,7 +15,7 @@ use Rattle.symcache.specs.declared.SymCache.{SymCache}
 use Rattle.symcache.specs.Answers.{gives}
 use Rattle.symcache.specs.Reader.{opened}
 use Rattle.read_back.specs.Shown.{Shown, with-stand-in, Found}
-use Rattle.steps.specs.Words.{Memory}
+use Rattle.memory.specs.Memory.{Memory}
 use Rattle.serialize.specs.File.{Wrote, serializeOf}
 use Rattle.demand3.specs.Lists.{Call, write, run, begun, Typed}
 

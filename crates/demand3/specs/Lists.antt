@@ -13,11 +13,12 @@ use Rattle.model.specs.Counts.{fits? as plain-fits?}
 use Rattle.rows.specs.Columns.{Columns, rootRow, laterRows}
 use Rattle.rows.specs.declared.OptionalPart.{OptionalPart}
 use Rattle.rows.specs.declared.LineRow.{LineRow}
-use Rattle.steps.specs.Words.{Memory}
-use Rattle.steps.specs.declared.Converter.{Converter}
-use Rattle.writer.specs.Calls.{Called, beginOf, treeOf, symbolOf}
-use Rattle.symbols.specs.Symbols.{symbolRow}
-use Rattle.unpacked.specs.Lines.{lineColumns}
+use Rattle.memory.specs.Memory.{Memory}
+use Rattle.memory.specs.declared.Converter.{Converter}
+use Rattle.writer.specs.Calls.{Called, treeOf, symbolOf}
+use Rattle.memory.specs.Record.{beginOf}
+use Rattle.steps.specs.Symbols.{symbolRow}
+use Rattle.line_rows.specs.Lines.{lineColumns}
 use Rattle.line_rows.specs.Calls.{linesOf}
 
 pub data Call : Type 0 where

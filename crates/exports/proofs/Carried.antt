@@ -17,18 +17,22 @@ use Rattle.rows.specs.Refusals.{refusalOf, optional?}
 use Rattle.rows.specs.declared.OptionalPart.{OptionalPart}
 use Rattle.model.specs.Machine.{convert-symbolM}
 use Rattle.model.specs.Converter.{input}
-use Rattle.steps.specs.Words.{Memory, Words, fits?, over-words}
-use Rattle.steps.specs.declared.LastAddr.{LastAddr}
-use Rattle.steps.specs.declared.LastAddr.the-variants.{Unset, Set}
-use Rattle.steps.specs.declared.State.{State}
-use Rattle.steps.specs.declared.Converter.{Converter}
-use Rattle.writer.specs.Calls.{Called, called, setup, words-of, usable?, finished, beginOf, rows-converted, treeOf, symbolOf}
-use Rattle.symbols.specs.Symbols.{symbolRow}
+use Rattle.memory.specs.Memory.{Memory, Words}
+use Rattle.memory.specs.Record.{fits?}
+use Rattle.steps.specs.Steps.{over-words}
+use Rattle.memory.specs.declared.LastAddr.{LastAddr}
+use Rattle.memory.specs.declared.LastAddr.the-variants.{Unset, Set}
+use Rattle.memory.specs.declared.State.{State}
+use Rattle.memory.specs.declared.Converter.{Converter}
+use Rattle.writer.specs.Calls.{Called, called, setup, finished, rows-converted, treeOf, symbolOf}
+use Rattle.memory.specs.Record.{words-of, usable?, beginOf}
+use Rattle.steps.specs.Symbols.{symbolRow}
 use Rattle.line_rows.specs.Calls.{LinesCalled, unpackRoom?, linesOf}
 use Rattle.c_words.proofs.StoreLaws.{sets-at}
-use Rattle.c_words.specs.Words.{stored, yes, flagOf}
+use Rattle.c_words.specs.Words.{stored}
+use Rattle.slices.specs.Words.{yes, flagOf}
 use Rattle.c_words.specs.Record.{lastOf, idOf, stateOf, converterOf, lastWords, idWords, countWords, switchWords, wordsOf, Bytes, IdFits}
-use Rattle.exports.specs.Writing.{leaves, beginCall, treeCall, linesCall, symbolCall}
+use Rattle.c_words.specs.Writing.{leaves, beginCall, treeCall, linesCall, symbolCall}
 use Rattle.c_words.specs.Record.{kept}
 
 -- ── Bytes ──────────────────────────────────────────────────────────────────────────────────────────────────────────────

@@ -11,19 +11,20 @@ use Rattle.slices.specs.Bytes.{bytesAt}
 use Rattle.slices.proofs.Bytes.{length-bytesAt}
 use Rattle.model.specs.Rows.{Given, symbol-row}
 use Rattle.model.specs.Converter.{Setup}
-use Rattle.steps.specs.Words.{Memory}
-use Rattle.steps.specs.declared.Converter.{Converter}
-use Rattle.writer.specs.Calls.{beginOf, treeOf, symbolOf}
-use Rattle.symbols.specs.Symbols.{symbolRow}
-use Rattle.unpacked.specs.Lines.{lineColumns}
+use Rattle.memory.specs.Memory.{Memory}
+use Rattle.memory.specs.declared.Converter.{Converter}
+use Rattle.memory.specs.Record.{beginOf}
+use Rattle.writer.specs.Calls.{treeOf, symbolOf}
+use Rattle.steps.specs.Symbols.{symbolRow}
+use Rattle.line_rows.specs.Lines.{lineColumns}
 use Rattle.line_rows.specs.Calls.{linesOf}
 use Rattle.serialize.specs.File.{serializeOf}
 use Rattle.demand3.specs.Lists.{Call, tree, lines-tree, symbol, write, givenTree, Standing as PlainStanding, next as plain-next, run as plain-run, begun as plain-begun}
 use Rattle.demand3.specs.Demand3.{Reopened}
 use Rattle.demand3.proofs.Claim.{demand3}
-use Rattle.c_words.specs.Words.{yes}
+use Rattle.slices.specs.Words.{yes}
 use Rattle.c_words.specs.Record.{converterOf, Bytes}
-use Rattle.exports.specs.Writing.{beginCall, treeCall, linesCall, symbolCall, serializeCall}
+use Rattle.c_words.specs.Writing.{beginCall, treeCall, linesCall, symbolCall, serializeCall}
 use Rattle.c_words.specs.Record.{lenWords}
 use Rattle.exports.specs.Lists.{Standing, next, run, begun, ExportedDemand3}
 use Rattle.exports.proofs.Carried.{tree-carried, lines-carried, symbol-carried, begin-carried}

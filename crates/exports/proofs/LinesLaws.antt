@@ -3,14 +3,14 @@ use mathlib.Core.Path.{_≡_, ap, _∙_}
 use mathlib.Core.List.{List}
 use Prim.Native.Nat.{ℕ}
 use Rattle.rows.specs.Columns.{Columns}
-use Rattle.steps.specs.Words.{Memory}
-use Rattle.steps.specs.declared.Converter.{Converter}
+use Rattle.memory.specs.Memory.{Memory}
+use Rattle.memory.specs.declared.Converter.{Converter}
 use Rattle.writer.specs.Calls.{called}
 use Rattle.writer.specs.declared.calls.Answer.{Answer}
 use Rattle.line_rows.specs.Calls.{linesOf}
 use Rattle.line_rows.specs.Calls as lines-spec
 use Rattle.c_words.specs.Record.{converterOf}
-use Rattle.exports.specs.Writing.{left, linesLeft, linesLeave, linesCall}
+use Rattle.c_words.specs.Writing.{left, linesLeft, linesLeave, linesCall}
 use Rattle.c_words.specs.Record.{kept}
 
 module _ (w : List ℕ) (m : Memory) (s u v : List ℕ) (k : Columns) where

@@ -9,10 +9,10 @@ use Rattle.symcache.specs.Answers.{refuseIf, andThen}
 use Rattle.symcache.specs.Reader.{aligned, layoutOf, tested, parsed, ascendingFrom, ascending, opened}
 use Rattle.symcache.specs.Lookup.{countIn, searchIn, foundAmong, usable, foundIn, locationIn, functionIn, fileIn, walkAt, lookedUp, met, frameIn, ended, stepIn, stepped}
 use Rattle.symcache.proofs.Worked.{worked}
-use Rattle.steps.specs.Words.{memory}
-use Rattle.writer.specs.Calls.{beginOf}
+use Rattle.memory.specs.Memory.{memory}
+use Rattle.memory.specs.Record.{beginOf}
 use Rattle.c_words.specs.Record.{wordsOf}
-use Rattle.exports.specs.Writing.{left, beginCall}
+use Rattle.c_words.specs.Writing.{left, beginCall}
 use Rattle.c_words.specs.Reading.{filled, moved, answered, stepsTo, refused, cached, parseCall, openCall, walkOf, lookupCall, nextCall}
 
 -- a beginning: the debug id 01 02, arch 5, names of functions undecorated; the record's words after it

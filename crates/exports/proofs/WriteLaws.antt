@@ -11,13 +11,15 @@ use Rattle.raw.specs.Rows.{headerAt}
 use Rattle.raw.specs.declared.Header.{Header}
 use Rattle.rows.specs.Columns.{Columns}
 use Rattle.rows.specs.declared.OptionalPart.{OptionalPart}
-use Rattle.steps.specs.Words.{Memory}
-use Rattle.steps.specs.declared.Converter.{Converter}
-use Rattle.writer.specs.Calls.{Called, called, beginOf, treeOf, symbolOf}
+use Rattle.memory.specs.Memory.{Memory}
+use Rattle.memory.specs.declared.Converter.{Converter}
+use Rattle.writer.specs.Calls.{Called, called, treeOf, symbolOf}
+use Rattle.memory.specs.Record.{beginOf}
 use Rattle.serialize.specs.File.{Wrote, wrote, serializeOf}
-use Rattle.c_words.specs.Words.{stored, yes}
+use Rattle.c_words.specs.Words.{stored}
+use Rattle.slices.specs.Words.{yes}
 use Rattle.c_words.specs.Record.{converterOf, wordsOf}
-use Rattle.exports.specs.Writing.{Left, left, leaves, beginCall, treeCall, nameAt, symbolCall, LeftFile, leftFile, serializeCall}
+use Rattle.c_words.specs.Writing.{Left, left, leaves, beginCall, treeCall, nameAt, symbolCall, LeftFile, leftFile, serializeCall}
 use Rattle.c_words.specs.Record.{kept, lenWords}
 
 pub id-bytes : (s : List ℕ) (h : Header) → h ≡ headerAt s 0 → h .«debug_id» ≡ bytesAt 32 s 0

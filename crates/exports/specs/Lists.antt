@@ -8,14 +8,14 @@ use lib.Dec.{eqb}
 use lib.ListN.{length, take, getD}
 use Rattle.model.specs.Basics.{_∈_}
 use Rattle.model.specs.Rows.{MAX, Given, symbol-row}
-use Rattle.symbols.specs.Symbols.{symbolRow}
-use Rattle.steps.specs.Words.{Memory}
-use Rattle.unpacked.specs.Lines.{lineColumns}
+use Rattle.steps.specs.Symbols.{symbolRow}
+use Rattle.memory.specs.Memory.{Memory}
+use Rattle.line_rows.specs.Lines.{lineColumns}
 use Rattle.demand3.specs.Lists.{Call, tree, lines-tree, symbol, write, givenTree, Typed}
 use Rattle.demand3.specs.Demand3.{Reopened}
-use Rattle.c_words.specs.Words.{yes}
+use Rattle.slices.specs.Words.{yes}
 use Rattle.c_words.specs.Record.{Bytes}
-use Rattle.exports.specs.Writing.{Left, beginCall, treeCall, linesCall, symbolCall, LeftFile, serializeCall}
+use Rattle.c_words.specs.Writing.{Left, beginCall, treeCall, linesCall, symbolCall, LeftFile, serializeCall}
 
 -- where a list stands: the record's words and the tables as the call before left them, and the calls accepted since the beginning
 pub record Standing : Type 0 where

@@ -8,12 +8,14 @@ use lib.ListN.{length}
 use Rattle.slices.specs.Bytes.{bytesAt}
 use Rattle.rows.specs.Columns.{Columns}
 use Rattle.rows.specs.declared.OptionalPart.{OptionalPart}
-use Rattle.steps.specs.Words.{Memory}
-use Rattle.steps.specs.declared.Converter.{Converter}
-use Rattle.writer.specs.Calls.{Called, beginOf, treeOf, symbolOf}
+use Rattle.memory.specs.Memory.{Memory}
+use Rattle.memory.specs.declared.Converter.{Converter}
+use Rattle.writer.specs.Calls.{Called, treeOf, symbolOf}
+use Rattle.memory.specs.Record.{beginOf}
 use Rattle.line_rows.specs.Calls.{LinesCalled, linesOf}
 use Rattle.serialize.specs.File.{Wrote, serializeOf}
-use Rattle.c_words.specs.Words.{stored, yes}
+use Rattle.c_words.specs.Words.{stored}
+use Rattle.slices.specs.Words.{yes}
 use Rattle.c_words.specs.Record.{converterOf, wordsOf, kept, lenWords}
 
 -- what a call leaves: document 01's number, the record's words, the six tables, scratch

@@ -1,13 +1,13 @@
 // A tree whose line rows are one lent list of rows.
 ghost use mathlib.Core.Path.{_≡_};
-ghost use Rattle.steps.specs.Words.{memory};
-ghost use Rattle.unpacked.specs.Lines.{lineColumns};
+ghost use Rattle.memory.specs.Memory.{memory};
+ghost use Rattle.line_rows.specs.Lines.{lineColumns};
 ghost use Rattle.c_words.specs.Record.{converterOf, kept};
-ghost use Rattle.exports.specs.Writing.{left, linesLeft, linesCall};
+ghost use Rattle.c_words.specs.Writing.{left, linesLeft, linesCall};
 use c_words::record::load;
 use c_words::record::store_answer;
+use memory::Converter;
 use rows::LineRow;
-use steps::Converter;
 use writer::calls::Answer;
 
 // The record as a converter; its words stay.

@@ -12,9 +12,11 @@ use borrow.Author.Tests.{lt-leb, eq-eqb, eqb-true}
 use Rattle.rows.specs.Columns.{Columns, functionRows, lineRows}
 use Rattle.rows.specs.Refusals.{shaped?, texts?, ends?, room?, refusalOf}
 use Rattle.rows.proofs.Accepted.{some-row}
-use Rattle.steps.specs.Words.{Memory}
-use Rattle.steps.specs.declared.Converter.{Converter}
-use Rattle.writer.specs.Calls.{Called, called, zeros, usable?, finished, rows-converted, treeOf}
+use Rattle.memory.specs.Memory.{Memory}
+use Rattle.memory.specs.declared.Converter.{Converter}
+use Rattle.writer.specs.Calls.{Called, called, finished, rows-converted, treeOf}
+use Rattle.slices.specs.Words.{zeros}
+use Rattle.memory.specs.Record.{usable?}
 use Rattle.line_rows.specs.Calls.{LinesCalled, leaves, unpackRoom?, linesOf}
 
 -- ── Rows that are refused for want of scratch alone ──

@@ -10,12 +10,15 @@ use borrow.Author.Tests.{eq-eqb, ne-eqb, le-leb, lt-leb, leb-true, leb-false, eq
 use Rattle.rows.specs.Columns.{Columns, columns}
 use Rattle.rows.specs.Refusals.{refusalOf, refusalWith}
 use Rattle.rows.specs.declared.LineRow.{LineRow}
-use Rattle.steps.specs.Words.{Memory, fits?}
-use Rattle.steps.specs.declared.Converter.{Converter}
-use Rattle.writer.specs.Calls.{Called, called, zeros, usable?, treeOf}
-use Rattle.unpacked.specs.Lines.{words64, words32, packed, lineColumns, linesTexts?, putRows}
+use Rattle.memory.specs.Memory.{Memory}
+use Rattle.memory.specs.Record.{fits?}
+use Rattle.memory.specs.declared.Converter.{Converter}
+use Rattle.writer.specs.Calls.{Called, called, treeOf}
+use Rattle.slices.specs.Words.{zeros}
+use Rattle.memory.specs.Record.{usable?}
+use Rattle.line_rows.specs.Lines.{words64, words32, packed, lineColumns, linesTexts?, putRows}
 use Rattle.line_rows.specs.Calls.{LinesCalled, leaves, unpackRoom?, linesOf, unpackedOf}
-use Rattle.unpacked.specs.Numbers.{usableBy, numberOf}
+use Rattle.line_rows.specs.Numbers.{usableBy, numberOf}
 use Rattle.line_rows.proofs.Packed.{length64, length32, unpacked64-is, unpacked32-is, put-nothing, put-long, refusal-lines}
 
 -- ── `process_unpacked` ──

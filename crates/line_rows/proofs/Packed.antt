@@ -12,7 +12,7 @@ use Rattle.rows.specs.Columns.{Columns, columns, lineWords, lineRow, lineRows, 
 use Rattle.rows.specs.Refusals.{each, lineTexts?, lineLengths?, refusalOf, refusalWith}
 use Rattle.rows.specs.declared.LineRow.{LineRow}
 use Rattle.rows.proofs.Laws.{line-in, refusal-columns}
-use Rattle.unpacked.specs.Lines.{noLine, flag, words64, words32, packed, lineColumns, linesTexts?, putRow, putRows}
+use Rattle.line_rows.specs.Lines.{noLine, flag, words64, words32, packed, lineColumns, linesTexts?, putRow, putRows}
 
 -- ── Columns of w words a row ──
 

@@ -6,9 +6,11 @@ use lib.Dec.{eqb, leb}
 use lib.ListN.{length, take}
 use Rattle.rows.specs.Columns.{Columns, columns}
 use Rattle.rows.specs.Refusals.{refusalOf}
-use Rattle.steps.specs.Words.{Memory}
-use Rattle.steps.specs.declared.Converter.{Converter}
-use Rattle.writer.specs.Calls.{Called, called, zeros, usable?, treeOf}
+use Rattle.memory.specs.Memory.{Memory}
+use Rattle.memory.specs.declared.Converter.{Converter}
+use Rattle.writer.specs.Calls.{Called, called, treeOf}
+use Rattle.slices.specs.Words.{zeros}
+use Rattle.memory.specs.Record.{usable?}
 
 -- what such a call leaves: what a tree call does, and the memory that the line rows were unpacked into
 pub record LinesCalled : Type 0 where

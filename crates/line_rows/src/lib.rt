@@ -2,12 +2,13 @@
 ghost use mathlib.Core.Path.{_≡_};
 ghost use Prim.Native.Nat.{_*_, _≤_};
 ghost use lib.ListN.{length};
-ghost use Rattle.steps.specs.Words.{memory};
-ghost use Rattle.writer.specs.Calls.{called, zeros};
-ghost use Rattle.unpacked.specs.Lines.{lineColumns};
+ghost use Rattle.memory.specs.Memory.{memory};
+ghost use Rattle.writer.specs.Calls.{called};
+ghost use Rattle.slices.specs.Words.{zeros};
+ghost use Rattle.line_rows.specs.Lines.{lineColumns};
 ghost use Rattle.line_rows.specs.Calls.{leaves, linesOf, unpackedOf};
+use memory::Converter;
 use rows::LineRow;
-use steps::Converter;
 use unpacked::is_usable;
 use unpacked::lines_texts;
 use unpacked::refusal;

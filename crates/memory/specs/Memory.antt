@@ -1,10 +1,11 @@
--- THE LENT TABLES: document 01, "Forms that Rattle cannot carry": "lent tables, each with a count". Which tables there are, with the counts that the record has of them.
+-- THE LENT TABLES: document 01, "Forms that Rattle cannot carry": "lent tables, each with a count".
+-- Which tables there are, with the counts that the record has of them.
 use mathlib.Core.List.{List}
 use Prim.Native.Nat.{ℕ}
 use lib.ListN.{length}
 use Rattle.slices.specs.Words.{zeros}
 use Rattle.memory.specs.declared.State.{State}
-use Rattle.memory.specs.declared.Lent.{Lent}
+use Rattle.memory.specs.declared.Lengths.{Lengths}
 
 -- the string section, the index of its texts, and the four tables of the Rust's `SymCacheConverter`
 pub record Memory : Type 0 where
@@ -27,7 +28,7 @@ abbrev pub words : State → List ℕ → List ℕ → List ℕ → List ℕ →
 words s x i f g c r = record { st = s; mm = memory x i f g c r }
 
 -- their lengths
-abbrev pub lent : Memory → Lent
+abbrev pub lent : Memory → Lengths
 lent m = record {
   «string_bytes» = length (m .text);
   strings = length (m .strings);

@@ -9,13 +9,14 @@ use Rattle.memory.specs.declared.State.{State}
 use Rattle.memory.specs.declared.LastAddr.{LastAddr}
 use Rattle.memory.specs.declared.LastAddr.the-variants.{Unset}
 use Rattle.memory.specs.declared.Converter.{Converter}
-use Rattle.memory.specs.declared.Lent.{Lent}
-use Rattle.memory.specs.Memory.{Memory, Words, lent, zeroed}
+use Rattle.memory.specs.declared.Lengths.{Lengths}
+use Rattle.memory.specs.Memory.{Memory, Words, words, lent, zeroed}
 
 -- ── Capacities ─────────────────────────────────────────────────────────────────────────────────────────────────────────
 
--- no count is above its table's capacity: "one of its counts above the table's capacity" (19); "a table would need more rows or bytes after this call than its capacity" (17)
-unfoldable pub fitsIn : State → Lent → Bool
+-- no count is above its table's capacity: "one of its counts above the table's capacity" (19);
+-- "a table would need more rows or bytes after this call than its capacity" (17)
+unfoldable pub fitsIn : State → Lengths → Bool
 fitsIn s l =
     leb (s .«string_bytes») (textCapacityOf (l .«string_bytes»))
     && (leb (s .strings) (capacityOf (l .strings))
@@ -27,13 +28,13 @@ abbrev pub fits? : Words → Bool
 fits? w = fitsIn (w .st) (lent (w .mm))
 
 -- 19: "converter closed, or one of its counts above the table's capacity"
-unfoldable pub usableIn : Converter → Lent → Bool
+unfoldable pub usableIn : Converter → Lengths → Bool
 usableIn c l = c .«open» && fitsIn (c .state) l
 
 abbrev pub usable? : Converter → Memory → Bool
 usable? c m = usableIn c (lent m)
 
--- ── The state with other counts ────────────────────────────────────────────────────────────────────────────────────────
+-- ── Other counts, and other tables with them ───────────────────────────────────────────────────────────────────────────
 
 abbrev pub with-strings : State → ℕ → ℕ → State
 with-strings s b n = record {
@@ -100,6 +101,22 @@ with-last s a = record {
   ranges = s .ranges;
   «last_addr» = a;
 }
+
+-- a table after a step, with its count; the others stay
+abbrev pub texts-become : Words → ℕ → ℕ → List ℕ → List ℕ → Words
+texts-become w b n x i = words (with-strings (w .st) b n) x i (w .mm .files) (w .mm .functions) (w .mm .calls) (w .mm .ranges)
+
+abbrev pub files-become : Words → ℕ → List ℕ → Words
+files-become w n t = words (with-files (w .st) n) (w .mm .text) (w .mm .strings) t (w .mm .functions) (w .mm .calls) (w .mm .ranges)
+
+abbrev pub functions-become : Words → ℕ → List ℕ → Words
+functions-become w n t = words (with-functions (w .st) n) (w .mm .text) (w .mm .strings) (w .mm .files) t (w .mm .calls) (w .mm .ranges)
+
+abbrev pub calls-become : Words → ℕ → List ℕ → Words
+calls-become w n t = words (with-calls (w .st) n) (w .mm .text) (w .mm .strings) (w .mm .files) (w .mm .functions) t (w .mm .ranges)
+
+abbrev pub ranges-become : Words → ℕ → List ℕ → Words
+ranges-become w n t = words (with-ranges (w .st) n) (w .mm .text) (w .mm .strings) (w .mm .files) (w .mm .functions) (w .mm .calls) t
 
 -- ── A beginning, and the record after a call ───────────────────────────────────────────────────────────────────────────
 

@@ -1,10 +1,11 @@
-// What the converter keeps between calls: its record, which goes in and comes back by value, and the lent tables. Which tables there are stands here and in `memory` of specs/.
+// What the converter keeps between calls: its record, which goes in and comes back by value, and the lent tables.
+// Which tables there are stands here: `State`, `Lengths`, `lent`, `zero_tables`, and `Memory` of specs/.
 ghost use mathlib.Core.Path.{_≡_};
 ghost use mathlib.Core.Bool.{_&&_};
 ghost use lib.Dec.{leb};
 ghost use Rattle.tables.specs.Table.{capacityOf};
 ghost use Rattle.tables.specs.Strings.{textCapacityOf};
-ghost use Rattle.memory.specs.Memory.{memory, zeroed};
+ghost use Rattle.memory.specs.Memory.{memory, lent, zeroed};
 ghost use Rattle.memory.specs.Record.{fitsIn, usableIn, unused, begun, with-state, beginOf};
 use slices::zero;
 use slices::zero_bytes;
@@ -37,7 +38,7 @@ pub struct Converter {
 }
 
 // The lengths of the lent tables: of the texts in bytes, of the others in words.
-pub struct Lent {
+pub struct Lengths {
     pub string_bytes: usize,
     pub strings: usize,
     pub files: usize,
@@ -46,7 +47,40 @@ pub struct Lent {
     pub ranges: usize,
 }
 
+// Numbers of document 01
+
+// A table would need more rows or bytes after this call than its capacity.
+pub const TABLE_FULL: u32 = 17;
+
+// The converter is closed, or one of its counts is above the table's capacity.
+pub const CLOSED: u32 = 19;
+
 // Capacities
+
+// The lengths of tables that are lent.
+pub fn lent(
+    string_bytes: &[u8],
+    strings: &[u32],
+    files: &[u32],
+    functions: &[u32],
+    call_locations: &[u32],
+    ranges: &[u32],
+) -> Lengths
+    ensures { λ r. ⌜ (
+        let before = memory (now («string_bytes» .entry)) (now (strings .entry)) (now (files .entry))
+        (now (functions .entry)) (now («call_locations» .entry)) (now (ranges .entry)) in
+        r ≡ lent before
+        ) ⌝ }
+{
+    Lengths {
+        string_bytes: string_bytes.len(),
+        strings: strings.len(),
+        files: files.len(),
+        functions: functions.len(),
+        call_locations: call_locations.len(),
+        ranges: ranges.len(),
+    }
+}
 
 // Whether a count is at most the number of rows that a table of so many words has room for.
 fn within(count: u32, words: usize) -> bool
@@ -79,7 +113,7 @@ fn both(a: bool, b: bool) -> bool
 }
 
 // Whether no count is above the capacity of its table.
-pub fn fits(state: State, lent: Lent) -> bool
+pub fn fits(state: State, lent: Lengths) -> bool
     ensures { λ r. ⌜ r ≡ fitsIn state lent ⌝ }
 {
     let string_bytes = text_within(state.string_bytes, lent.string_bytes);
@@ -98,7 +132,7 @@ pub fn fits(state: State, lent: Lent) -> bool
 }
 
 // 19: whether the converter is open and no count is above the capacity of its table.
-pub fn is_usable(c: Converter, lent: Lent) -> bool
+pub fn is_usable(c: Converter, lent: Lengths) -> bool
     ensures { λ r. ⌜ r ≡ usableIn c lent ⌝ }
 {
     both(c.open, fits(c.state, lent))

@@ -31,7 +31,7 @@ use crate::words::put;
 use crate::words::put_number;
 use crate::words::set_depths;
 use crate::words::set_root;
-use steps::Converter;
+use memory::Converter;
 use writer::calls::Answer;
 
 // All that a case lends and that a call may change.

@@ -9,9 +9,9 @@ use crate::words::byte;
 use crate::words::is_left;
 use crate::words::is_left_bytes;
 use crate::words::same_bytes;
-use steps::Converter;
-use steps::LastAddr;
-use steps::State;
+use memory::Converter;
+use memory::LastAddr;
+use memory::State;
 
 // Whether the tables are as before.
 fn tables_same(before: Memory, after: Memory) -> bool {

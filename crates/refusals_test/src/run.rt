@@ -14,7 +14,7 @@ use crate::left::is_as_said;
 use crate::left::tables_zero;
 use crate::words::both;
 use libc::STDOUT_FILENO;
-use steps::Converter;
+use memory::Converter;
 
 // Where a case stands: the record, lent memory, and the number of the call under test. `ok` is whether all was as it should be so far.
 struct Progress {

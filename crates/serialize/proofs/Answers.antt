@@ -13,10 +13,11 @@ use Rattle.model.proofs.Chains.{both-true}
 use Rattle.tables.specs.Table.{capacityOf}
 use Rattle.tables.specs.Strings.{textCapacityOf}
 use Rattle.tables.proofs.Room.{cap-most, text-room}
-use Rattle.steps.specs.Words.{Memory, fits?}
-use Rattle.steps.specs.declared.LastAddr.{LastAddr}
-use Rattle.steps.specs.declared.LastAddr.the-variants.{Unset, Set}
-use Rattle.steps.specs.declared.Converter.{Converter}
+use Rattle.memory.specs.Memory.{Memory}
+use Rattle.memory.specs.Record.{fits?}
+use Rattle.memory.specs.declared.LastAddr.{LastAddr}
+use Rattle.memory.specs.declared.LastAddr.the-variants.{Unset, Set}
+use Rattle.memory.specs.declared.Converter.{Converter}
 use Rattle.serialize.specs.Sections.{vacant-end, sentinel}
 use Rattle.serialize.specs.File.{written-file, layout-of, Ready, Wrote, wrote, serializeOf}
 use Rattle.serialize.specs.declared.Layout.{Layout}

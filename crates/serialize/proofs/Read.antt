@@ -18,8 +18,8 @@ use Rattle.tables.specs.Ranges.{locationOf}
 use Rattle.tables.specs.Plain.{rowsOf}
 use Rattle.tables.specs.declared.Row.{Row}
 use Rattle.tables.proofs.Rows.{rows-length, rows-getD}
-use Rattle.steps.specs.Words.{Memory}
-use Rattle.steps.specs.declared.Converter.{Converter}
+use Rattle.memory.specs.Memory.{Memory}
+use Rattle.memory.specs.declared.Converter.{Converter}
 use Rattle.serialize.specs.Sections.{file-of, function-of, call-of, file-row, function-row, call-row, entry-location, location-row, start-row}
 use Rattle.serialize.specs.File.{ranges-of, header-of}
 use Rattle.serialize.specs.declared.Layout.{Layout}

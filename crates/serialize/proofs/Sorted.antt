@@ -16,8 +16,8 @@ use Rattle.tables.proofs.Rows.{rows-length}
 use Rattle.sorting.specs.Pairs.{pairWords, sortedBytesOf}
 use Rattle.sorting.proofs.Pairs.{length-pairWords, sorted-entries}
 use Rattle.sorting.proofs.Order.{sort-length}
-use Rattle.steps.specs.declared.LastAddr.{LastAddr}
-use Rattle.steps.specs.declared.LastAddr.the-variants.{Unset, Set}
+use Rattle.memory.specs.declared.LastAddr.{LastAddr}
+use Rattle.memory.specs.declared.LastAddr.the-variants.{Unset, Set}
 use Rattle.serialize.specs.Sections.{entries, sentinel, entry-row, entries-at, location-row, start-row, range-sections}
 use Rattle.serialize.proofs.Runs.{sets-cover, take-before, drop-after}
 use Rattle.serialize.proofs.Rows.{length-entry-row, length-location-row, length-start-row, length-entries, table-append}

@@ -16,10 +16,10 @@ use Rattle.tables.specs.Plain.{rowsOf}
 use Rattle.tables.specs.declared.Row.{Row}
 use Rattle.tables.proofs.Rows.{rows-length}
 use Rattle.sorting.proofs.Order.{sort-length}
-use Rattle.steps.specs.Words.{Memory}
-use Rattle.steps.specs.declared.LastAddr.{LastAddr}
-use Rattle.steps.specs.declared.State.{State}
-use Rattle.steps.specs.declared.Converter.{Converter}
+use Rattle.memory.specs.Memory.{Memory}
+use Rattle.memory.specs.declared.LastAddr.{LastAddr}
+use Rattle.memory.specs.declared.State.{State}
+use Rattle.memory.specs.declared.Converter.{Converter}
 use Rattle.serialize.specs.Sections.{file-row, function-row, call-row, entries, vacant-end, sentinel, in-order, location-row, start-row, range-sections}
 use Rattle.serialize.specs.File.{ranges-of, header-of, written-file, layout-of, Ready}
 use Rattle.serialize.specs.declared.Layout.{Layout}

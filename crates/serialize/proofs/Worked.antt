@@ -13,9 +13,10 @@ use Rattle.tables.specs.Table.{rowAt, linkAt, headAt, setRow, appendOf, bucketO
 use Rattle.tables.specs.Ranges.{rangeRow, getOf, putAt, putOf}
 use Rattle.tables.specs.Plain.{rowsFrom}
 use Rattle.tables.specs.Strings.{textCapacityOf}
-use Rattle.steps.specs.Words.{Memory, memory, fits?}
-use Rattle.steps.specs.declared.Converter.{Converter}
-use Rattle.steps.specs.declared.LastAddr.the-variants.{Set}
+use Rattle.memory.specs.Memory.{Memory, memory}
+use Rattle.memory.specs.Record.{fits?}
+use Rattle.memory.specs.declared.Converter.{Converter}
+use Rattle.memory.specs.declared.LastAddr.the-variants.{Set}
 use Rattle.serialize.specs.Sections.{file-row, function-row, call-row, entries, in-order, entry-location, location-row, start-row}
 use Rattle.serialize.specs.File.{written-file, wrote, serializeOf}
 

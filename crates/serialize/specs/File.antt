@@ -11,10 +11,11 @@ use Rattle.raw.specs.Rows.{versionInfoBytes, headerBytes}
 use Rattle.raw.specs.Head.{version-info, header, padding}
 use Rattle.raw.specs.declared.Header.{Header}
 use Rattle.tables.specs.Plain.{rowsOf}
-use Rattle.steps.specs.Words.{Memory, fits?}
-use Rattle.steps.specs.declared.LastAddr.{LastAddr}
-use Rattle.steps.specs.declared.State.{State}
-use Rattle.steps.specs.declared.Converter.{Converter}
+use Rattle.memory.specs.Memory.{Memory}
+use Rattle.memory.specs.Record.{fits?}
+use Rattle.memory.specs.declared.LastAddr.{LastAddr}
+use Rattle.memory.specs.declared.State.{State}
+use Rattle.memory.specs.declared.Converter.{Converter}
 use Rattle.serialize.specs.Sections.{file-row, function-row, call-row, vacant-end, sentinel, in-order, location-row, start-row}
 use Rattle.serialize.specs.declared.Layout.{Layout}
 

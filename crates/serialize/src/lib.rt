@@ -1,13 +1,13 @@
 // The written file: writer.rs, `serialize`, from the lent tables into a lent output.
+use memory::Converter;
+use memory::LastAddr;
+use memory::State;
 use raw::File;
 use raw::Function;
 use raw::Header;
 use raw::Range;
 use raw::SourceLocation;
 use raw::VersionInfo;
-use steps::Converter;
-use steps::LastAddr;
-use steps::State;
 use tables::ranges::Found;
 ghost use mathlib.Core.Path.{_≡_};
 ghost use Prim.Native.Nat.{ℕ, _+_, _*_, _≤_, _<_};
@@ -21,7 +21,7 @@ ghost use Rattle.sorting.specs.Pairs.{pairWords};
 ghost use Rattle.serialize.specs.Sections.{file-row, function-row, call-row, entries, entry-row, entries-at, entry-location, range-sections, vacant-end, sentinel};
 ghost use Rattle.raw.specs.Rows.{versionInfoBytes, headerBytes};
 ghost use Rattle.raw.specs.Head.{version-info, padding};
-ghost use Rattle.steps.specs.Words.{memory};
+ghost use Rattle.memory.specs.Memory.{memory};
 ghost use Rattle.serialize.specs.File.{header-of, layout-of, written-file, Ready, wrote, serializeOf};
 
 // What writing answers: document 01's number, 0 for success, and the file's length.

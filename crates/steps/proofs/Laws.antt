@@ -12,8 +12,10 @@ use Rattle.tables.specs.declared.Row.{Row}
 use Rattle.tables.specs.declared.Inserted.{Inserted}
 use Rattle.tables.specs.declared.ranges.Change.{Change}
 use Rattle.tables.specs.declared.strings.Stored.{Stored}
-use Rattle.steps.specs.declared.State.{State}
-use Rattle.steps.specs.Words.{Words, words, gave, with-strings, with-functions, with-files, with-calls, with-ranges, store, add-function, functionRow, add-file-row, add-call, locationRow, put-range, begin-named, store-six, store-row, locate-six, location}
+use Rattle.memory.specs.declared.State.{State}
+use Rattle.memory.specs.Memory.{Words, words}
+use Rattle.steps.specs.Steps.{gave, store, add-function, functionRow, add-file-row, add-call, locationRow, put-range, begin-named, store-six, store-row, locate-six, location}
+use Rattle.memory.specs.Record.{with-strings, with-functions, with-files, with-calls, with-ranges}
 
 -- ── One table ──────────────────────────────────────────────────────────────────────────────────────────────────────────
 

@@ -3,3 +3,4 @@ pub mod Ranges
 pub mod Loops
 pub mod Lengths
 pub mod RowTexts
+pub mod SymbolLaws

@@ -9,7 +9,8 @@ use Rattle.raw.specs.Rows.{noSourceLocation, isNoSourceLocation}
 use Rattle.tables.specs.Ranges.{getOf}
 use Rattle.tables.specs.declared.ranges.Found.{Found}
 use Rattle.tables.specs.declared.ranges.Found.the-variants.{Absent, At}
-use Rattle.steps.specs.Words.{Words, put-range, held, vacant, free, over-words}
+use Rattle.memory.specs.Memory.{Words}
+use Rattle.steps.specs.Steps.{put-range, held, vacant, free, over-words}
 
 abbrev found : Words → ℕ → Found
 found s a = getOf (s .mm .ranges) (s .st .ranges) a

@@ -14,7 +14,8 @@ use Rattle.model.specs.Rows.{MAX, cut32, Text, skipped}
 use Rattle.model.specs.Converter.{Setup, Six, or-empty, line-texts}
 use Rattle.rows.specs.Columns.{Columns, functionStruct, lineStruct, functionAt, lineAt, partOf, textOf}
 use Rattle.rows.specs.declared.TextPart.{TextPart}
-use Rattle.steps.specs.Words.{Words, no-part, sixOf, locate-six, begin-named, over-words}
+use Rattle.memory.specs.Memory.{Words}
+use Rattle.steps.specs.Steps.{no-part, sixOf, locate-six, begin-named, over-words}
 
 -- ── Texts ──
 

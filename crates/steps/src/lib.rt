@@ -1,5 +1,7 @@
 // The steps of the converter (writer.rs, `SymCacheConverter`) on the lent tables. What is in use of each goes in and comes back by value.
 // A step's contract gives the tables that it does not touch any content: they stay as they are.
+use memory::LastAddr;
+use memory::State;
 use raw::SourceLocation;
 use rows::LineRow;
 use rows::OptionalPart;
@@ -10,97 +12,18 @@ ghost use mathlib.Core.Path.{_≡_};
 ghost use mathlib.Core.Bool.{cond};
 ghost use mathlib.Core.List.{List};
 ghost use Prim.Native.Nat.{ℕ};
-ghost use lib.Dec.{leb};
-ghost use lib.ListN.{length};
 ghost use Rattle.names.specs.Names.{undecorated};
 ghost use Rattle.text.specs.Utf8.{utf8};
-ghost use Rattle.tables.specs.Table.{capacityOf};
 ghost use Rattle.tables.specs.Ranges.{getOf};
 ghost use Rattle.rows.specs.Columns.{textOf};
 ghost use Rattle.model.specs.Machine.{unless-held, put-end};
 ghost use Rattle.model.specs.Converter.{Setup, input};
-ghost use Rattle.steps.specs.Words.{
-  words,
-  fits?,
-  gave,
-  store,
-  add-function,
-  add-file-row,
-  add-call,
-  put-range,
-  vacant,
-  free,
-  with-last,
-  later-of,
-  cleared-of,
-  begin-named,
-  no-part,
-  or-no-part,
-  sixOf,
-  store-row,
-  locate-six,
-  over-words,
-};
+ghost use Rattle.memory.specs.Memory.{words};
+ghost use Rattle.memory.specs.Record.{with-last};
+ghost use Rattle.steps.specs.Steps.{gave, store, add-function, add-file-row, add-call, put-range, vacant, free, later-of, cleared-of};
+ghost use Rattle.steps.specs.Steps.{begin-named, no-part, or-no-part, sixOf, store-row, locate-six, over-words};
 
-// The highest address known to be outside of a function, if there is one: `last_addr: Option<u32>`.
-pub enum LastAddr {
-    Unset,
-    Set(u32),
-}
-
-// How much of each lent table is in use, and the last end.
-pub struct State {
-    pub string_bytes: u32,
-    pub strings: u32,
-    pub files: u32,
-    pub functions: u32,
-    pub call_locations: u32,
-    pub ranges: u32,
-    pub last_addr: LastAddr,
-}
-
-// The converter's record: what it was begun with, whether it is open, and how much of the lent tables is in use.
-pub struct Converter {
-    pub debug_id: [u8; 32],
-    pub arch: u32,
-    pub undecorate_functions: bool,
-    pub undecorate_symbols: bool,
-    pub open: bool,
-    pub state: State,
-}
-
-// Whether a count is at most the capacity of its table.
-fn within(count: u32, t: &[u32]) -> bool
-    ensures { λ r. ⌜ r ≡ leb count (capacityOf (length (now (t .entry)))) ⌝ }
-{
-    count <= tables::capacity(t)
-}
-
-// Whether no count is above the capacity of its table.
-pub fn fits(
-    state: State,
-    string_bytes: &[u8],
-    strings: &[u32],
-    files: &[u32],
-    functions: &[u32],
-    call_locations: &[u32],
-    ranges: &[u32],
-) -> bool
-    ensures { λ r. ⌜ r ≡ fits? (words state (now («string_bytes» .entry)) (now (strings .entry)) (now (files .entry)) (now (functions .entry)) (now («call_locations» .entry)) (now (ranges .entry))) ⌝ }
-{
-    if state.string_bytes <= tables::strings::text_capacity(string_bytes) {
-        if within(state.strings, strings) {
-            if within(state.files, files) {
-                if within(state.functions, functions) {
-                    if within(state.call_locations, call_locations) {
-                        return within(state.ranges, ranges);
-                    }
-                }
-            }
-        }
-    }
-    false
-}
+pub mod symbols;
 
 // What a step answers, and the state after it.
 pub struct Indexed {
@@ -115,7 +38,12 @@ pub fn insert_string(
     strings: &mut [u32],
     t: &[u8],
 ) -> Indexed
-    ensures { λ r. ⌜ ((f g c n : List ℕ) → gave (r .index) (words (r .state) (now («string_bytes» .exit)) (now (strings .exit)) f g c n) ≡ store (now (t .entry)) (words state (now («string_bytes» .entry)) (now (strings .entry)) f g c n)) ⌝ }
+    ensures { λ r. ⌜ (
+        (f g c n : List ℕ) →
+        let before = words state (now («string_bytes» .entry)) (now (strings .entry)) f g c n in
+        let after = words (r .state) (now («string_bytes» .exit)) (now (strings .exit)) f g c n in
+        gave (r .index) after ≡ store (now (t .entry)) before
+        ) ⌝ }
 {
     let got = tables::strings::insert(string_bytes, strings, state.string_bytes, state.strings, t);
     state.string_bytes = got.bytes;
@@ -134,11 +62,16 @@ pub fn insert_function(
     entry_pc: u32,
     lang: u32,
 ) -> Indexed
-    ensures { λ r. ⌜ ((x i f c n : List ℕ) → gave (r .index) (words (r .state) x i f (now (functions .exit)) c n) ≡ add-function «name_offset» «entry_pc» lang (words state x i f (now (functions .entry)) c n)) ⌝ }
+    ensures { λ r. ⌜ (
+        (x i f c n : List ℕ) →
+        let before = words state x i f (now (functions .entry)) c n in
+        let after = words (r .state) x i f (now (functions .exit)) c n in
+        gave (r .index) after ≡ add-function «name_offset» «entry_pc» lang before
+        ) ⌝ }
 {
     let row = Row {
         a: name_offset,
-        b: 4294967295,
+        b: u32::MAX,
         c: entry_pc,
         d: lang,
         e: 0,
@@ -154,7 +87,12 @@ pub fn insert_function(
 
 // A file into its index set: the words of a file row, in its order.
 pub fn insert_file(mut state: State, files: &mut [u32], row: Row) -> Indexed
-    ensures { λ r. ⌜ ((x i g c n : List ℕ) → gave (r .index) (words (r .state) x i (now (files .exit)) g c n) ≡ add-file-row row (words state x i (now (files .entry)) g c n)) ⌝ }
+    ensures { λ r. ⌜ (
+        (x i g c n : List ℕ) →
+        let before = words state x i (now (files .entry)) g c n in
+        let after = words (r .state) x i (now (files .exit)) g c n in
+        gave (r .index) after ≡ add-file-row row before
+        ) ⌝ }
 {
     let got = tables::index_set::insert_full(files, state.files, row);
     state.files = got.count;
@@ -170,7 +108,12 @@ pub fn insert_call_location(
     call_locations: &mut [u32],
     l: SourceLocation,
 ) -> Indexed
-    ensures { λ r. ⌜ ((x i f g n : List ℕ) → gave (r .index) (words (r .state) x i f g (now («call_locations» .exit)) n) ≡ add-call l (words state x i f g (now («call_locations» .entry)) n)) ⌝ }
+    ensures { λ r. ⌜ (
+        (x i f g n : List ℕ) →
+        let before = words state x i f g (now («call_locations» .entry)) n in
+        let after = words (r .state) x i f g (now («call_locations» .exit)) n in
+        gave (r .index) after ≡ add-call l before
+        ) ⌝ }
 {
     let row = Row {
         a: l.file_idx,
@@ -215,7 +158,12 @@ pub fn insert_source_location(
     start: u32,
     l: SourceLocation,
 ) -> State
-    ensures { λ r. ⌜ ((X : Setup) (x i f g c : List ℕ) → let s = words state x i f g c (now (ranges .entry)) in words r x i f g c (now (ranges .exit)) ≡ unless-held input (over-words X) start (put-range start l s) s) ⌝ }
+    ensures { λ r. ⌜ (
+        (X : Setup) (x i f g c : List ℕ) →
+        let before = words state x i f g c (now (ranges .entry)) in
+        let after = words r x i f g c (now (ranges .exit)) in
+        after ≡ unless-held input (over-words X) start (put-range start l before) before
+        ) ⌝ }
 {
     if is_free(ranges, state.ranges, start) {
         return insert_range(state, ranges, start, l);
@@ -236,7 +184,12 @@ fn is_vacant(ranges: &[u32], count: u32, start: u32) -> bool
 
 // An explicit empty mapping at the end of a function or symbol, where the start is vacant.
 pub fn insert_end(state: State, ranges: &mut [u32], end: u32) -> State
-    ensures { λ r. ⌜ ((X : Setup) (x i f g c : List ℕ) → words r x i f g c (now (ranges .exit)) ≡ put-end input (over-words X) end (words state x i f g c (now (ranges .entry)))) ⌝ }
+    ensures { λ r. ⌜ (
+        (X : Setup) (x i f g c : List ℕ) →
+        let before = words state x i f g c (now (ranges .entry)) in
+        let after = words r x i f g c (now (ranges .exit)) in
+        after ≡ put-end input (over-words X) end before
+        ) ⌝ }
 {
     if is_vacant(ranges, state.ranges, end) {
         return insert_range(state, ranges, end, SourceLocation::NO_SOURCE_LOCATION);
@@ -325,7 +278,12 @@ pub fn begin_function(
     entry_pc: u32,
     lang: u32,
 ) -> Indexed
-    ensures { λ r. ⌜ ((f c n : List ℕ) → gave (r .index) (words (r .state) (now («string_bytes» .exit)) (now (strings .exit)) f (now (functions .exit)) c n) ≡ begin-named (cond undecorate (undecorated (now (name .entry))) (now (name .entry))) «entry_pc» lang (words state (now («string_bytes» .entry)) (now (strings .entry)) f (now (functions .entry)) c n)) ⌝ }
+    ensures { λ r. ⌜ (
+        (f c n : List ℕ) →
+        let before = words state (now («string_bytes» .entry)) (now (strings .entry)) f (now (functions .entry)) c n in
+        let after = words (r .state) (now («string_bytes» .exit)) (now (strings .exit)) f (now (functions .exit)) c n in
+        gave (r .index) after ≡ begin-named (cond undecorate (undecorated (now (name .entry))) (now (name .entry))) «entry_pc» lang before
+        ) ⌝ }
 {
     let shown = shown_name(name, undecorate);
     let text = insert_string(state, string_bytes, strings, shown);
@@ -340,7 +298,12 @@ fn insert_part(
     text: &[u8],
     p: TextPart,
 ) -> Indexed
-    ensures { λ r. ⌜ ((f g c n : List ℕ) → gave (r .index) (words (r .state) (now («string_bytes» .exit)) (now (strings .exit)) f g c n) ≡ store (textOf (now (text .entry)) p) (words state (now («string_bytes» .entry)) (now (strings .entry)) f g c n)) ⌝ }
+    ensures { λ r. ⌜ (
+        (f g c n : List ℕ) →
+        let before = words state (now («string_bytes» .entry)) (now (strings .entry)) f g c n in
+        let after = words (r .state) (now («string_bytes» .exit)) (now (strings .exit)) f g c n in
+        gave (r .index) after ≡ store (textOf (now (text .entry)) p) before
+        ) ⌝ }
 {
     let t = rows::part(text, p);
     insert_string(state, string_bytes, strings, t)
@@ -364,7 +327,12 @@ fn insert_optional(
     text: &[u8],
     p: OptionalPart,
 ) -> Indexed
-    ensures { λ r. ⌜ ((f g c n : List ℕ) → gave (r .index) (words (r .state) (now («string_bytes» .exit)) (now (strings .exit)) f g c n) ≡ store (textOf (now (text .entry)) (or-no-part p)) (words state (now («string_bytes» .entry)) (now (strings .entry)) f g c n)) ⌝ }
+    ensures { λ r. ⌜ (
+        (f g c n : List ℕ) →
+        let before = words state (now («string_bytes» .entry)) (now (strings .entry)) f g c n in
+        let after = words (r .state) (now («string_bytes» .exit)) (now (strings .exit)) f g c n in
+        gave (r .index) after ≡ store (textOf (now (text .entry)) (or-no-part p)) before
+        ) ⌝ }
 {
     insert_part(state, string_bytes, strings, text, or_empty(p))
 }
@@ -395,7 +363,12 @@ pub fn insert_texts(
     comp_dir: TextPart,
     line: LineRow,
 ) -> Six
-    ensures { λ r. ⌜ ((f g c n : List ℕ) → gave (r .row) (words (r .state) (now («string_bytes» .exit)) (now (strings .exit)) f g c n) ≡ store-row (sixOf (now (text .entry)) «comp_dir» line) (words state (now («string_bytes» .entry)) (now (strings .entry)) f g c n)) ⌝ }
+    ensures { λ r. ⌜ (
+        (f g c n : List ℕ) →
+        let before = words state (now («string_bytes» .entry)) (now (strings .entry)) f g c n in
+        let after = words (r .state) (now («string_bytes» .exit)) (now (strings .exit)) f g c n in
+        gave (r .row) after ≡ store-row (sixOf (now (text .entry)) «comp_dir» line) before
+        ) ⌝ }
 {
     let name = insert_part(state, string_bytes, strings, text, line.name);
     let directory = insert_part(name.state, string_bytes, strings, text, line.directory);
@@ -439,7 +412,12 @@ pub fn locate_line(
     function_idx: u32,
     inlined_into_idx: u32,
 ) -> Located
-    ensures { λ r. ⌜ ((g c n : List ℕ) → gave (r .location) (words (r .state) (now («string_bytes» .exit)) (now (strings .exit)) (now (files .exit)) g c n) ≡ locate-six (sixOf (now (text .entry)) «comp_dir» line) (line .number) «function_idx» «inlined_into_idx» (words state (now («string_bytes» .entry)) (now (strings .entry)) (now (files .entry)) g c n)) ⌝ }
+    ensures { λ r. ⌜ (
+        (g c n : List ℕ) →
+        let before = words state (now («string_bytes» .entry)) (now (strings .entry)) (now (files .entry)) g c n in
+        let after = words (r .state) (now («string_bytes» .exit)) (now (strings .exit)) (now (files .exit)) g c n in
+        gave (r .location) after ≡ locate-six (sixOf (now (text .entry)) «comp_dir» line) (line .number) «function_idx» «inlined_into_idx» before
+        ) ⌝ }
 {
     let texts = insert_texts(state, string_bytes, strings, text, comp_dir, line);
     let file = insert_file(texts.state, files, texts.row);

@@ -8,7 +8,7 @@ use lib.ListN.{length, set}
 use lib.Seq.{sets}
 use borrow.Author.Tests.{lt-ltb, le-ltb, eq-eqb, ne-eqb}
 use Rattle.rows.specs.declared.LineRow.{LineRow}
-use Rattle.unpacked.specs.Lines.{flag, words64, words32, putRow}
+use Rattle.line_rows.specs.Lines.{flag, words64, words32, putRow}
 
 module _ (refused w : ℕ) (t : List ℕ) (j : ℕ) (vs : List ℕ) where
   row-in : refused ≡ 0 → j < length t / w → sets t (j * w) vs ≡ putRow refused w t j vs

@@ -6,7 +6,7 @@ use lib.Dec.{eqb, leb}
 use Rattle.rows.specs.Refusals.{refusalWith}
 use Rattle.tables.specs.Table.{capacityOf}
 use Rattle.tables.specs.Strings.{textCapacityOf}
-use Rattle.steps.specs.declared.Converter.{Converter}
+use Rattle.memory.specs.declared.Converter.{Converter}
 
 -- 19, of tables of these lengths
 abbrev pub usableBy : Converter → ℕ → ℕ → ℕ → ℕ → ℕ → ℕ → Bool

@@ -5,10 +5,10 @@ ghost use lib.Dec.{leb};
 ghost use Rattle.rows.specs.Refusals.{lineTexts?};
 ghost use Rattle.tables.specs.Table.{capacityOf};
 ghost use Rattle.tables.specs.Strings.{textCapacityOf};
-ghost use Rattle.unpacked.specs.Lines.{flag, words64, words32, linesTexts?, putRow, putRows};
-ghost use Rattle.unpacked.specs.Numbers.{usableBy, numberOf};
+ghost use Rattle.line_rows.specs.Lines.{flag, words64, words32, linesTexts?, putRow, putRows};
+ghost use Rattle.line_rows.specs.Numbers.{usableBy, numberOf};
+use memory::Converter;
 use rows::LineRow;
-use steps::Converter;
 
 // 14: the texts so far are in order, and so are this row's.
 fn and_texts(good: bool, text: &[u8], row: LineRow) -> bool

@@ -10,11 +10,17 @@ use Rattle.model.specs.Converter.{input}
 use Rattle.rows.specs.Columns.{Columns}
 use Rattle.rows.specs.Refusals.{refusalOf, optional?}
 use Rattle.rows.specs.declared.OptionalPart.{OptionalPart}
-use Rattle.steps.specs.declared.State.{State}
-use Rattle.steps.specs.declared.Converter.{Converter}
-use Rattle.steps.specs.Words.{Memory, Words, fits?, over-words}
-use Rattle.writer.specs.Calls.{Called, called, zeros, zeroed, with-state, setup, words-of, usable?, finished, beginOf, rows-converted, treeOf, symbolOf}
-use Rattle.symbols.specs.Symbols.{unused, begun, symbolRow}
+use Rattle.memory.specs.declared.State.{State}
+use Rattle.memory.specs.declared.Converter.{Converter}
+use Rattle.memory.specs.Memory.{Memory, Words}
+use Rattle.memory.specs.Record.{fits?}
+use Rattle.steps.specs.Steps.{over-words}
+use Rattle.writer.specs.Calls.{Called, called, setup, finished, rows-converted, treeOf, symbolOf}
+use Rattle.slices.specs.Words.{zeros}
+use Rattle.memory.specs.Memory.{zeroed}
+use Rattle.memory.specs.Record.{with-state, words-of, usable?, beginOf}
+use Rattle.memory.specs.Record.{unused, begun}
+use Rattle.steps.specs.Symbols.{symbolRow}
 
 -- ── The end of a call ──────────────────────────────────────────────────────────────────────────────────────────────────
 

@@ -19,8 +19,9 @@ use Rattle.rows.specs.declared.LineRow.{LineRow as LineStruct}
 use Rattle.rows.specs.declared.Boundaries.{Boundaries}
 use Rattle.rows.specs.Columns.{Columns, functionStruct, lineStruct, textOf, boundariesOf, functionAt, lineAt, linesFrom}
 use Rattle.rows.proofs.RowLaws.{lineAt-address, lineAt-boundaries}
-use Rattle.steps.specs.declared.State.{State}
-use Rattle.steps.specs.Words.{Words, words, no-part, sixOf, locate-six, over-words}
+use Rattle.memory.specs.declared.State.{State}
+use Rattle.memory.specs.Memory.{Words, words}
+use Rattle.steps.specs.Steps.{no-part, sixOf, locate-six, over-words}
 use Rattle.steps.proofs.RowTexts.{dirPart, locate-is}
 use Rattle.scratch.specs.Scratch.{pairsAt, refsAt, turned, turn, Lined}
 use Rattle.scratch.proofs.Walks.{turn-past, turn-last, turn-stops, turn-takes, Stopped}

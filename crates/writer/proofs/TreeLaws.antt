@@ -19,7 +19,8 @@ use Rattle.rows.specs.Columns.{Columns, columns, functionRows, lineRows, functi
 use Rattle.rows.specs.Refusals.{firstLine}
 use Rattle.rows.proofs.RowLaws.{functionAt-lines, functionAt-skipped}
 use Rattle.rows.proofs.Accepted.{Accepted}
-use Rattle.steps.specs.Words.{Words, put-range, location, begin-named, over-words}
+use Rattle.memory.specs.Memory.{Words}
+use Rattle.steps.specs.Steps.{put-range, location, begin-named, over-words}
 use Rattle.steps.proofs.RowTexts.{begin-is}
 use Rattle.scratch.specs.Scratch.{pairsAt, ref-of, refsAt, startAt, lenAt, setCalls, callsOf, topOf, kid-spans, LinesWithin, Lined, RowDone}
 use Rattle.scratch.proofs.Pairs.{pairs-kept}

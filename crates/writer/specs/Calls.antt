@@ -10,10 +10,13 @@ use Rattle.model.specs.Converter.{Setup, input, deep}
 use Rattle.rows.specs.Columns.{Columns, treeRows}
 use Rattle.rows.specs.Refusals.{refusalOf, optional?}
 use Rattle.rows.specs.declared.OptionalPart.{OptionalPart}
-use Rattle.steps.specs.Words.{Memory, Words, fits?, over-words}
-use Rattle.steps.specs.declared.State.{State}
-use Rattle.steps.specs.declared.Converter.{Converter}
-use Rattle.symbols.specs.Symbols.{unused, begun, symbolRow}
+use Rattle.memory.specs.Memory.{Memory, Words}
+use Rattle.memory.specs.Record.{fits?}
+use Rattle.steps.specs.Steps.{over-words}
+use Rattle.memory.specs.declared.State.{State}
+use Rattle.memory.specs.declared.Converter.{Converter}
+use Rattle.memory.specs.Record.{unused, begun}
+use Rattle.steps.specs.Symbols.{symbolRow}
 
 -- ── What a call leaves ─────────────────────────────────────────────────────────────────────────────────────────────────
 

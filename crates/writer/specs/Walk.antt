@@ -9,7 +9,8 @@ use Rattle.model.specs.Machine.{Ref, CursorM, rowM}
 use Rattle.model.specs.Converter.{Setup, input}
 use Rattle.rows.specs.Columns.{Columns, functionRows, functionStruct, functionAt}
 use Rattle.rows.specs.Refusals.{firstLine}
-use Rattle.steps.specs.Words.{Words, over-words}
+use Rattle.memory.specs.Memory.{Words}
+use Rattle.steps.specs.Steps.{over-words}
 use Rattle.scratch.specs.Scratch.{pairsAt, refsAt, callsOf, topOf, kid-spans, LinesWithin, RowDone}
 
 -- ── Call locations ──

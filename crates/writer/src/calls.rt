@@ -5,15 +5,18 @@ ghost use mathlib.Core.List.{List, []};
 ghost use Prim.Native.Nat.{ℕ};
 ghost use Rattle.rows.specs.Columns.{columns};
 ghost use Rattle.rows.specs.Refusals.{optional?};
-ghost use Rattle.steps.specs.Words.{memory};
-ghost use Rattle.writer.specs.Calls.{called, zeros, zeroed, with-state, usable?, finished, beginOf, treeOf, symbolOf};
+ghost use Rattle.memory.specs.Memory.{memory};
+ghost use Rattle.writer.specs.Calls.{called, finished, treeOf, symbolOf};
+ghost use Rattle.slices.specs.Words.{zeros};
+ghost use Rattle.memory.specs.Memory.{zeroed};
+ghost use Rattle.memory.specs.Record.{with-state, usable?, beginOf};
 use crate::tree::process_tree;
-use steps::Converter;
-use steps::State;
+use memory::Converter;
+use memory::State;
+use memory::nothing_used;
 use steps::fits;
-use symbols::nothing_used;
+use steps::symbols::process_symbol;
 use symbols::opened;
-use symbols::process_symbol;
 
 // What a call answers: document 01's number (0 for success), and the record.
 pub struct Answer {

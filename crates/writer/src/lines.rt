@@ -1,8 +1,8 @@
 // A function's lines.
 use crate::scratch::set_word;
 use crate::scratch::word;
+use memory::State;
 use raw::SourceLocation;
-use steps::State;
 use steps::comp_dir_part;
 use steps::insert_call_location;
 use steps::insert_range;
@@ -16,7 +16,8 @@ ghost use lib.ListN.{length};
 ghost use Rattle.model.specs.Machine.{advanceM, loopM};
 ghost use Rattle.model.specs.Converter.{Setup, input};
 ghost use Rattle.rows.specs.Columns.{columns, functionRow, functionAt, linesFrom};
-ghost use Rattle.steps.specs.Words.{words, put-range, over-words};
+ghost use Rattle.memory.specs.Memory.{words};
+ghost use Rattle.steps.specs.Steps.{put-range, over-words};
 ghost use Rattle.scratch.specs.Scratch.{pairsAt, refsAt, turned, turn, Lined};
 ghost use Rattle.writer.specs.Walk.{cursor};
 

@@ -5,10 +5,10 @@ use crate::scratch::calls_at;
 use crate::scratch::gather;
 use crate::scratch::set_calls;
 use crate::scratch::word;
+use memory::State;
 use raw::SourceLocation;
 use rows::FunctionRow;
 use steps::Indexed;
-use steps::State;
 use steps::begin_function;
 use steps::insert_end;
 use steps::insert_source_location;
@@ -26,10 +26,11 @@ ghost use Rattle.model.specs.Machine.{entryM, closingM, convertM, startM};
 ghost use Rattle.model.specs.Converter.{Setup, input, deep};
 ghost use Rattle.rows.specs.Columns.{columns, functionRow, functionAt, textOf, treeRows};
 ghost use Rattle.rows.specs.Refusals.{firstLine, refusalOf};
-ghost use Rattle.steps.specs.Words.{words, gave, begin-named, over-words};
+ghost use Rattle.memory.specs.Memory.{words};
+ghost use Rattle.steps.specs.Steps.{gave, begin-named, over-words};
 ghost use Rattle.scratch.specs.Scratch.{refsAt, callsOf, topOf, kid-spans, LinesWithin};
 ghost use Rattle.writer.specs.Walk.{OwnCalls, Sorted, RowReady, RowLeft, ref};
-ghost use Rattle.symbols.specs.Symbols.{switches};
+ghost use Rattle.steps.specs.Symbols.{switches};
 
 // Functions of size 0, and those whose address is too large for 32 bits, are skipped.
 fn is_skipped(q: FunctionRow) -> bool

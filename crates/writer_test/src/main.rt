@@ -1,8 +1,8 @@
 // Replays lists of calls whose written files the original made: oracle/FORMAT.md, "Converter". A line is printed for each list, the checksum of its words.
 use libc::STDOUT_FILENO;
+use memory::Converter;
 use rows::OptionalPart;
 use rows::TextPart;
-use steps::Converter;
 use writer::calls::Answer;
 
 // Words

@@ -43,18 +43,18 @@ use denote.Triple.Walked.{says, Stays, stay-none, stay-none-slice, gave-slice, w
 use denote.Exit.{yes}
 use Rattle.rows.specs.declared.LineRow.{LineRow}
 use Rattle.rows.proofs.LineRow as T
-use Rattle.steps.specs.declared.Converter.{Converter}
+use Rattle.memory.specs.declared.Converter.{Converter}
 use Rattle.steps.proofs.Converter as TC
 use Rattle.steps.proofs.Converter.Laws as TC′
-use Rattle.steps.specs.Words.{memory}
+use Rattle.memory.specs.Memory.{memory}
 use Rattle.writer.specs.Calls.{called}
 use Rattle.writer.specs.declared.calls.Answer.{Answer}
 use Rattle.writer.proofs.calls.Answer as TA
 use Rattle.writer.proofs.calls.Answer.Laws as TA′
-use Rattle.unpacked.specs.Lines.{words64, words32, lineColumns, linesTexts?, putRows}
+use Rattle.line_rows.specs.Lines.{words64, words32, lineColumns, linesTexts?, putRows}
 use Rattle.line_rows.specs.Calls.{leaves, linesOf, unpackedOf}
-use Rattle.unpacked.specs.Numbers.{usableBy, numberOf}
-use Rattle.unpacked.proofs.Again.{LentAgain, lends-again, comes-back}
+use Rattle.line_rows.specs.Numbers.{usableBy, numberOf}
+use Rattle.line_rows.proofs.Again.{LentAgain, lends-again, comes-back}
 use Rattle.line_rows.proofs.Entry.{entry-room, entry-is}
 use Rattle.unpacked.proofs.lines_texts as lines-texts
 use Rattle.unpacked.proofs.lines_texts.Symbol as lines-texts-def

@@ -2,7 +2,7 @@
 use mathlib.Core.Path.{sym}
 use native.Mathlib.Omega.{arith}
 use lib.Seq.{length-take-le}
-use Rattle.steps.specs.Words.{memory}
+use Rattle.memory.specs.Memory.{memory}
 use Rattle.writer.specs.Calls.{called}
 use Rattle.line_rows.proofs.Entry.{unpacked-taken, unpacked-refused}
 use borrow.Author.Needs.{needs}

@@ -2,7 +2,7 @@
 use mathlib.Core.Path.{_≡_}
 use lib.ListN.{length}
 use borrow.Author.Needs.{needs}
-use Rattle.steps.specs.Words.{memory}
+use Rattle.memory.specs.Memory.{memory}
 use Rattle.serialize.proofs.Answers.{counts, closed, over, short, ready, done}
 use Rattle.serialize.proofs.serialize.Statement.{statement}
 use Rattle.serialize.proofs.serialize.Tie as tie

@@ -7,8 +7,8 @@ use Rattle.raw.specs.declared.SourceLocation.{SourceLocation}
 use Rattle.tables.specs.Ranges.{getOf}
 use Rattle.tables.specs.declared.ranges.Found.{Found}
 use Rattle.tables.specs.declared.ranges.Found.the-variants.{Absent, At}
-use Rattle.steps.specs.declared.LastAddr.{LastAddr}
-use Rattle.steps.specs.declared.LastAddr.the-variants.{Unset, Set}
+use Rattle.memory.specs.declared.LastAddr.{LastAddr}
+use Rattle.memory.specs.declared.LastAddr.the-variants.{Unset, Set}
 use Rattle.serialize.specs.Sections.{vacant-end}
 use Rattle.serialize.proofs.vacant_end.Statement.{statement}
 use Rattle.serialize.proofs.vacant_end.Tie as tie

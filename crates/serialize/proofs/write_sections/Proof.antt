@@ -2,7 +2,7 @@
 use mathlib.Core.Path.{_≡_, _∙_}
 use lib.ListN.{length}
 use borrow.Author.Needs.{needs}
-use Rattle.steps.specs.Words.{memory}
+use Rattle.memory.specs.Memory.{memory}
 use Rattle.serialize.proofs.Whole.{files-fit, functions-fit, calls-fit, ranges-fit, texts-fit, sections-written}
 use Rattle.serialize.proofs.write_sections.Statement.{statement}
 use Rattle.serialize.proofs.write_sections.Tie as tie

@@ -1,7 +1,8 @@
 -- `begin_function` meets its contract: `begin-law`.
 use mathlib.Core.Bool.{cond}
 use Rattle.names.specs.Names.{undecorated}
-use Rattle.steps.specs.Words.{words, gave}
+use Rattle.memory.specs.Memory.{words}
+use Rattle.steps.specs.Steps.{gave}
 use Rattle.steps.proofs.Laws.{begin-law}
 use borrow.Author.Needs.{needs}
 use Rattle.steps.proofs.begin_function.Statement.{statement}

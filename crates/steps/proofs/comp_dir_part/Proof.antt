@@ -2,7 +2,7 @@
 use mathlib.Core.Path.{sym, _∙_, ap}
 use mathlib.Core.Bool.{Bool, cond}
 use Rattle.text.specs.Utf8.{utf8}
-use Rattle.steps.specs.Words.{no-part}
+use Rattle.steps.specs.Steps.{no-part}
 use borrow.Author.Needs.{needs}
 use Rattle.steps.proofs.comp_dir_part.Statement.{statement}
 use Rattle.steps.proofs.comp_dir_part.Tie as tie

@@ -1,6 +1,6 @@
 -- `insert_end` meets its contract: by whether the start is vacant.
 use mathlib.Core.Path.{_∙_}
-use Rattle.steps.specs.Words.{words}
+use Rattle.memory.specs.Memory.{words}
 use Rattle.steps.proofs.Ranges.{end-where-vacant, kept-where-taken}
 use borrow.Author.Needs.{needs}
 use Rattle.steps.proofs.insert_end.Statement.{statement}

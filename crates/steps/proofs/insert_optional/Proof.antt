@@ -2,7 +2,7 @@
 use mathlib.Core.Path.{ap}
 use Rattle.rows.specs.Columns.{textOf}
 use Rattle.rows.specs.declared.TextPart.{TextPart}
-use Rattle.steps.specs.Words.{words}
+use Rattle.memory.specs.Memory.{words}
 use Rattle.steps.proofs.Laws.{store-same}
 use borrow.Author.Needs.{needs}
 use Rattle.steps.proofs.insert_optional.Statement.{statement}

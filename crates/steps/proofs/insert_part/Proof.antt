@@ -1,5 +1,5 @@
 -- `insert_part` meets its contract: the text is the part.
-use Rattle.steps.specs.Words.{words}
+use Rattle.memory.specs.Memory.{words}
 use Rattle.steps.proofs.Laws.{store-same}
 use borrow.Author.Needs.{needs}
 use Rattle.steps.proofs.insert_part.Statement.{statement}

@@ -1,6 +1,7 @@
 -- `insert_source_location` meets its contract: by whether the start is free.
 use mathlib.Core.Path.{_∙_}
-use Rattle.steps.specs.Words.{words, put-range}
+use Rattle.memory.specs.Memory.{words}
+use Rattle.steps.specs.Steps.{put-range}
 use Rattle.steps.proofs.Ranges.{put-where-free, kept-where-held}
 use borrow.Author.Needs.{needs}
 use Rattle.steps.proofs.insert_source_location.Statement.{statement}

@@ -1,6 +1,7 @@
 -- `insert_texts` meets its contract: `six-law`. Each of the six calls keeps the lengths.
 use mathlib.Core.Path.{_∙_}
-use Rattle.steps.specs.Words.{words, sixOf}
+use Rattle.memory.specs.Memory.{words}
+use Rattle.steps.specs.Steps.{sixOf}
 use Rattle.steps.proofs.Laws.{six-law}
 use borrow.Author.Needs.{needs}
 use Rattle.steps.proofs.insert_texts.Statement.{statement}

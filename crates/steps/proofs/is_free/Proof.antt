@@ -1,6 +1,6 @@
 -- `is_free` meets its contract: what `get` found, by its two variants.
 use mathlib.Core.Path.{sym, _∙_, ap}
-use Rattle.steps.specs.Words.{free}
+use Rattle.steps.specs.Steps.{free}
 use borrow.Author.Needs.{needs}
 use Rattle.steps.proofs.is_free.Statement.{statement}
 use Rattle.steps.proofs.is_free.Tie as tie

@@ -1,6 +1,6 @@
 -- `is_vacant` meets its contract: what `get` found, by its two variants.
 use mathlib.Core.Path.{sym, _∙_, ap}
-use Rattle.steps.specs.Words.{vacant}
+use Rattle.steps.specs.Steps.{vacant}
 use borrow.Author.Needs.{needs}
 use Rattle.steps.proofs.is_vacant.Statement.{statement}
 use Rattle.steps.proofs.is_vacant.Tie as tie

@@ -1,5 +1,6 @@
 -- `locate_line` meets its contract: `locate-law`.
-use Rattle.steps.specs.Words.{words, sixOf}
+use Rattle.memory.specs.Memory.{words}
+use Rattle.steps.specs.Steps.{sixOf}
 use Rattle.steps.proofs.Laws.{locate-law}
 use borrow.Author.Needs.{needs}
 use Rattle.steps.proofs.locate_line.Statement.{statement}

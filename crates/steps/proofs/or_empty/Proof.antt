@@ -1,7 +1,7 @@
 -- `or_empty` meets its contract.
 use mathlib.Core.Path.{sym, ap}
 use mathlib.Core.Bool.{Bool, cond}
-use Rattle.steps.specs.Words.{no-part}
+use Rattle.steps.specs.Steps.{no-part}
 use borrow.Author.Needs.{needs}
 use Rattle.steps.proofs.or_empty.Statement.{statement}
 use Rattle.steps.proofs.or_empty.Tie as tie

@@ -49,8 +49,8 @@ use Rattle.rows.specs.Refusals.{lineTexts?}
 use Rattle.rows.specs.declared.LineRow.{LineRow}
 use Rattle.rows.proofs.LineRow as T
 use Rattle.rows.proofs.LineRow.Laws as T′
-use Rattle.unpacked.specs.Lines.{noLine, linesTexts?}
-use Rattle.unpacked.proofs.Turns.{Tested, tests-begin, tested-more, tested-all}
+use Rattle.line_rows.specs.Lines.{noLine, linesTexts?}
+use Rattle.line_rows.proofs.Turns.{Tested, tests-begin, tested-more, tested-all}
 use Rattle.unpacked.proofs.and_texts as and-texts
 use Rattle.unpacked.proofs.and_texts.Symbol as and-texts-def
 use Rattle.unpacked.proofs.and_texts.Symbol.{name as #unpacked·and-texts}

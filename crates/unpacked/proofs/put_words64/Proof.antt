@@ -1,8 +1,8 @@
 -- `put_words64` meets its contract.
 use native.Mathlib.Omega.{arith}
 use lib.ListN.{length-set}
-use Rattle.unpacked.specs.Lines.{words64}
-use Rattle.unpacked.proofs.Words.{stored64, row-out, row-refused}
+use Rattle.line_rows.specs.Lines.{words64}
+use Rattle.line_rows.proofs.Words.{stored64, row-out, row-refused}
 use borrow.Author.Needs.{needs}
 use Rattle.unpacked.proofs.put_words64.Statement.{statement}
 use Rattle.unpacked.proofs.put_words64.Tie as tie

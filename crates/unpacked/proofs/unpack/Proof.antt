@@ -50,9 +50,9 @@ use denote.Exit.{yes}
 use Rattle.rows.specs.declared.LineRow.{LineRow}
 use Rattle.rows.proofs.LineRow as T
 use Rattle.rows.proofs.LineRow.Laws as T′
-use Rattle.unpacked.specs.Lines.{noLine, words64, words32, putRow, putRows}
-use Rattle.unpacked.proofs.Again.{LentAgain, lends-at, back-at}
-use Rattle.unpacked.proofs.Turns.{Unpacked, unpack-begin, put-more, put-all}
+use Rattle.line_rows.specs.Lines.{noLine, words64, words32, putRow, putRows}
+use Rattle.line_rows.proofs.Again.{LentAgain, lends-at, back-at}
+use Rattle.line_rows.proofs.Turns.{Unpacked, unpack-begin, put-more, put-all}
 use Rattle.unpacked.proofs.put_line as put-line
 use Rattle.unpacked.proofs.put_line.Symbol as put-line-def
 use Rattle.unpacked.proofs.put_line.Symbol.{name as #unpacked·put-line}

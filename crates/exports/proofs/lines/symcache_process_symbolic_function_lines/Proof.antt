@@ -41,24 +41,24 @@ use denote.Triple.Walked.{says, Stays, stay-none-slice, gave-slice, walkOf, goes
 use denote.Exit.{yes}
 use Rattle.rows.specs.declared.LineRow.{LineRow}
 use Rattle.rows.proofs.LineRow as T
-use Rattle.steps.specs.declared.Converter.{Converter}
+use Rattle.memory.specs.declared.Converter.{Converter}
 use Rattle.steps.proofs.Converter as TC
 use Rattle.steps.proofs.Converter.Laws as TC′
-use Rattle.steps.specs.Words.{memory}
+use Rattle.memory.specs.Memory.{memory}
 use Rattle.writer.specs.Calls.{called}
 use Rattle.writer.specs.declared.calls.Answer.{Answer}
 use Rattle.writer.proofs.calls.Answer as TA
 use Rattle.writer.proofs.calls.Answer.Laws as TA′
-use Rattle.unpacked.specs.Lines.{lineColumns}
+use Rattle.line_rows.specs.Lines.{lineColumns}
 use Rattle.line_rows.specs.Calls.{linesOf}
 use Rattle.line_rows.specs.Calls as lines-spec
-use Rattle.unpacked.proofs.Again.{LentAgain, lends-again, comes-back}
+use Rattle.line_rows.proofs.Again.{LentAgain, lends-again, comes-back}
 use Rattle.line_rows.proofs.process_function_lines as process
 use Rattle.line_rows.proofs.process_function_lines.Symbol as process-def
 use Rattle.line_rows.proofs.process_function_lines.Symbol.{name as #line-rows·process-function-lines}
 use Rattle.line_rows.proofs.process_function_lines.Met as process-thm
 use Rattle.c_words.specs.Record.{converterOf}
-use Rattle.exports.specs.Writing.{left, linesLeft, linesCall}
+use Rattle.c_words.specs.Writing.{left, linesLeft, linesCall}
 use Rattle.c_words.specs.Record.{kept}
 use Rattle.exports.proofs.LinesLaws.{lines-stored}
 use Rattle.exports.proofs.lines.read_record as read-record

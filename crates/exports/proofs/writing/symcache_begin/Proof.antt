@@ -1,5 +1,5 @@
 -- `symcache_begin` meets its contract.
-use Rattle.steps.specs.Words.{memory}
+use Rattle.memory.specs.Memory.{memory}
 use Rattle.exports.proofs.WriteLaws.{begin-closed, begin-law}
 use borrow.Author.Needs.{needs}
 use Rattle.exports.proofs.writing.symcache_begin.Statement.{statement}

@@ -1,6 +1,6 @@
 -- `symcache_process_symbolic_function` meets its contract.
 use Rattle.rows.specs.Columns.{columns}
-use Rattle.steps.specs.Words.{memory}
+use Rattle.memory.specs.Memory.{memory}
 use Rattle.exports.proofs.WriteLaws.{tree-law}
 use borrow.Author.Needs.{needs}
 use Rattle.exports.proofs.writing.symcache_process_symbolic_function.Statement.{statement}

@@ -1,5 +1,5 @@
 -- `symcache_process_symbolic_symbol` meets its contract.
-use Rattle.steps.specs.Words.{memory}
+use Rattle.memory.specs.Memory.{memory}
 use Rattle.exports.proofs.WriteLaws.{symbol-law}
 use borrow.Author.Needs.{needs}
 use Rattle.exports.proofs.writing.symcache_process_symbolic_symbol.Statement.{statement}

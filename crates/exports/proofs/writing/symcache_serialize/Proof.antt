@@ -1,5 +1,5 @@
 -- `symcache_serialize` meets its contract.
-use Rattle.steps.specs.Words.{memory}
+use Rattle.memory.specs.Memory.{memory}
 use Rattle.exports.proofs.WriteLaws.{serialize-law}
 use borrow.Author.Needs.{needs}
 use Rattle.exports.proofs.writing.symcache_serialize.Statement.{statement}

@@ -1,5 +1,5 @@
 -- `finish` meets its contract: by whether the tables hold what is in use.
-use Rattle.steps.specs.Words.{memory, words}
+use Rattle.memory.specs.Memory.{memory, words}
 use Rattle.writer.proofs.CallLaws.{accepted, overfull}
 use borrow.Author.Needs.{needs}
 use Rattle.writer.proofs.calls.finish.Statement.{statement}

@@ -1,7 +1,7 @@
 -- `is_usable` meets its contract: the two tests one after the other.
 use borrow.Author.Needs.{needs}
 use Rattle.rows.proofs.Laws.{and-stop, and-then}
-use Rattle.writer.specs.Calls.{usable?}
+use Rattle.memory.specs.Record.{usable?}
 use Rattle.writer.proofs.calls.is_usable.Statement.{statement}
 use Rattle.writer.proofs.calls.is_usable.Tie as tie
 

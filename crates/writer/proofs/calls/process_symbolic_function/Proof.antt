@@ -1,7 +1,7 @@
 -- `process_symbolic_function` meets its contract: by its two tests; then the rows, scratch zeroed, and the end of the call.
 use mathlib.Core.Path.{_∙_}
 use Rattle.rows.specs.Columns.{columns}
-use Rattle.steps.specs.Words.{memory, words}
+use Rattle.memory.specs.Memory.{memory, words}
 use Rattle.writer.proofs.CallLaws.{tree-taken, tree-refused, tree-closed}
 use borrow.Author.Needs.{needs}
 use Rattle.writer.proofs.calls.process_symbolic_function.Statement.{statement}

@@ -1,6 +1,6 @@
 -- `process_symbolic_symbol` meets its contract: by its two tests.
 use mathlib.Core.List.{[]}
-use Rattle.steps.specs.Words.{memory, words}
+use Rattle.memory.specs.Memory.{memory, words}
 use Rattle.writer.specs.Calls.{called}
 use Rattle.writer.proofs.CallLaws.{symbol-taken, symbol-unreadable, symbol-closed}
 use borrow.Author.Needs.{needs}

@@ -1,5 +1,6 @@
 -- `insert_self_range` meets its contract.
-use Rattle.steps.specs.Words.{words, put-range}
+use Rattle.memory.specs.Memory.{words}
+use Rattle.steps.specs.Steps.{put-range}
 use Rattle.writer.proofs.LineLaws.{self-range, no-self-range}
 use borrow.Author.Needs.{needs}
 use Rattle.writer.proofs.lines.insert_self_range.Statement.{statement}

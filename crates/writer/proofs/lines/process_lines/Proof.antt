@@ -10,11 +10,12 @@ use lib.ListN.{length}
 use borrow.Author.Needs.{needs}
 use Rattle.model.specs.Converter.{Setup, input}
 use Rattle.rows.specs.Columns.{columns, functionRow, functionAt}
-use Rattle.steps.specs.Words.{words, over-words}
+use Rattle.memory.specs.Memory.{words}
+use Rattle.steps.specs.Steps.{over-words}
 use Rattle.scratch.specs.Scratch.{turned}
 use Rattle.scratch.proofs.Walks.{Inner, begins, turn-less, turn-more, turn-done}
 use Rattle.scratch.proofs.Lines.{starts}
-use Rattle.symbols.specs.Symbols.{switches}
+use Rattle.steps.specs.Symbols.{switches}
 use Rattle.writer.proofs.LineLaws.{falls-more, dir-is, lines-low, Goes, goes-same, line-passed, line-walked, lines-ended}
 use Rattle.writer.proofs.lines.process_lines.Statement.{statement}
 use Rattle.writer.proofs.lines.process_lines.Tie as tie

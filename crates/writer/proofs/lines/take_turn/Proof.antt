@@ -1,6 +1,7 @@
 -- `take_turn` meets its contract: one law for each of its four returns.
 use native.Mathlib.Omega.{arith}
-use Rattle.steps.specs.Words.{words, over-words}
+use Rattle.memory.specs.Memory.{words}
+use Rattle.steps.specs.Steps.{over-words}
 use Rattle.writer.proofs.LineLaws.{past-line, last-range, stops-before, takes-range}
 use borrow.Author.Needs.{needs}
 use Rattle.writer.proofs.lines.take_turn.Statement.{statement}

@@ -1,5 +1,5 @@
 -- `begin_row` meets its contract: `begin_function`'s, at the row's name and entry.
-use Rattle.steps.specs.Words.{words}
+use Rattle.memory.specs.Memory.{words}
 use Rattle.writer.proofs.TreeLaws.{begun}
 use borrow.Author.Needs.{needs}
 use Rattle.writer.proofs.tree.begin_row.Statement.{statement}

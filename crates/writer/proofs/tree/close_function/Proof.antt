@@ -1,7 +1,7 @@
 -- `close_function` meets its contract: entry, last end, end.
 use mathlib.Core.Path.{ap}
-use Rattle.steps.specs.declared.State.{State}
-use Rattle.steps.specs.Words.{words}
+use Rattle.memory.specs.declared.State.{State}
+use Rattle.memory.specs.Memory.{words}
 use Rattle.writer.proofs.TreeLaws.{closing, end-is}
 use borrow.Author.Needs.{needs}
 use Rattle.writer.proofs.tree.close_function.Statement.{statement}

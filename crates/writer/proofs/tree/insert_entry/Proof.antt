@@ -1,7 +1,7 @@
 -- `insert_entry` meets its contract.
 use mathlib.Core.Path.{_∙_}
 use Prim.Native.Nat.{_%_}
-use Rattle.steps.specs.Words.{words}
+use Rattle.memory.specs.Memory.{words}
 use Rattle.writer.proofs.TreeLaws.{entry-inline, entry-own, address-is}
 use borrow.Author.Needs.{needs}
 use Rattle.writer.proofs.tree.insert_entry.Statement.{statement}

@@ -1,6 +1,6 @@
 -- `process_row` meets its contract: the row is passed over, or visited with the call locations of its depth.
-use Rattle.steps.specs.Words.{words}
-use Rattle.symbols.specs.Symbols.{switches}
+use Rattle.memory.specs.Memory.{words}
+use Rattle.steps.specs.Symbols.{switches}
 use Rattle.writer.proofs.TreeLaws.{own-ready, row-passed, visit-ready, row-visits}
 use borrow.Author.Needs.{needs}
 use Rattle.writer.proofs.tree.process_row.Statement.{statement}

@@ -7,9 +7,10 @@ use lib.ListN.{length}
 use borrow.Author.Needs.{needs}
 use Rattle.rows.specs.Columns.{columns}
 use Rattle.rows.proofs.Accepted.{accepted}
-use Rattle.steps.specs.Words.{words, over-words}
+use Rattle.memory.specs.Memory.{words}
+use Rattle.steps.specs.Steps.{over-words}
 use Rattle.scratch.proofs.Tree.{Rowing, starts, ends}
-use Rattle.symbols.specs.Symbols.{switches}
+use Rattle.steps.specs.Symbols.{switches}
 use Rattle.writer.proofs.TreeLaws.{row-ready, first-low, row-after}
 use Rattle.writer.proofs.tree.process_rows.Statement.{statement}
 use Rattle.writer.proofs.tree.process_rows.Tie as tie

@@ -7,9 +7,9 @@ use Rattle.model.specs.Rows.{MAX}
 use Rattle.rows.specs.declared.FunctionRow.{FunctionRow as FunctionStruct}
 use Rattle.rows.specs.Columns.{columns, functionAt}
 use Rattle.rows.proofs.RowLaws.{functionAt-address, functionAt-size, functionAt-inline}
-use Rattle.steps.specs.Words.{words}
+use Rattle.memory.specs.Memory.{words}
 use Rattle.steps.proofs.RowTexts.{address-below}
-use Rattle.symbols.specs.Symbols.{switches}
+use Rattle.steps.specs.Symbols.{switches}
 use Rattle.writer.proofs.TreeLaws.{gather-ready, lines-room, lines-ready, row-walked}
 use borrow.Author.Needs.{needs}
 use Rattle.writer.proofs.tree.visit_row.Statement.{statement}

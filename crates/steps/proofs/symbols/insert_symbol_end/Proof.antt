@@ -1,9 +1,9 @@
 -- `insert_symbol_end` meets its contract: by the size, and by whether the end is representable.
-use Rattle.steps.specs.Words.{words}
-use Rattle.symbols.proofs.SymbolLaws.{end-placed, end-above, end-large, end-absent}
+use Rattle.memory.specs.Memory.{words}
+use Rattle.steps.proofs.SymbolLaws.{end-placed, end-above, end-large, end-absent}
 use borrow.Author.Needs.{needs}
-use Rattle.symbols.proofs.insert_symbol_end.Statement.{statement}
-use Rattle.symbols.proofs.insert_symbol_end.Tie as tie
+use Rattle.steps.proofs.symbols.insert_symbol_end.Statement.{statement}
+use Rattle.steps.proofs.symbols.insert_symbol_end.Tie as tie
 
 add-end : tie.Need-add-end
 add-end c = search needs

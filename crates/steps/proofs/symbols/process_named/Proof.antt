@@ -1,11 +1,11 @@
 -- `process_named` meets its contract: `named-law`.
-use Rattle.steps.specs.Words.{words}
-use Rattle.symbols.specs.Symbols.{switches}
-use Rattle.symbols.specs.Symbols.{namedRow}
-use Rattle.symbols.proofs.SymbolLaws.{named-law}
+use Rattle.memory.specs.Memory.{words}
+use Rattle.steps.specs.Symbols.{switches}
+use Rattle.steps.specs.Symbols.{namedRow}
+use Rattle.steps.proofs.SymbolLaws.{named-law}
 use borrow.Author.Needs.{needs}
-use Rattle.symbols.proofs.process_named.Statement.{statement}
-use Rattle.symbols.proofs.process_named.Tie as tie
+use Rattle.steps.proofs.symbols.process_named.Statement.{statement}
+use Rattle.steps.proofs.symbols.process_named.Tie as tie
 
 shown-name-requires : tie.Need-shown-name-requires
 shown-name-requires c κs = search needs

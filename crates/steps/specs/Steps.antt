@@ -1,11 +1,10 @@
--- THE CONVERTER OVER WORDS: what each of its steps does to the lent tables, for any content. It is a `Machine` of the crate model, so its loops are those of the plain
--- converter; and it is what the contracts cite. A reference that is absent is MAX, as in the file.
-use mathlib.Core.Bool.{Bool, true, false, cond, _&&_}
+-- THE CONVERTER OVER WORDS: what each of its steps does to the lent tables, for any content. It is a `Machine` of the crate model,
+-- so its loops are those of the plain converter; and it is what the contracts cite. A reference that is absent is MAX, as in the file.
+use mathlib.Core.Bool.{Bool, true, false, cond}
 use mathlib.Core.Option.{Option, none, some}
 use mathlib.Core.List.{List}
 use Prim.Native.Nat.{ℕ}
-use lib.Dec.{ltb, leb}
-use lib.ListN.{length}
+use lib.Dec.{ltb}
 use Rattle.model.specs.Rows.{MAX, cut32, Text, LineRow, FunctionRow, SymbolRow}
 use Rattle.model.specs.Machine.{Machine}
 use Rattle.model.specs.Converter.{Setup, Six, function-name, symbol-name, line-texts, entry-of}
@@ -15,65 +14,16 @@ use Rattle.rows.specs.declared.TextPart.{TextPart}
 use Rattle.rows.specs.declared.OptionalPart.{OptionalPart}
 use Rattle.rows.specs.declared.LineRow.{LineRow as LineStruct}
 use Rattle.raw.specs.declared.SourceLocation.{SourceLocation}
-use Rattle.tables.specs.Table.{insertOf, capacityOf}
+use Rattle.tables.specs.Table.{insertOf}
 use Rattle.tables.specs.Ranges.{rangeRow, getOf, putOf}
-use Rattle.tables.specs.Strings.{insertTextOf, textCapacityOf}
+use Rattle.tables.specs.Strings.{insertTextOf}
 use Rattle.tables.specs.declared.Row.{Row}
 use Rattle.tables.specs.declared.ranges.Found.{Found}
 use Rattle.tables.specs.declared.ranges.Found.the-variants.{Absent, At}
-use Rattle.steps.specs.declared.State.{State}
-use Rattle.steps.specs.declared.LastAddr.{LastAddr}
-use Rattle.steps.specs.declared.LastAddr.the-variants.{Unset, Set}
-
--- ── The state and the lent tables ──────────────────────────────────────────────────────────────────────────────────────
-
--- the lent tables of document 01's "Forms that Rattle cannot carry": the string section, the index of its texts, and the four tables of the Rust's `SymCacheConverter`
-pub record Memory : Type 0 where
-  pub text : List ℕ
-  pub strings : List ℕ
-  pub files : List ℕ
-  pub functions : List ℕ
-  pub calls : List ℕ
-  pub ranges : List ℕ
-
-abbrev pub memory : List ℕ → List ℕ → List ℕ → List ℕ → List ℕ → List ℕ → Memory
-memory x i f g c r = record { text = x; strings = i; files = f; functions = g; calls = c; ranges = r }
-
--- with the counts and the last end, by value
-pub record Words : Type 0 where
-  pub st : State
-  pub mm : Memory
-
-abbrev pub words : State → List ℕ → List ℕ → List ℕ → List ℕ → List ℕ → List ℕ → Words
-words s x i f g c r = record { st = s; mm = memory x i f g c r }
-
--- no count is above its table's capacity: "one of its counts above the table's capacity" (19); "a table would need more rows or bytes after this call than its capacity" (17)
-unfoldable pub fits? : Words → Bool
-fits? w =
-    leb (w .st .«string_bytes») (textCapacityOf (length (w .mm .text)))
-    && (leb (w .st .strings) (capacityOf (length (w .mm .strings)))
-    && (leb (w .st .files) (capacityOf (length (w .mm .files)))
-    && (leb (w .st .functions) (capacityOf (length (w .mm .functions)))
-    && (leb (w .st .«call_locations») (capacityOf (length (w .mm .calls))) && leb (w .st .ranges) (capacityOf (length (w .mm .ranges)))))))
-
--- the state with other counts
-abbrev pub with-strings : State → ℕ → ℕ → State
-with-strings s b n = record { «string_bytes» = b; strings = n; files = s .files; functions = s .functions; «call_locations» = s .«call_locations»; ranges = s .ranges; «last_addr» = s .«last_addr» }
-
-abbrev pub with-files : State → ℕ → State
-with-files s n = record { «string_bytes» = s .«string_bytes»; strings = s .strings; files = n; functions = s .functions; «call_locations» = s .«call_locations»; ranges = s .ranges; «last_addr» = s .«last_addr» }
-
-abbrev pub with-functions : State → ℕ → State
-with-functions s n = record { «string_bytes» = s .«string_bytes»; strings = s .strings; files = s .files; functions = n; «call_locations» = s .«call_locations»; ranges = s .ranges; «last_addr» = s .«last_addr» }
-
-abbrev pub with-calls : State → ℕ → State
-with-calls s n = record { «string_bytes» = s .«string_bytes»; strings = s .strings; files = s .files; functions = s .functions; «call_locations» = n; ranges = s .ranges; «last_addr» = s .«last_addr» }
-
-abbrev pub with-ranges : State → ℕ → State
-with-ranges s n = record { «string_bytes» = s .«string_bytes»; strings = s .strings; files = s .files; functions = s .functions; «call_locations» = s .«call_locations»; ranges = n; «last_addr» = s .«last_addr» }
-
-abbrev pub with-last : State → LastAddr → State
-with-last s a = record { «string_bytes» = s .«string_bytes»; strings = s .strings; files = s .files; functions = s .functions; «call_locations» = s .«call_locations»; ranges = s .ranges; «last_addr» = a }
+use Rattle.memory.specs.Memory.{Words}
+use Rattle.memory.specs.Record.{texts-become, files-become, functions-become, calls-become, ranges-become, with-last}
+use Rattle.memory.specs.declared.LastAddr.{LastAddr}
+use Rattle.memory.specs.declared.LastAddr.the-variants.{Unset, Set}
 
 -- ── The steps ──────────────────────────────────────────────────────────────────────────────────────────────────────────
 
@@ -85,7 +35,7 @@ gave a s = (a, s)
 unfoldable pub store : Text → Words → ℕ × Words
 store t s =
     let r = insertTextOf (s .mm .text) (s .mm .strings) (s .st .«string_bytes») (s .st .strings) t in
-    gave (r .got .offset) (words (with-strings (s .st) (r .got .bytes) (r .got .count)) (r .text) (r .strings) (s .mm .files) (s .mm .functions) (s .mm .calls) (s .mm .ranges))
+    gave (r .got .offset) (texts-become s (r .got .bytes) (r .got .count) (r .text) (r .strings))
 
 -- `functions.insert_full`: name, no compilation directory (as in the Rust, u32::MAX), entry, language
 abbrev pub functionRow : ℕ → ℕ → ℕ → Row
@@ -94,7 +44,7 @@ functionRow name entry lang = record { a = name; b = MAX; c = entry; d = lang; e
 unfoldable pub add-function : ℕ → ℕ → ℕ → Words → ℕ × Words
 add-function name entry lang s =
     let r = insertOf 6 (s .mm .functions) (s .st .functions) (functionRow name entry lang) in
-    gave (r .got .index) (words (with-functions (s .st) (r .got .count)) (s .mm .text) (s .mm .strings) (s .mm .files) (r .table) (s .mm .calls) (s .mm .ranges))
+    gave (r .got .index) (functions-become s (r .got .count) (r .table))
 
 -- `files.insert_full`: "in struct order, not the order of the writer's literal"
 abbrev pub fileRow : Six ℕ → Row
@@ -103,7 +53,7 @@ fileRow x = record { a = x .comp-dir; b = x .directory; c = x .name; d = x .srcs
 unfoldable pub add-file-row : Row → Words → ℕ × Words
 add-file-row row s =
     let r = insertOf 6 (s .mm .files) (s .st .files) row in
-    gave (r .got .index) (words (with-files (s .st) (r .got .count)) (s .mm .text) (s .mm .strings) (r .table) (s .mm .functions) (s .mm .calls) (s .mm .ranges))
+    gave (r .got .index) (files-become s (r .got .count) (r .table))
 
 -- `call_locations.insert_full`
 abbrev pub locationRow : SourceLocation → Row
@@ -112,13 +62,13 @@ locationRow l = record { a = l .«file_idx»; b = l .line; c = l .«function_idx
 unfoldable pub add-call : SourceLocation → Words → ℕ × Words
 add-call l s =
     let r = insertOf 6 (s .mm .calls) (s .st .«call_locations») (locationRow l) in
-    gave (r .got .index) (words (with-calls (s .st) (r .got .count)) (s .mm .text) (s .mm .strings) (s .mm .files) (s .mm .functions) (r .table) (s .mm .ranges))
+    gave (r .got .index) (calls-become s (r .got .count) (r .table))
 
 -- `ranges.insert`, `ranges.get`
 unfoldable pub put-range : ℕ → SourceLocation → Words → Words
 put-range k l s =
     let r = putOf (s .mm .ranges) (s .st .ranges) (rangeRow k l) in
-    words (with-ranges (s .st) (r .got .count)) (s .mm .text) (s .mm .strings) (s .mm .files) (s .mm .functions) (s .mm .calls) (r .table)
+    ranges-become s (r .got .count) (r .table)
 
 abbrev pub held : Found → Option SourceLocation
 held Absent = none

@@ -1,4 +1,4 @@
--- The record of a beginning. A symbol's steps, one after the other, are those of the machine's `named-symbolM` and `convert-symbolM`.
+-- A symbol's steps, one after the other, are those of the machine's `named-symbolM` and `convert-symbolM`.
 use mathlib.Core.Path.{_≡_, _∙_, ap}
 use mathlib.Core.Bool.{Bool, true, false}
 use Prim.Native.Nat.{ℕ, _+_, _<_, _≤_}
@@ -11,16 +11,12 @@ use Rattle.model.specs.Converter.{Setup, input, symbol-name}
 use Rattle.rows.specs.Columns.{textOf}
 use Rattle.rows.specs.declared.OptionalPart.{OptionalPart}
 use Rattle.tables.specs.Ranges.{getOf}
-use Rattle.steps.specs.declared.State.{State}
-use Rattle.steps.specs.Words.{Words, gave, store, add-function, put-range, location, free, with-last, cleared-of, over-words}
+use Rattle.memory.specs.declared.State.{State}
+use Rattle.memory.specs.Memory.{Words}
+use Rattle.steps.specs.Steps.{gave, store, add-function, put-range, location, free, cleared-of, over-words}
+use Rattle.memory.specs.Record.{with-last}
 use Rattle.steps.proofs.Ranges.{put-where-free, kept-where-held}
-use Rattle.symbols.specs.Symbols.{unused, begun, symbolRow, symbol-put, end-put, namedRow}
-
--- ── The record of a beginning ──────────────────────────────────────────────────────────────────────────────────────────
-
-pub opened-law : (id : List ℕ) (arch : ℕ) (f g : Bool) {u : State} → u ≡ unused
-    → record { «debug_id» = id; arch = arch; «undecorate_functions» = f; «undecorate_symbols» = g; «open» = true; state = u } ≡ begun id arch f g
-opened-law id arch f g e = rw e
+use Rattle.steps.specs.Symbols.{symbolRow, symbol-put, end-put, namedRow}
 
 -- ── The location at the start ──────────────────────────────────────────────────────────────────────────────────────────
 

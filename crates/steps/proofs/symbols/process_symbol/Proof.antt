@@ -1,10 +1,10 @@
 -- `process_symbol` meets its contract: by whether it is named, and by its address.
-use Rattle.steps.specs.Words.{words}
-use Rattle.symbols.specs.Symbols.{switches}
-use Rattle.symbols.proofs.SymbolLaws.{symbol-named, symbol-above, symbol-unnamed}
+use Rattle.memory.specs.Memory.{words}
+use Rattle.steps.specs.Symbols.{switches}
+use Rattle.steps.proofs.SymbolLaws.{symbol-named, symbol-above, symbol-unnamed}
 use borrow.Author.Needs.{needs}
-use Rattle.symbols.proofs.process_symbol.Statement.{statement}
-use Rattle.symbols.proofs.process_symbol.Tie as tie
+use Rattle.steps.proofs.symbols.process_symbol.Statement.{statement}
+use Rattle.steps.proofs.symbols.process_symbol.Tie as tie
 
 part-requires : tie.Need-part-requires
 part-requires c κs = search needs

@@ -1,9 +1,9 @@
 -- `insert_symbol` meets its contract: by whether the start is free.
-use Rattle.steps.specs.Words.{words}
-use Rattle.symbols.proofs.SymbolLaws.{symbol-placed, symbol-kept}
+use Rattle.memory.specs.Memory.{words}
+use Rattle.steps.proofs.SymbolLaws.{symbol-placed, symbol-kept}
 use borrow.Author.Needs.{needs}
-use Rattle.symbols.proofs.insert_symbol.Statement.{statement}
-use Rattle.symbols.proofs.insert_symbol.Tie as tie
+use Rattle.steps.proofs.symbols.insert_symbol.Statement.{statement}
+use Rattle.steps.proofs.symbols.insert_symbol.Tie as tie
 
 is-free-requires : tie.Need-is-free-requires
 is-free-requires c κs = search needs
