@@ -1,4 +1,3 @@
-pub mod Fill
 pub mod CallLaws
 pub mod ScratchLaws
 pub mod LineLaws

@@ -1,21 +1,20 @@
--- The public calls of the converter, for every input: document 01 "Converter" and "Who causes which number". A tree, a symbol and a beginning; each gives its number, the record, and every lent
--- slice as it leaves it.
-use mathlib.Core.Bool.{Bool, true, false, cond, _&&_}
+-- The public calls of the converter, for every input: document 01 "Converter" and "Who causes which number". A tree and a symbol; each gives
+-- its number, the record, and every lent slice as it leaves it. A beginning is `beginOf` of memory.
+use mathlib.Core.Bool.{true, false, cond}
 use mathlib.Core.List.{List, [], map}
 use Prim.Native.Nat.{ℕ}
 use lib.Dec.{eqb}
-use lib.ListN.{length, replicate}
+use lib.ListN.{length}
 use Rattle.model.specs.Machine.{convertM, startM, convert-symbolM}
 use Rattle.model.specs.Converter.{Setup, input, deep}
 use Rattle.rows.specs.Columns.{Columns, treeRows}
 use Rattle.rows.specs.Refusals.{refusalOf, optional?}
 use Rattle.rows.specs.declared.OptionalPart.{OptionalPart}
-use Rattle.memory.specs.Memory.{Memory, Words}
-use Rattle.memory.specs.Record.{fits?}
+use Rattle.memory.specs.Memory.{Memory, Words, zeroed}
+use Rattle.memory.specs.Record.{fits?, usable?, with-state, words-of, unused, begun}
+use Rattle.slices.specs.Words.{zeros}
 use Rattle.steps.specs.Steps.{over-words}
-use Rattle.memory.specs.declared.State.{State}
 use Rattle.memory.specs.declared.Converter.{Converter}
-use Rattle.memory.specs.Record.{unused, begun}
 use Rattle.steps.specs.Symbols.{symbolRow}
 
 -- ── What a call leaves ─────────────────────────────────────────────────────────────────────────────────────────────────
@@ -29,43 +28,13 @@ pub record Called : Type 0 where
 abbrev pub called : ℕ → Converter → Memory → List ℕ → Called
 called n c m s = record { code = n; converter = c; memory = m; scratch = s }
 
-abbrev pub zeros : List ℕ → List ℕ
-zeros s = replicate (length s) 0
-
-abbrev pub zeroed : Memory → Memory
-zeroed m = record { text = zeros (m .text); strings = zeros (m .strings); files = zeros (m .files); functions = zeros (m .functions); calls = zeros (m .calls); ranges = zeros (m .ranges) }
-
-abbrev pub with-state : Converter → Bool → State → Converter
-with-state c o s = record {
-  «debug_id» = c .«debug_id»;
-  arch = c .arch;
-  «undecorate_functions» = c .«undecorate_functions»;
-  «undecorate_symbols» = c .«undecorate_symbols»;
-  «open» = o;
-  state = s;
-}
-
 abbrev pub setup : Converter → Setup
 setup c = record { functions-on = c .«undecorate_functions»; symbols-on = c .«undecorate_symbols» }
-
-abbrev pub words-of : Converter → Memory → Words
-words-of c m = record { st = c .state; mm = m }
-
--- 19: "converter closed, or one of its counts above the table's capacity"
-unfoldable pub usable? : Converter → Memory → Bool
-usable? c m = c .«open» && fits? (words-of c m)
 
 -- "17 fills all tables and scratch with zeros and closes the converter until begun anew"; else the call is accepted, and "Scratch is zero after every accepted tree"
 unfoldable pub finished : Converter → List ℕ → Words → Called
 finished c s w =
     cond (fits? w) (called 0 (with-state c true (w .st)) (w .mm) (zeros s)) (called 17 (with-state c false unused) (zeroed (w .mm)) (zeros s))
-
--- ── Beginning ──────────────────────────────────────────────────────────────────────────────────────────────────────────
-
--- "Beginning takes the debug id, the arch number and the two switches, and zeroes the lent tables"
-unfoldable pub beginOf : List ℕ → ℕ → Bool → Bool → Memory → Converter × Memory
-beginOf id arch f s m =
-    (begun id arch f s, zeroed m)
 
 -- ── A tree ─────────────────────────────────────────────────────────────────────────────────────────────────────────────
 

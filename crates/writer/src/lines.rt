@@ -1,6 +1,6 @@
 // A function's lines.
-use crate::scratch::set_word;
-use crate::scratch::word;
+use crate::stack::set_word;
+use crate::stack::word;
 use memory::State;
 use raw::SourceLocation;
 use steps::comp_dir_part;

@@ -1,10 +1,10 @@
 // A tree call: `process_symbolic_functions`.
 use crate::ahead::read_ahead;
 use crate::lines::process_lines;
-use crate::scratch::calls_at;
-use crate::scratch::gather;
-use crate::scratch::set_calls;
-use crate::scratch::word;
+use crate::stack::calls_at;
+use crate::stack::gather;
+use crate::stack::set_calls;
+use crate::stack::word;
 use memory::State;
 use raw::SourceLocation;
 use rows::FunctionRow;

@@ -7,8 +7,8 @@ use lib.ListN.{length}
 use borrow.Author.Needs.{needs}
 use Rattle.rows.specs.Columns.{columns}
 use Rattle.writer.proofs.ScratchLaws.{Gathers, gathers-begin, gathers-stop, gathers-end, gathers-pass, gathers-push, gathers-room, lines-fit}
-use Rattle.writer.proofs.scratch.gather.Statement.{statement}
-use Rattle.writer.proofs.scratch.gather.Tie as tie
+use Rattle.writer.proofs.stack.gather.Statement.{statement}
+use Rattle.writer.proofs.stack.gather.Tie as tie
 
 abbrev Inv-loop : tie.InvT-loop
 Inv-loop s₀ at functions64 functions32 lines64 lines32 i first depth rows r₀ line₀ n₀ s r line n =
