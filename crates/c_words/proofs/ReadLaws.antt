@@ -1,14 +1,13 @@
 -- The exported calls of the reader and the lookup: an answer's words.
 use Prim.Native.Nat.{ℕ, _<_, _≤_}
-use mathlib.Core.Bool.{Bool, cond}
-use mathlib.Core.Path.{_≡_, refl, sym, ap, _∙_}
-use mathlib.Core.List.{List, [], _∷_, _++_}
+use mathlib.Core.Path.{_≡_, sym, ap, _∙_}
+use mathlib.Core.List.{List, [], _∷_}
 use mathlib.Core.Option.{Option, none, some}
 use lib.Dec.{eqb, ltb}
 use lib.ListN.{length, getD, set}
 use lib.Seq.{sets}
 use borrow.Author.Tests.{lt-ltb, le-ltb, eq-eqb, ne-eqb}
-use Rattle.raw.specs.Rows.{max32, fileWords, functionWords}
+use Rattle.raw.specs.Rows.{max32, fileWords}
 use Rattle.raw.specs.declared.File.{File}
 use Rattle.raw.specs.declared.Function.{Function}
 use Rattle.symcache.specs.declared.SymCache.{SymCache}
@@ -16,12 +15,11 @@ use Rattle.symcache.specs.declared.lookup.SourceLocations.{SourceLocations}
 use Rattle.symcache.specs.declared.lookup.Frame.{Frame}
 use Rattle.symcache.specs.declared.lookup.FrameFile.{FrameFile}
 use Rattle.symcache.specs.declared.lookup.FrameFile.the-variants as frame-file
-use Rattle.symcache.specs.declared.lookup.GotFunction.{GotFunction}
 use Rattle.symcache.specs.Answers.{Answer, gives, refuses, Refusal, andThen}
 use Rattle.symcache.specs.Lookup.{walkFrom, walkAt, gotFunction}
 use Rattle.symcache.specs.Strings.{Part, gotString}
-use Rattle.c_words.specs.Words.{stored}
-use Rattle.c_words.specs.Reading.{Filled, filled, Moved, moved, answered, stepsTo, cacheWords, countAt, cacheOf, refused, cached, walkWords, walkOf, walkCall, headWords, withFile, frameWords, nameAfter, gotName, indexOf}
+use Rattle.c_words.specs.Stored.{stored}
+use Rattle.c_words.specs.Reading.{Filled, filled, moved, answered, stepsTo, cacheWords, countAt, cacheOf, refused, cached, walkWords, walkOf, walkCall, headWords, withFile, nameAfter, gotName, indexOf}
 
 -- ── One slice ──────────────────────────────────────────────────────────────────────────────────────────────────────────
 

@@ -8,16 +8,13 @@ use lib.ListN.{getD, set, replicate}
 use lib.Seq.{sets}
 use borrow.Author.Tests.{eq-eqb, ne-eqb}
 use Rattle.slices.specs.Bytes.{le, leAt, bytesAt, words}
-use Rattle.raw.specs.Rows.{rangeBytes, rangeAt}
-use Rattle.raw.specs.declared.Range.{Range}
 use Rattle.memory.specs.declared.LastAddr.{LastAddr}
 use Rattle.memory.specs.declared.LastAddr.the-variants.{Unset, Set}
 use Rattle.memory.specs.declared.State.{State}
 use Rattle.memory.specs.declared.Converter.{Converter}
-use Rattle.c_words.specs.Words.{stored}
+use Rattle.c_words.specs.Stored.{stored}
 use Rattle.slices.specs.Words.{yes, flagOf}
-use Rattle.c_words.specs.Record.{lastOf, idOf, stateOf, converterOf, lastWords, idWords, countWords, switchWords, wordsOf}
-use Rattle.c_words.specs.Record.{kept, lenWords}
+use Rattle.c_words.specs.Record.{lastOf, idOf, stateOf, converterOf, lastWords, idWords, countWords, switchWords, wordsOf, kept, lenWords}
 
 -- ── Read ───────────────────────────────────────────────────────────────────────────────────────────────────────────────
 
@@ -27,9 +24,8 @@ last-unset present a e = sym (ap (λ (b : Bool). cond b Unset (Set a)) (eq-eqb p
 pub last-set : (present a : ℕ) → (present ≡ 0 → ⊥) → Set a ≡ lastOf present a
 last-set present a n = sym (ap (λ (b : Bool). cond b Unset (Set a)) (ne-eqb present 0 n))
 
-pub word-bytes : (t : List ℕ) (k : ℕ) (r : List ℕ) (v : Range) {t₁ : List ℕ} → v .0 ≡ getD r k 0 → t₁ ≡ sets t (4 * k) (rangeBytes v) → t₁ ≡ sets t (4 * k) (le 4 (getD r k 0))
-unfolding rangeBytes words le
-word-bytes t k r v e h = h ∙ ap (λ (w : ℕ). sets t (4 * k) (le 4 w)) e
+pub word-bytes : (t : List ℕ) (k : ℕ) (r : List ℕ) (v : ℕ) {t₁ : List ℕ} → v ≡ getD r k 0 → t₁ ≡ sets t (4 * k) (le 4 v) → t₁ ≡ sets t (4 * k) (le 4 (getD r k 0))
+word-bytes t k r v e h = h ∙ ap (λ (n : ℕ). sets t (4 * k) (le 4 n)) e
 
 pub id-read : (r : List ℕ) {t₁ t₂ t₃ t₄ t₅ t₆ t₇ t₈ : List ℕ} → t₁ ≡ sets (replicate 32 0) 0 (le 4 (getD r 0 0)) → t₂ ≡ sets t₁ 4 (le 4 (getD r 1 0))
     → t₃ ≡ sets t₂ 8 (le 4 (getD r 2 0)) → t₄ ≡ sets t₃ 12 (le 4 (getD r 3 0)) → t₅ ≡ sets t₄ 16 (le 4 (getD r 4 0)) → t₆ ≡ sets t₅ 20 (le 4 (getD r 5 0))
@@ -51,9 +47,8 @@ converter-read r ei es ea eu ef ev eg ew eo = rw (ei, es, ea, ef, eg, eo, eu, ev
 
 -- ── Stored ─────────────────────────────────────────────────────────────────────────────────────────────────────────────
 
-pub word-of-id : (t : List ℕ) (k : ℕ) (b : List ℕ) (w : Range) {t₁ : List ℕ} → w ≡ rangeAt b (4 * k) → t₁ ≡ set t k (w .0) → t₁ ≡ set t k (leAt 4 b (4 * k))
-unfolding rangeAt
-word-of-id t k b w e h = h ∙ ap (λ (v : Range). set t k (v .0)) e
+pub word-of-id : (t : List ℕ) (k : ℕ) (b : List ℕ) (w : ℕ) {t₁ : List ℕ} → w ≡ leAt 4 b (4 * k) → t₁ ≡ set t k w → t₁ ≡ set t k (leAt 4 b (4 * k))
+word-of-id t k b w e h = h ∙ ap (λ (v : ℕ). set t k v) e
 
 last-then : (x : List ℕ) (l : LastAddr) (w : ℕ) → set (sets x 17 (lastWords l)) 19 w ≡ sets x 17 (lastWords l ++ (w ∷ []))
 last-then x Unset w = refl

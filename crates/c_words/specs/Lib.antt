@@ -1,3 +1,4 @@
-pub mod Words
+pub mod Stored
 pub mod Record
 pub mod Reading
+pub mod Writing

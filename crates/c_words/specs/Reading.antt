@@ -1,5 +1,5 @@
 -- The exported calls of the reader and the lookup: what the calls of `symcache` answer (symcache's Answers, Reader, Lookup, Strings), as a number and as words in the lent slices.
-use Prim.Native.Nat.{ℕ, _%_, _^_}
+use Prim.Native.Nat.{ℕ, _%_}
 use mathlib.Core.Bool.{cond}
 use mathlib.Core.List.{List, [], _∷_, _++_}
 use mathlib.Core.Option.{Option, none, some}
@@ -17,7 +17,7 @@ use Rattle.symcache.specs.Answers.{Answer, gives, refuses, Refusal, andThen, Fr
 use Rattle.symcache.specs.Reader.{parsed, opened}
 use Rattle.symcache.specs.Lookup.{foundAt, walkFrom, walkAt, lookedUp, stepped, gotFile, gotFunction, functionsNext, filesNext}
 use Rattle.symcache.specs.Strings.{Part, gotString}
-use Rattle.c_words.specs.Words.{stored}
+use Rattle.c_words.specs.Stored.{stored}
 
 -- ── What a call leaves ─────────────────────────────────────────────────────────────────────────────────────────────────
 

@@ -11,7 +11,7 @@ use Rattle.memory.specs.declared.LastAddr.{LastAddr}
 use Rattle.memory.specs.declared.LastAddr.the-variants.{Unset, Set}
 use Rattle.memory.specs.declared.State.{State}
 use Rattle.memory.specs.declared.Converter.{Converter}
-use Rattle.c_words.specs.Words.{stored}
+use Rattle.c_words.specs.Stored.{stored}
 use Rattle.slices.specs.Words.{yes, flagOf}
 
 -- ── Read ───────────────────────────────────────────────────────────────────────────────────────────────────────────────

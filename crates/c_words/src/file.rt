@@ -1,7 +1,7 @@
 // The length of a file as a word.
 ghost use mathlib.Core.Path.{_≡_};
 ghost use Rattle.c_words.specs.Record.{lenWords};
-use crate::slices::put64;
+use slices::put64;
 
 // The length of a file that was written.
 pub fn put_len(len: &mut [u64], code: u32, n: usize)

@@ -1,5 +1,4 @@
-// Words in lent slices at the C boundary: read and stored one by one, as the rows of a file, and as the converter's record.
+// Words at the C boundary: the converter's record, rows of a file and its length. The definitions of all C calls stand in specs/: Reading, Writing.
 pub mod file;
 pub mod record;
 pub mod rows;
-pub mod slices;

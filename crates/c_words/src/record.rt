@@ -1,11 +1,10 @@
 // The converter's record as twenty words: the debug id in eight, four bytes a word, little-endian; arch; the two switches; what is in use of the six tables; the last end; whether it is open.
 ghost use mathlib.Core.Path.{_≡_};
-ghost use mathlib.Core.List.{[], _∷_};
-ghost use Prim.Native.Nat.{_*_, _≤_};
+ghost use Prim.Native.Nat.{_*_};
 ghost use lib.ListN.{getD, set};
 ghost use lib.Seq.{sets};
 ghost use Rattle.slices.specs.Bytes.{le, leAt};
-ghost use Rattle.c_words.specs.Words.{stored};
+ghost use Rattle.c_words.specs.Stored.{stored};
 ghost use Rattle.c_words.specs.Record.{lastOf, idOf, stateOf, converterOf, lastWords, idWords, countWords, switchWords, wordsOf, kept};
 use crate::slices::flag;
 use crate::slices::is_set;
@@ -14,6 +13,12 @@ use crate::slices::word;
 use memory::Converter;
 use memory::LastAddr;
 use memory::State;
+use slices::flag;
+use slices::is_set;
+use slices::load_u32;
+use slices::put;
+use slices::store_u32;
+use slices::word;
 use raw::Range;
 
 // Reading it
@@ -39,7 +44,7 @@ fn put_word(id: &mut [u8], record: &[u32], k: u32)
     ensures { λ _. ⌜ now (id .exit) ≡ sets (now (id .entry)) (4 * k) (le 4 (getD (now («record» .entry)) k 0)) ⌝ }
 {
     let j = k as usize;
-    raw::write_range(id, 4 * j, Range(word(record, j)));
+    store_u32(id, 4 * j, word(record, j));
 }
 
 fn last_addr(is_some: u32, a: u32) -> LastAddr
@@ -88,8 +93,7 @@ fn put_id_word(record: &mut [u32], id: &[u8], k: u32)
     ensures { λ _. ⌜ now («record» .exit) ≡ set (now («record» .entry)) k (leAt 4 (now (id .entry)) (4 * k)) ⌝ }
 {
     let j = k as usize;
-    let w = raw::range_at(id, 4 * j);
-    put(record, j, w.0);
+    put(record, j, load_u32(id, 4 * j));
 }
 
 fn put_id(record: &mut [u32], id: &[u8])

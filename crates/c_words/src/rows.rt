@@ -2,7 +2,7 @@
 ghost use mathlib.Core.Path.{_≡_};
 ghost use lib.Seq.{sets};
 ghost use Rattle.raw.specs.Rows.{fileWords, functionWords};
-use crate::slices::put;
+use slices::put;
 use raw::File;
 use raw::Function;
 

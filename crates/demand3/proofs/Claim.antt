@@ -36,7 +36,7 @@ use Rattle.read_back.proofs.Written.{file-shows, file-opened, file-demand}
 use Rattle.writer.specs.Calls.{setup, treeOf, symbolOf}
 use Rattle.memory.specs.Record.{words-of, usable?, beginOf}
 use Rattle.steps.specs.Symbols.{symbolRow}
-use Rattle.line_rows.specs.Lines.{lineColumns}
+use Rattle.line_list.specs.Lines.{lineColumns}
 use Rattle.demand3.specs.Lists.{Call, tree, lines-tree, symbol, write, Standing, givenTree, next, run, begun, Typed}
 use Rattle.demand3.specs.Demand3.{Nested, Premises, asked, Shows, Reopened, file-of, Demand3}
 use Rattle.demand3.proofs.Encoding.{capacities, capacities-lent}

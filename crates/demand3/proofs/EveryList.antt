@@ -35,7 +35,7 @@ use Rattle.slices.specs.Words.{zeros}
 use Rattle.memory.specs.Record.{with-state, words-of, usable?, beginOf}
 use Rattle.memory.specs.Record.{unused}
 use Rattle.steps.specs.Symbols.{symbolRow}
-use Rattle.line_rows.specs.Lines.{lineColumns}
+use Rattle.line_list.specs.Lines.{lineColumns}
 use Rattle.line_rows.specs.Calls.{linesOf}
 use Rattle.line_rows.proofs.AsTree.{scratch-had, kept, lines-tree as lines-tree-is}
 use Rattle.demand3.specs.Lists.{Call, tree, lines-tree, symbol, write, Standing, givenTree, after, next, run, begun, due, Typed}

@@ -17,7 +17,7 @@ use Rattle.model.proofs.Spans.{∈-elim}
 use Rattle.model.proofs.Chains.{false-true, both-true}
 use Rattle.writer.specs.Calls.{treeOf, symbolOf}
 use Rattle.serialize.specs.File.{serializeOf}
-use Rattle.line_rows.specs.Lines.{lineColumns}
+use Rattle.line_list.specs.Lines.{lineColumns}
 use Rattle.line_rows.specs.Calls.{linesOf}
 use Rattle.demand3.specs.Lists.{Call, tree, lines-tree, symbol, write, Standing, next, run, Typed}
 use Rattle.demand3.specs.Demand3.{Nested, Premises}

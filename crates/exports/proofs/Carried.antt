@@ -18,22 +18,19 @@ use Rattle.rows.specs.declared.OptionalPart.{OptionalPart}
 use Rattle.model.specs.Machine.{convert-symbolM}
 use Rattle.model.specs.Converter.{input}
 use Rattle.memory.specs.Memory.{Memory, Words}
-use Rattle.memory.specs.Record.{fits?}
+use Rattle.memory.specs.Record.{fits?, words-of, usable?, beginOf}
 use Rattle.steps.specs.Steps.{over-words}
 use Rattle.memory.specs.declared.LastAddr.{LastAddr}
 use Rattle.memory.specs.declared.LastAddr.the-variants.{Unset, Set}
-use Rattle.memory.specs.declared.State.{State}
 use Rattle.memory.specs.declared.Converter.{Converter}
 use Rattle.writer.specs.Calls.{Called, called, setup, finished, rows-converted, treeOf, symbolOf}
-use Rattle.memory.specs.Record.{words-of, usable?, beginOf}
 use Rattle.steps.specs.Symbols.{symbolRow}
 use Rattle.line_rows.specs.Calls.{LinesCalled, unpackRoom?, linesOf}
 use Rattle.c_words.proofs.StoreLaws.{sets-at}
-use Rattle.c_words.specs.Words.{stored}
+use Rattle.c_words.specs.Stored.{stored}
 use Rattle.slices.specs.Words.{yes, flagOf}
-use Rattle.c_words.specs.Record.{lastOf, idOf, stateOf, converterOf, lastWords, idWords, countWords, switchWords, wordsOf, Bytes, IdFits}
-use Rattle.c_words.specs.Writing.{leaves, beginCall, treeCall, linesCall, symbolCall}
-use Rattle.c_words.specs.Record.{kept}
+use Rattle.c_words.specs.Record.{idOf, stateOf, converterOf, lastWords, idWords, wordsOf, Bytes, IdFits, kept}
+use Rattle.c_words.specs.Writing.{beginCall, treeCall, linesCall, symbolCall}
 
 -- ── Bytes ──────────────────────────────────────────────────────────────────────────────────────────────────────────────
 

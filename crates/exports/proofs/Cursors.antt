@@ -1,6 +1,6 @@
 -- The words of a cursor and of a cache survive between two calls. So the frames that `lookup` and `next` give by value are those that the exported calls store, and an address is found by the words
 -- that `symcache_open` stored as by the cache that `open` gave.
-use Prim.Native.Nat.{ℕ, suc, _+_, _*_, _%_, _<_, _≤_}
+use Prim.Native.Nat.{ℕ, _+_, _%_, _<_, _≤_}
 use native.Mathlib.Omega.{arith}
 use mathlib.Core.Bool.{Bool, true, false, not}
 use mathlib.Core.Path.{_≡_, refl, sym, ap, _∙_}
@@ -11,18 +11,16 @@ use lib.Seq.{length-sets}
 use borrow.Author.Tests.{le-ltb, ne-eqb}
 use Rattle.slices.specs.Bytes.{leAt}
 use Rattle.raw.specs.Rows.{headerAt}
-use Rattle.raw.specs.declared.Header.{Header}
 use Rattle.slices.proofs.Bytes.{leAt-four}
 use Rattle.symcache.specs.declared.SymCache.{SymCache}
 use Rattle.symcache.specs.declared.lookup.SourceLocations.{SourceLocations}
 use Rattle.symcache.specs.declared.lookup.Frame.{Frame}
 use Rattle.symcache.specs.Answers.{Answer, gives, refuses, only, refuseIf, andThen}
 use Rattle.symcache.specs.Reader.{layoutOf, parsed, startAt, ascending, opened}
-use Rattle.symcache.specs.Lookup.{foundAt, walkAt, lookedUp, stepped}
+use Rattle.symcache.specs.Lookup.{foundAt, walkAt}
 use Rattle.symcache.proofs.ReaderLaws.{parsed-within}
-use Rattle.read_back.specs.Shown.{Shown, ends, goes}
-use Rattle.read_back.specs.Shown.{Walked as PlainWalked, Found as PlainFound}
-use Rattle.c_words.specs.Words.{stored}
+use Rattle.read_back.specs.Shown.{Shown, ends, goes, Walked as PlainWalked, Found as PlainFound}
+use Rattle.c_words.specs.Stored.{stored}
 use Rattle.c_words.specs.Record.{Bytes}
 use Rattle.c_words.specs.Reading.{filled, answered, stepsTo, cacheWords, cacheOf, cached, openCall, findCall, walkWords, walkOf, walkCall, lookupCall, frameWords, nextCall, indexOf}
 use Rattle.exports.specs.Walks.{Walked, Found}

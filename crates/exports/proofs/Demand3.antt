@@ -16,16 +16,15 @@ use Rattle.memory.specs.declared.Converter.{Converter}
 use Rattle.memory.specs.Record.{beginOf}
 use Rattle.writer.specs.Calls.{treeOf, symbolOf}
 use Rattle.steps.specs.Symbols.{symbolRow}
-use Rattle.line_rows.specs.Lines.{lineColumns}
+use Rattle.line_list.specs.Lines.{lineColumns}
 use Rattle.line_rows.specs.Calls.{linesOf}
 use Rattle.serialize.specs.File.{serializeOf}
 use Rattle.demand3.specs.Lists.{Call, tree, lines-tree, symbol, write, givenTree, Standing as PlainStanding, next as plain-next, run as plain-run, begun as plain-begun}
 use Rattle.demand3.specs.Demand3.{Reopened}
 use Rattle.demand3.proofs.Claim.{demand3}
 use Rattle.slices.specs.Words.{yes}
-use Rattle.c_words.specs.Record.{converterOf, Bytes}
+use Rattle.c_words.specs.Record.{converterOf, Bytes, lenWords}
 use Rattle.c_words.specs.Writing.{beginCall, treeCall, linesCall, symbolCall, serializeCall}
-use Rattle.c_words.specs.Record.{lenWords}
 use Rattle.exports.specs.Lists.{Standing, next, run, begun, ExportedDemand3}
 use Rattle.exports.proofs.Carried.{tree-carried, lines-carried, symbol-carried, begin-carried}
 

@@ -9,9 +9,8 @@ use Rattle.writer.specs.Calls.{called}
 use Rattle.writer.specs.declared.calls.Answer.{Answer}
 use Rattle.line_rows.specs.Calls.{linesOf}
 use Rattle.line_rows.specs.Calls as lines-spec
-use Rattle.c_words.specs.Record.{converterOf}
+use Rattle.c_words.specs.Record.{converterOf, kept}
 use Rattle.c_words.specs.Writing.{left, linesLeft, linesLeave, linesCall}
-use Rattle.c_words.specs.Record.{kept}
 
 module _ (w : List ℕ) (m : Memory) (s u v : List ℕ) (k : Columns) where
   -- of a record w: it was read, the call answered, the record (as it had come back) was stored, and its number is the answer's

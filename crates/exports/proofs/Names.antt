@@ -1,13 +1,12 @@
 -- What `symcache_function_name` answers is the function's name as `function_name` gives it: the part of the bytes that the words name, or the caller's stand-in.
 use Prim.Native.Nat.{ℕ, zero, suc, _+_, _<_, _≤_}
 use native.Mathlib.Omega.{arith}
-use mathlib.Core.Bool.{Bool, cond, true, false}
+use mathlib.Core.Bool.{Bool, true, false}
 use mathlib.Core.Path.{_≡_, refl, sym, ap, _∙_}
 use mathlib.Core.List.{List, [], _∷_}
 use mathlib.Core.Option.{Option, none, some}
-use lib.Dec.{eqb}
-use lib.ListN.{length, take, drop, getD, length-take}
-use lib.Seq.{take-take, take-nil, drop-nil, drop-drop}
+use lib.ListN.{length, take, drop, length-take}
+use lib.Seq.{take-take, drop-drop}
 use Rattle.raw.specs.declared.Function.{Function}
 use Rattle.text.specs.declared.strings.Text.{Text}
 use Rattle.text.specs.declared.strings.Text.the-variants as text
@@ -18,7 +17,6 @@ use Rattle.symcache.specs.Answers.{Answer, gives, refuses, Refusal, refuseIf, a
 use Rattle.symcache.specs.Reader.{tested, parsed}
 use Rattle.symcache.specs.Lookup.{functionIn, gotFunction}
 use Rattle.symcache.specs.Strings.{Part, sectionOf, placed, gotString, orElse, textOr, nameIn, nameOf}
-use Rattle.c_words.specs.Words.{stored}
 use Rattle.c_words.specs.Reading.{answered, partWords, nameAfter, gotName, nameCall, nameBytes}
 use Rattle.c_words.proofs.StoreLaws.{sets-at}
 

@@ -1,26 +1,24 @@
 -- The exported calls of the converter and the writer.
 use Prim.Native.Nat.{ℕ, _<_, _≤_}
-use mathlib.Core.Bool.{Bool, cond}
-use mathlib.Core.Path.{_≡_, refl, sym, ap, _∙_}
-use mathlib.Core.List.{List, [], _∷_}
-use lib.Dec.{eqb, ltb}
-use lib.ListN.{length, set}
-use borrow.Author.Tests.{lt-ltb, le-ltb, eq-eqb, ne-eqb}
+use mathlib.Core.Bool.{Bool}
+use mathlib.Core.Path.{_≡_, sym, ap, _∙_}
+use mathlib.Core.List.{List, []}
+use lib.Dec.{ltb}
+use lib.ListN.{length}
+use borrow.Author.Tests.{lt-ltb, le-ltb}
 use Rattle.slices.specs.Bytes.{bytesAt}
 use Rattle.raw.specs.Rows.{headerAt}
 use Rattle.raw.specs.declared.Header.{Header}
 use Rattle.rows.specs.Columns.{Columns}
-use Rattle.rows.specs.declared.OptionalPart.{OptionalPart}
 use Rattle.memory.specs.Memory.{Memory}
 use Rattle.memory.specs.declared.Converter.{Converter}
-use Rattle.writer.specs.Calls.{Called, called, treeOf, symbolOf}
+use Rattle.writer.specs.Calls.{called, treeOf, symbolOf}
 use Rattle.memory.specs.Record.{beginOf}
 use Rattle.serialize.specs.File.{Wrote, wrote, serializeOf}
-use Rattle.c_words.specs.Words.{stored}
+use Rattle.c_words.specs.Stored.{stored}
 use Rattle.slices.specs.Words.{yes}
-use Rattle.c_words.specs.Record.{converterOf, wordsOf}
-use Rattle.c_words.specs.Writing.{Left, left, leaves, beginCall, treeCall, nameAt, symbolCall, LeftFile, leftFile, serializeCall}
-use Rattle.c_words.specs.Record.{kept, lenWords}
+use Rattle.c_words.specs.Record.{converterOf, wordsOf, kept, lenWords}
+use Rattle.c_words.specs.Writing.{left, leaves, beginCall, treeCall, nameAt, symbolCall, leftFile, serializeCall}
 
 pub id-bytes : (s : List ℕ) (h : Header) → h ≡ headerAt s 0 → h .«debug_id» ≡ bytesAt 32 s 0
 unfolding headerAt

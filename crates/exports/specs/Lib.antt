@@ -1,3 +1,2 @@
-pub mod Writing
 pub mod Lists
 pub mod Walks

@@ -10,7 +10,7 @@ use Rattle.model.specs.Basics.{_∈_}
 use Rattle.model.specs.Rows.{MAX, Given, symbol-row}
 use Rattle.steps.specs.Symbols.{symbolRow}
 use Rattle.memory.specs.Memory.{Memory}
-use Rattle.line_rows.specs.Lines.{lineColumns}
+use Rattle.line_list.specs.Lines.{lineColumns}
 use Rattle.demand3.specs.Lists.{Call, tree, lines-tree, symbol, write, givenTree, Typed}
 use Rattle.demand3.specs.Demand3.{Reopened}
 use Rattle.slices.specs.Words.{yes}

@@ -5,7 +5,7 @@ use mathlib.Core.Path.{_≡_}
 use mathlib.Core.List.{List, [], _∷_, map}
 use Rattle.symcache.specs.declared.lookup.Frame.{Frame}
 use Rattle.read_back.specs.Shown.{Shown, shown}
-use Rattle.c_words.specs.Words.{stored}
+use Rattle.c_words.specs.Stored.{stored}
 use Rattle.c_words.specs.Reading.{filled, moved, frameWords, lookupCall, nextCall}
 
 -- `symcache_next` from the cursor k on stores these frames one by one, and then the end; every call answers 0

@@ -9,7 +9,7 @@ use c_words::file::put_len;
 use c_words::record::load;
 use c_words::record::store;
 use c_words::record::store_answer;
-use c_words::slices::is_set;
+use slices::is_set;
 use rows::OptionalPart;
 use rows::TextPart;
 

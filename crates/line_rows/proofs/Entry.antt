@@ -16,9 +16,9 @@ use Rattle.memory.specs.declared.Converter.{Converter}
 use Rattle.writer.specs.Calls.{Called, called, treeOf}
 use Rattle.slices.specs.Words.{zeros}
 use Rattle.memory.specs.Record.{usable?}
-use Rattle.line_rows.specs.Lines.{words64, words32, packed, lineColumns, linesTexts?, putRows}
+use Rattle.line_list.specs.Lines.{words64, words32, packed, lineColumns, linesTexts?, putRows}
 use Rattle.line_rows.specs.Calls.{LinesCalled, leaves, unpackRoom?, linesOf, unpackedOf}
-use Rattle.line_rows.specs.Numbers.{usableBy, numberOf}
+use Rattle.line_list.specs.Numbers.{usableBy, numberOf}
 use Rattle.line_rows.proofs.Packed.{length64, length32, unpacked64-is, unpacked32-is, put-nothing, put-long, refusal-lines}
 
 -- ── `process_unpacked` ──

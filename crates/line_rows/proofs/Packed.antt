@@ -6,13 +6,14 @@ use mathlib.Core.List.{List, [], _∷_, _++_, append-assoc}
 use native.Mathlib.Omega.{arith}
 use lib.Dec.{eqb, ltb}
 use lib.ListN.{length, getD, take, drop, length-append, length-drop, length-set, List·getD-append}
+use Rattle.slices.specs.Words.{flagOf}
 use lib.Seq.{sets, sets-eq, length-sets, take-at, drop-at, drop-drop, getD-append-add}
 use borrow.Author.Tests.{lt-ltb, le-ltb, eq-eqb, ne-eqb}
 use Rattle.rows.specs.Columns.{Columns, columns, lineWords, lineRow, lineRows, lineStruct}
 use Rattle.rows.specs.Refusals.{each, lineTexts?, lineLengths?, refusalOf, refusalWith}
 use Rattle.rows.specs.declared.LineRow.{LineRow}
 use Rattle.rows.proofs.Laws.{line-in, refusal-columns}
-use Rattle.line_rows.specs.Lines.{noLine, flag, words64, words32, packed, lineColumns, linesTexts?, putRow, putRows}
+use Rattle.line_list.specs.Lines.{noLine, words64, words32, packed, lineColumns, linesTexts?, putRow, putRows}
 
 -- ── Columns of w words a row ──
 
@@ -124,7 +125,7 @@ unpacked32-is ls t h = unpacked-is 14 words32 wide32 none14 step14 room14 ls t h
 
 -- ── A row of the columns ──
 
-flag-back : (b : Bool) → not (eqb (flag b) 0) ≡ b
+flag-back : (b : Bool) → not (eqb (flagOf b) 0) ≡ b
 flag-back true = refl
 flag-back false = refl
 
@@ -141,10 +142,10 @@ module _ (ls : List LineRow) (j : ℕ) (h : j < length ls) where
   first64 : getD (packed words64 ls) (j * 3) 0 ≡ q .address
   first64 = ap (λ (k : ℕ). getD (packed words64 ls) k 0) (omega arith) ∙ at64 0 (omega arith)
 
-  first32 : getD (packed words32 ls) (j * 14) 0 ≡ flag (q .«has_size»)
+  first32 : getD (packed words32 ls) (j * 14) 0 ≡ flagOf (q .«has_size»)
   first32 = ap (λ (k : ℕ). getD (packed words32 ls) k 0) (omega arith) ∙ at32 0 (omega arith)
 
-  flagged : (k : ℕ) (b : Bool) → getD (packed words32 ls) k 0 ≡ flag b → not (eqb (getD (packed words32 ls) k 0) 0) ≡ b
+  flagged : (k : ℕ) (b : Bool) → getD (packed words32 ls) k 0 ≡ flagOf b → not (eqb (getD (packed words32 ls) k 0) 0) ≡ b
   flagged k b e = ap (λ (v : ℕ). not (eqb v 0)) e ∙ flag-back b
 
   words-back : lineWords (packed words64 ls) (packed words32 ls) j ≡ q

@@ -4,36 +4,17 @@ ghost use Prim.Native.Nat.{_*_, _≤_};
 ghost use lib.ListN.{length};
 ghost use Rattle.memory.specs.Memory.{memory};
 ghost use Rattle.writer.specs.Calls.{called};
-ghost use Rattle.slices.specs.Words.{zeros};
-ghost use Rattle.line_rows.specs.Lines.{lineColumns};
+ghost use Rattle.line_list.specs.Lines.{lineColumns};
 ghost use Rattle.line_rows.specs.Calls.{leaves, linesOf, unpackedOf};
 use memory::Converter;
 use rows::LineRow;
-use unpacked::is_usable;
-use unpacked::lines_texts;
-use unpacked::refusal;
-use unpacked::unpack;
+use slices::zero;
+use slices::zero64;
+use line_list::is_usable;
+use line_list::lines_texts;
+use line_list::refusal;
+use line_list::unpack;
 use writer::calls::Answer;
-
-fn zero64(t: &mut [u64])
-    ensures { λ _. ⌜ now (t .exit) ≡ zeros (now (t .entry)) ⌝ }
-{
-    let mut i: usize = 0;
-    while i < t.len() {
-        t[i] = 0;
-        i += 1;
-    }
-}
-
-fn zero32(t: &mut [u32])
-    ensures { λ _. ⌜ now (t .exit) ≡ zeros (now (t .entry)) ⌝ }
-{
-    let mut i: usize = 0;
-    while i < t.len() {
-        t[i] = 0;
-        i += 1;
-    }
-}
 
 // The call over number slices, if it isn't refused; what was unpacked is zeroed.
 fn process_unpacked(
@@ -73,7 +54,7 @@ fn process_unpacked(
             text,
         );
         zero64(unpacked64);
-        zero32(unpacked32);
+        zero(unpacked32);
         return answer;
     }
     Answer {

@@ -44,34 +44,34 @@ use denote.Exit.{yes}
 use Rattle.rows.specs.declared.LineRow.{LineRow}
 use Rattle.rows.proofs.LineRow as T
 use Rattle.memory.specs.declared.Converter.{Converter}
-use Rattle.steps.proofs.Converter as TC
-use Rattle.steps.proofs.Converter.Laws as TC′
+use Rattle.memory.proofs.Converter as TC
+use Rattle.memory.proofs.Converter.Laws as TC′
 use Rattle.memory.specs.Memory.{memory}
 use Rattle.writer.specs.Calls.{called}
 use Rattle.writer.specs.declared.calls.Answer.{Answer}
 use Rattle.writer.proofs.calls.Answer as TA
 use Rattle.writer.proofs.calls.Answer.Laws as TA′
-use Rattle.line_rows.specs.Lines.{words64, words32, lineColumns, linesTexts?, putRows}
+use Rattle.line_list.specs.Lines.{words64, words32, lineColumns, linesTexts?, putRows}
 use Rattle.line_rows.specs.Calls.{leaves, linesOf, unpackedOf}
-use Rattle.line_rows.specs.Numbers.{usableBy, numberOf}
-use Rattle.line_rows.proofs.Again.{LentAgain, lends-again, comes-back}
+use Rattle.line_list.specs.Numbers.{usableBy, numberOf}
+use Rattle.line_list.proofs.Again.{LentAgain, lends-again, comes-back}
 use Rattle.line_rows.proofs.Entry.{entry-room, entry-is}
-use Rattle.unpacked.proofs.lines_texts as lines-texts
-use Rattle.unpacked.proofs.lines_texts.Symbol as lines-texts-def
-use Rattle.unpacked.proofs.lines_texts.Symbol.{name as #unpacked·lines-texts}
-use Rattle.unpacked.proofs.lines_texts.Met as lines-texts-thm
-use Rattle.unpacked.proofs.is_usable as is-usable
-use Rattle.unpacked.proofs.is_usable.Symbol as is-usable-def
-use Rattle.unpacked.proofs.is_usable.Symbol.{name as #unpacked·is-usable}
-use Rattle.unpacked.proofs.is_usable.Met as is-usable-thm
-use Rattle.unpacked.proofs.refusal as refusal
-use Rattle.unpacked.proofs.refusal.Symbol as refusal-def
-use Rattle.unpacked.proofs.refusal.Symbol.{name as #unpacked·refusal}
-use Rattle.unpacked.proofs.refusal.Met as refusal-thm
-use Rattle.unpacked.proofs.unpack as unpack
-use Rattle.unpacked.proofs.unpack.Symbol as unpack-def
-use Rattle.unpacked.proofs.unpack.Symbol.{name as #unpacked·unpack}
-use Rattle.unpacked.proofs.unpack.Met as unpack-thm
+use Rattle.line_list.proofs.lines_texts as lines-texts
+use Rattle.line_list.proofs.lines_texts.Symbol as lines-texts-def
+use Rattle.line_list.proofs.lines_texts.Symbol.{name as #line-list·lines-texts}
+use Rattle.line_list.proofs.lines_texts.Met as lines-texts-thm
+use Rattle.line_list.proofs.is_usable as is-usable
+use Rattle.line_list.proofs.is_usable.Symbol as is-usable-def
+use Rattle.line_list.proofs.is_usable.Symbol.{name as #line-list·is-usable}
+use Rattle.line_list.proofs.is_usable.Met as is-usable-thm
+use Rattle.line_list.proofs.refusal as refusal
+use Rattle.line_list.proofs.refusal.Symbol as refusal-def
+use Rattle.line_list.proofs.refusal.Symbol.{name as #line-list·refusal}
+use Rattle.line_list.proofs.refusal.Met as refusal-thm
+use Rattle.line_list.proofs.unpack as unpack
+use Rattle.line_list.proofs.unpack.Symbol as unpack-def
+use Rattle.line_list.proofs.unpack.Symbol.{name as #line-list·unpack}
+use Rattle.line_list.proofs.unpack.Met as unpack-thm
 use Rattle.line_rows.proofs.process_unpacked as process-unpacked
 use Rattle.line_rows.proofs.process_unpacked.Symbol as process-unpacked-def
 use Rattle.line_rows.proofs.process_unpacked.Symbol.{name as #line-rows·process-unpacked}
@@ -285,8 +285,8 @@ module _ {M : Type 1} (𝓤 : URA M) (H : Heap 𝓤) (A : Atoms 𝓤) (W : Given
       forget ! 0 refl $ free1 ! $ forget ! 0 refl $ free1 ! $ forget ! 0 refl $ free1 ! $ forget ! 0 refl $ free1 ! $ forget ! 0 refl $ free1 ! $ forget ! 0 refl $ free1 ! $
       free0 ! $ by ! (exits answer w z0 z1 z2 z3 z4 z5 z6 z7 z8 n0 n1 n2 n3 n4 n5 n6 n7 n8 e)
 
-  module _ (C : Calls 𝓤 H) (Λ : Loops 𝓤 H) (fm : FmC 𝓤 H (W .laws) C) (known-texts : Triple 𝓤 (C #unpacked·lines-texts) (LinesTexts 𝓤 H A mem run)) (known-usable : Triple 𝓤 (C #unpacked·is-usable) (IsUsable 𝓤 H A mem run))
-      (known-refusal : Triple 𝓤 (C #unpacked·refusal) (Refusal 𝓤 H A mem run)) (known-unpack : Triple 𝓤 (C #unpacked·unpack) (Unpack 𝓤 H A mem run)) (known-process : Triple 𝓤 (C #line-rows·process-unpacked) (Process 𝓤 H A mem run)) where
+  module _ (C : Calls 𝓤 H) (Λ : Loops 𝓤 H) (fm : FmC 𝓤 H (W .laws) C) (known-texts : Triple 𝓤 (C #line-list·lines-texts) (LinesTexts 𝓤 H A mem run)) (known-usable : Triple 𝓤 (C #line-list·is-usable) (IsUsable 𝓤 H A mem run))
+      (known-refusal : Triple 𝓤 (C #line-list·refusal) (Refusal 𝓤 H A mem run)) (known-unpack : Triple 𝓤 (C #line-list·unpack) (Unpack 𝓤 H A mem run)) (known-process : Triple 𝓤 (C #line-rows·process-unpacked) (Process 𝓤 H A mem run)) where
     walk : ent 𝓤 (onEntry 𝓤 H A process-function-lines.signature (κ0, (κ1, (κ2, (κ3, (κ4, (κ5, (κ6, (κ7, (κ8, (κ9, (κ10, (κ11, (κ12, tt))))))))))))) (q0, (q1, (q2, (q3, (q4, (q5, (q6, (q7, (q8, (q9, (q10, (q11, (q12, tt))))))))))))) a vals) (WpFn 𝓤 H C Λ code.function (mc ∷ s0 ∷ s1 ∷ s2 ∷ s3 ∷ s4 ∷ s5 ∷ s6 ∷ s7 ∷ s8 ∷ s9 ∷ s10 ∷ s11 ∷ s12 ∷ []) Post)
     walk =
         qed W ((‵ (flft κ0 q0) ⊛ ‵ (flft κ1 q1) ⊛ ‵ (flft κ2 q2) ⊛ ‵ (flft κ3 q3) ⊛ ‵ (flft κ4 q4) ⊛ ‵ (flft κ5 q5) ⊛ ‵ (flft κ6 q6) ⊛ ‵ (flft κ7 q7) ⊛ ‵ (flft κ8 q8) ⊛ ‵ (flft κ9 q9) ⊛ ‵ (flft κ10 q10) ⊛ ‵ (flft κ11 q11) ⊛ ‵ (flft κ12 q12) ⊛ ‵ ftrue)
@@ -435,8 +435,8 @@ module _ {M : Type 1} (𝓤 : URA M) (H : Heap 𝓤) (A : Atoms 𝓤) (W : Given
         tail C Λ l0 l1 l2 l3 l4 l5 l6 l7 l8 l9 l10 l11 l12 l13 l14 l15 l16 l17 l18 l19 l20 l21 l22 l23 l24 l25 l26 l27 l28 l29 l30 l31 l32 l33 l34 l35 l36 l37 l38 l39 l40 l41 l42 l43 l44 l45 l46 answer w₅ (ws .1 .1 .1 .0) (ws .1 .1 .1 .1 .0) (ws .1 .1 .1 .1 .1 .0) (ws .1 .1 .1 .1 .1 .1 .0) (ws .1 .1 .1 .1 .1 .1 .1 .0) (ws .1 .1 .1 .1 .1 .1 .1 .1 .0) (ws .1 .1 .1 .1 .1 .1 .1 .1 .1 .0) (ws .1 .1 .1 .1 .1 .1 .1 .1 .1 .1 .0) (ws .1 .1 .1 .1 .1 .1 .1 .1 .1 .1 .1 .0) n0 n1 n2 n3 n4 n5 n6 (n7 ∙ m₁) (n8 ∙ m₂) (entry-is conv (memory (t0 .now) (t1 .now) (t2 .now) (t3 .now) (t4 .now) (t5 .now)) (t6 .now) u₀ v₀ (t9 .now) (t10 .now) (t11 .now) (t12 .now) e₁ e₂ e₃ (e₄ .0) (e₄ .1) e₅))))))))))))))))))))))))))))))))))))))))))))))))))))))))))))))))))))))))))))))))))))))))
 
 module _ {M : Type 1} (𝓤 : URA M) (H : Heap 𝓤) (A : Atoms 𝓤) (W : Given 𝓤 H A) (mem : Memory → SProp 𝓤) (run : Routine → Fun 𝓤) (𝓣 : Tables 𝓤 H)
-    (known-texts : Triple 𝓤 (𝓣 .C #unpacked·lines-texts) (LinesTexts 𝓤 H A mem run)) (known-usable : Triple 𝓤 (𝓣 .C #unpacked·is-usable) (IsUsable 𝓤 H A mem run)) (known-refusal : Triple 𝓤 (𝓣 .C #unpacked·refusal) (Refusal 𝓤 H A mem run))
-    (known-unpack : Triple 𝓤 (𝓣 .C #unpacked·unpack) (Unpack 𝓤 H A mem run)) (known-process : Triple 𝓤 (𝓣 .C #line-rows·process-unpacked) (Process 𝓤 H A mem run)) where
+    (known-texts : Triple 𝓤 (𝓣 .C #line-list·lines-texts) (LinesTexts 𝓤 H A mem run)) (known-usable : Triple 𝓤 (𝓣 .C #line-list·is-usable) (IsUsable 𝓤 H A mem run)) (known-refusal : Triple 𝓤 (𝓣 .C #line-list·refusal) (Refusal 𝓤 H A mem run))
+    (known-unpack : Triple 𝓤 (𝓣 .C #line-list·unpack) (Unpack 𝓤 H A mem run)) (known-process : Triple 𝓤 (𝓣 .C #line-rows·process-unpacked) (Process 𝓤 H A mem run)) where
   process-function-lines-walks : Walks 𝓤 H A process-function-lines.ended stayed (WpFn 𝓤 H (𝓣 .C) (𝓣 .Λ) code.function) (process-function-lines.clauses 𝓤 H A mem run)
   process-function-lines-walks = walked 𝓤 H A process-function-lines.ended stayed (process-function-lines.clauses 𝓤 H A mem run) (WpFn 𝓤 H (𝓣 .C) (𝓣 .Λ) code.function)
       (λ κs. (LL.vals TC.the-type TC′.the-laws, (slice-vals, (slice-vals, (slice-vals, (slice-vals, (slice-vals, (slice-vals, (slice-vals, (slice-vals, (slice-vals, (slice-vals, (slice-vals, (slice-vals, (slice-vals, tt)))))))))))))))
@@ -456,8 +456,8 @@ process-function-lines-spec 𝓤 H 𝓜 𝓖 𝓡 =
     entered 𝓤 H (tripleOf 𝓤 H (𝓖 .A) process-function-lines.signature (process-function-lines.spec 𝓤 H (𝓖 .A) (𝓜 .mem) (𝓡 .run)))
     (tables 𝓤 H 𝓜 𝓡 code.env .C) (tables 𝓤 H 𝓜 𝓡 code.env .Λ) #line-rows·process-function-lines code.function (code.unfolded 𝓤 H 𝓜 𝓡)
     (process-function-lines-meets 𝓤 H (𝓖 .A) (givenOf 𝓤 H 𝓜 𝓖) (𝓜 .mem) (𝓡 .run) (tablesOf 𝓤 H 𝓜 (tables 𝓤 H 𝓜 𝓡 code.env))
-    (cited 𝓤 H (LinesTexts 𝓤 H (𝓖 .A) (𝓜 .mem) (𝓡 .run)) 𝓜 𝓡 code.env #unpacked·lines-texts lines-texts-def.routine code.calls-unpacked·lines-texts (lines-texts-thm.met 𝓤 H 𝓜 𝓖 𝓡))
-    (cited 𝓤 H (IsUsable 𝓤 H (𝓖 .A) (𝓜 .mem) (𝓡 .run)) 𝓜 𝓡 code.env #unpacked·is-usable is-usable-def.routine code.calls-unpacked·is-usable (is-usable-thm.met 𝓤 H 𝓜 𝓖 𝓡))
-    (cited 𝓤 H (Refusal 𝓤 H (𝓖 .A) (𝓜 .mem) (𝓡 .run)) 𝓜 𝓡 code.env #unpacked·refusal refusal-def.routine code.calls-unpacked·refusal (refusal-thm.met 𝓤 H 𝓜 𝓖 𝓡))
-    (cited 𝓤 H (Unpack 𝓤 H (𝓖 .A) (𝓜 .mem) (𝓡 .run)) 𝓜 𝓡 code.env #unpacked·unpack unpack-def.routine code.calls-unpacked·unpack (unpack-thm.met 𝓤 H 𝓜 𝓖 𝓡))
+    (cited 𝓤 H (LinesTexts 𝓤 H (𝓖 .A) (𝓜 .mem) (𝓡 .run)) 𝓜 𝓡 code.env #line-list·lines-texts lines-texts-def.routine code.calls-line-list·lines-texts (lines-texts-thm.met 𝓤 H 𝓜 𝓖 𝓡))
+    (cited 𝓤 H (IsUsable 𝓤 H (𝓖 .A) (𝓜 .mem) (𝓡 .run)) 𝓜 𝓡 code.env #line-list·is-usable is-usable-def.routine code.calls-line-list·is-usable (is-usable-thm.met 𝓤 H 𝓜 𝓖 𝓡))
+    (cited 𝓤 H (Refusal 𝓤 H (𝓖 .A) (𝓜 .mem) (𝓡 .run)) 𝓜 𝓡 code.env #line-list·refusal refusal-def.routine code.calls-line-list·refusal (refusal-thm.met 𝓤 H 𝓜 𝓖 𝓡))
+    (cited 𝓤 H (Unpack 𝓤 H (𝓖 .A) (𝓜 .mem) (𝓡 .run)) 𝓜 𝓡 code.env #line-list·unpack unpack-def.routine code.calls-line-list·unpack (unpack-thm.met 𝓤 H 𝓜 𝓖 𝓡))
     (cited 𝓤 H (Process 𝓤 H (𝓖 .A) (𝓜 .mem) (𝓡 .run)) 𝓜 𝓡 code.env #line-rows·process-unpacked process-unpacked-def.routine code.calls-line-rows·process-unpacked (process-unpacked-thm.met 𝓤 H 𝓜 𝓖 𝓡)))

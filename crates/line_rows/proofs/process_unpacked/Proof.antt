@@ -35,8 +35,8 @@ process-symbolic-function-requires c κs = search needs
 zero64-requires : tie.Need-zero64-requires
 zero64-requires c κs = search needs
 
-zero32-requires : tie.Need-zero32-requires
-zero32-requires c κs = search needs
+zero-requires : tie.Need-zero-requires
+zero-requires c κs = search needs
 
 same-length : tie.Need-same-length
 same-length c = search needs
@@ -70,7 +70,7 @@ returns c =
     let a = c .before .before .before .before .before .before .before .before .before .before .before .before .before .before .before .before .before .before .before .before .before .before .before .before .before .before .before .before .before .before .before .before .before .before .before .before .before .before .before .before .before .before .before .before .before .args in
     let p = c .before .before .before .before .before .before .before .before .before .before .before .before .before .before .before .before .before .before .before .before .before .before .process-symbolic-function in
     unpacked-taken (a .refused) (a .lines) (a .converter) (memory (a .string-bytes .now) (a .strings .now) (a .files .now) (a .functions .now) (a .call-locations .now) (a .ranges .now)) (a .scratch .now) (a .unpacked64 .now) (a .unpacked32 .now) (a .functions64 .now) (a .functions32 .now) (a .text .now) (c .before .before .before .before .before .before .before .before .before .before .before .before .before .before .before .before .before .before .before .before .before .before .before .before .before .before .before .before .before .before .before .before .if1 .taken)
-    {o = called (p .result .code) (p .result .converter) (memory (p .last .1 .0) (p .last .1 .1 .0) (p .last .1 .1 .1 .0) (p .last .1 .1 .1 .1 .0) (p .last .1 .1 .1 .1 .1 .0) (p .last .1 .1 .1 .1 .1 .1 .0)) (p .last .1 .1 .1 .1 .1 .1 .1 .0)} (p .ensures) (c .before .before .before .before .before .before .zero64 .ensures) (c .before .before .zero32 .ensures)
+    {o = called (p .result .code) (p .result .converter) (memory (p .last .1 .0) (p .last .1 .1 .0) (p .last .1 .1 .1 .0) (p .last .1 .1 .1 .1 .0) (p .last .1 .1 .1 .1 .1 .0) (p .last .1 .1 .1 .1 .1 .1 .0)) (p .last .1 .1 .1 .1 .1 .1 .1 .0)} (p .ensures) (c .before .before .before .before .before .before .zero64 .ensures) (c .before .before .zero .ensures)
 
 returns-2 : tie.Need-returns-2
 returns-2 c =
@@ -89,7 +89,7 @@ process-unpacked-spec =
     slice-aggregate-process-symbolic-function-2
     process-symbolic-function-requires
     zero64-requires
-    zero32-requires
+    zero-requires
     same-length
     same-length-2
     same-length-3

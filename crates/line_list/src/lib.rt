@@ -1,14 +1,13 @@
 // Line rows that are one lent list: their texts, the words that they are unpacked to, and the number that a call with them is refused with before a word is unpacked.
 ghost use mathlib.Core.Path.{_≡_};
 ghost use mathlib.Core.Bool.{_&&_};
-ghost use lib.Dec.{leb};
 ghost use Rattle.rows.specs.Refusals.{lineTexts?};
-ghost use Rattle.tables.specs.Table.{capacityOf};
-ghost use Rattle.tables.specs.Strings.{textCapacityOf};
-ghost use Rattle.line_rows.specs.Lines.{flag, words64, words32, linesTexts?, putRow, putRows};
-ghost use Rattle.line_rows.specs.Numbers.{usableBy, numberOf};
+ghost use Rattle.line_list.specs.Lines.{words64, words32, linesTexts?, putRow, putRows};
+ghost use Rattle.line_list.specs.Numbers.{usableBy, numberOf};
 use memory::Converter;
+use memory::Lengths;
 use rows::LineRow;
+use slices::flag;
 
 // 14: the texts so far are in order, and so are this row's.
 fn and_texts(good: bool, text: &[u8], row: LineRow) -> bool
@@ -34,15 +33,6 @@ pub fn lines_texts(lines: &[LineRow], text: &[u8]) -> bool
     good
 }
 
-fn flag_word(b: bool) -> u32
-    ensures { λ r. ⌜ r ≡ flag b ⌝ }
-{
-    if b {
-        return 1;
-    }
-    0
-}
-
 // The three 64-bit words of row j, where there is room.
 fn put_words64(refused: u32, unpacked64: &mut [u64], j: usize, row: LineRow)
     ensures { λ _. ⌜ now (unpacked64 .exit) ≡ putRow refused 3 (now (unpacked64 .entry)) j (words64 row) ⌝ }
@@ -63,10 +53,10 @@ fn put_words32(refused: u32, unpacked32: &mut [u32], j: usize, row: LineRow)
 {
     if refused == 0 {
         if j < unpacked32.len() / 14 {
-            let has_size = flag_word(row.has_size);
-            let srcsrv_name = flag_word(row.srcsrv_name.present);
-            let srcsrv_dir = flag_word(row.srcsrv_dir.present);
-            let revision = flag_word(row.revision.present);
+            let has_size = flag(row.has_size);
+            let srcsrv_name = flag(row.srcsrv_name.present);
+            let srcsrv_dir = flag(row.srcsrv_dir.present);
+            let revision = flag(row.revision.present);
             let k = j * 14;
             unpacked32[k] = has_size;
             unpacked32[k + 1] = row.name.start;
@@ -106,27 +96,6 @@ pub fn unpack(refused: u32, lines: &[LineRow], unpacked64: &mut [u64], unpacked3
     }
 }
 
-// Whether a count is at most the number of rows that a table of that many words has room for.
-fn within(count: u32, words: usize) -> bool
-    ensures { λ r. ⌜ r ≡ leb count (capacityOf words) ⌝ }
-{
-    let rows = words / 8;
-    if rows < 16777216 {
-        return count as usize <= rows;
-    }
-    count <= 16777216
-}
-
-// The same of text bytes.
-fn text_within(count: u32, bytes: usize) -> bool
-    ensures { λ r. ⌜ r ≡ leb count (textCapacityOf bytes) ⌝ }
-{
-    if bytes < 268435456 {
-        return count as usize <= bytes;
-    }
-    count <= 268435456
-}
-
 // 19: whether the converter is open and no count is above the capacity of its table; of the tables the lengths are given.
 pub fn is_usable(
     c: Converter,
@@ -139,20 +108,17 @@ pub fn is_usable(
 ) -> bool
     ensures { λ r. ⌜ r ≡ usableBy c «string_bytes» strings files functions «call_locations» ranges ⌝ }
 {
-    if c.open {
-        if text_within(c.state.string_bytes, string_bytes) {
-            if within(c.state.strings, strings) {
-                if within(c.state.files, files) {
-                    if within(c.state.functions, functions) {
-                        if within(c.state.call_locations, call_locations) {
-                            return within(c.state.ranges, ranges);
-                        }
-                    }
-                }
-            }
-        }
-    }
-    false
+    memory::is_usable(
+        c,
+        Lengths {
+            string_bytes,
+            strings,
+            files,
+            functions,
+            call_locations,
+            ranges,
+        },
+    )
 }
 
 // The number that the call is refused with before a word is unpacked: 19, 13, 14, 15 or 16, in that order; 0 where it isn't.

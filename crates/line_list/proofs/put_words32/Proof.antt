@@ -1,23 +1,23 @@
 -- `put_words32` meets its contract.
 use native.Mathlib.Omega.{arith}
 use lib.ListN.{length-set}
-use Rattle.line_rows.specs.Lines.{words32}
-use Rattle.line_rows.proofs.Words.{stored32, row-out, row-refused}
+use Rattle.line_list.specs.Lines.{words32}
+use Rattle.line_list.proofs.Words.{stored32, row-out, row-refused}
 use borrow.Author.Needs.{needs}
-use Rattle.unpacked.proofs.put_words32.Statement.{statement}
-use Rattle.unpacked.proofs.put_words32.Tie as tie
+use Rattle.line_list.proofs.put_words32.Statement.{statement}
+use Rattle.line_list.proofs.put_words32.Tie as tie
 
-flag-word-requires : tie.Need-flag-word-requires
-flag-word-requires c κs = search needs
+flag-requires : tie.Need-flag-requires
+flag-requires c κs = search needs
 
-flag-word-requires-2 : tie.Need-flag-word-requires-2
-flag-word-requires-2 c κs = search needs
+flag-requires-2 : tie.Need-flag-requires-2
+flag-requires-2 c κs = search needs
 
-flag-word-requires-3 : tie.Need-flag-word-requires-3
-flag-word-requires-3 c κs = search needs
+flag-requires-3 : tie.Need-flag-requires-3
+flag-requires-3 c κs = search needs
 
-flag-word-requires-4 : tie.Need-flag-word-requires-4
-flag-word-requires-4 c κs = search needs
+flag-requires-4 : tie.Need-flag-requires-4
+flag-requires-4 c κs = search needs
 
 mul-k : tie.Need-mul-k
 mul-k c = search needs
@@ -152,7 +152,7 @@ returns : tie.Need-returns
 returns c =
     let a = c .before .before .before .before .before .before .before .args in
     stored32 (a .refused) (a .unpacked32 .now) (a .j) (a .row) (c .before .before .before .before .before .if1 .taken) (c .before .before .before .before .if2 .taken)
-    (c .before .before .before .flag-word .ensures) (c .before .before .flag-word2 .ensures) (c .before .flag-word3 .ensures) (c .flag-word4 .ensures)
+    (c .before .before .before .flag .ensures) (c .before .before .flag2 .ensures) (c .before .flag3 .ensures) (c .flag4 .ensures)
 
 returns-2 : tie.Need-returns-2
 returns-2 c =
@@ -168,10 +168,10 @@ pub put-words32-spec : {M : Type 1} → statement M
 put-words32-spec =
     tie.close
     (tie.spec
-    flag-word-requires
-    flag-word-requires-2
-    flag-word-requires-3
-    flag-word-requires-4
+    flag-requires
+    flag-requires-2
+    flag-requires-3
+    flag-requires-4
     mul-k
     mul-unpacked32
     slice-write-unpacked32

@@ -1,11 +1,11 @@
 -- `put_words64` meets its contract.
 use native.Mathlib.Omega.{arith}
 use lib.ListN.{length-set}
-use Rattle.line_rows.specs.Lines.{words64}
-use Rattle.line_rows.proofs.Words.{stored64, row-out, row-refused}
+use Rattle.line_list.specs.Lines.{words64}
+use Rattle.line_list.proofs.Words.{stored64, row-out, row-refused}
 use borrow.Author.Needs.{needs}
-use Rattle.unpacked.proofs.put_words64.Statement.{statement}
-use Rattle.unpacked.proofs.put_words64.Tie as tie
+use Rattle.line_list.proofs.put_words64.Statement.{statement}
+use Rattle.line_list.proofs.put_words64.Tie as tie
 
 mul-k : tie.Need-mul-k
 mul-k c = search needs

@@ -4,18 +4,12 @@ use mathlib.Core.List.{List}
 use Prim.Native.Nat.{ℕ, _/_}
 use lib.Dec.{eqb, leb}
 use Rattle.rows.specs.Refusals.{refusalWith}
-use Rattle.tables.specs.Table.{capacityOf}
-use Rattle.tables.specs.Strings.{textCapacityOf}
+use Rattle.memory.specs.Record.{usableIn}
 use Rattle.memory.specs.declared.Converter.{Converter}
 
 -- 19, of tables of these lengths
 abbrev pub usableBy : Converter → ℕ → ℕ → ℕ → ℕ → ℕ → ℕ → Bool
-usableBy c x i f g k r =
-    c .«open»
-    && (leb (c .state .«string_bytes») (textCapacityOf x)
-    && (leb (c .state .strings) (capacityOf i)
-    && (leb (c .state .files) (capacityOf f)
-    && (leb (c .state .functions) (capacityOf g) && (leb (c .state .«call_locations») (capacityOf k) && leb (c .state .ranges) (capacityOf r))))))
+usableBy c x i f g k r = usableIn c (record { «string_bytes» = x; strings = i; files = f; functions = g; «call_locations» = k; ranges = r })
 
 -- the number before 17, where the tables can be used or not, of n line rows whose texts are in order or not, and of lent memory of these lengths
 unfoldable pub numberOf : Bool → ℕ → ℕ → ℕ → List ℕ → List ℕ → ℕ → Bool → List ℕ → ℕ

@@ -10,7 +10,7 @@ use lib.Seq.{drop-cons}
 use Rattle.rows.specs.Refusals.{each, lineTexts?}
 use Rattle.rows.specs.declared.LineRow.{LineRow}
 use Rattle.rows.proofs.Laws.{each-none}
-use Rattle.line_rows.specs.Lines.{noLine, words64, words32, linesTexts?, putRow, putRows}
+use Rattle.line_list.specs.Lines.{noLine, words64, words32, linesTexts?, putRow, putRows}
 
 -- ── The texts: of the first j rows they are in order, or not ──
 

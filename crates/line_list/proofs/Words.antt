@@ -5,10 +5,11 @@ use mathlib.Core.List.{List, [], _∷_}
 use native.Mathlib.Omega.{arith}
 use native.Mathlib.Numerals.{towards-suc}
 use lib.ListN.{length, set}
+use Rattle.slices.specs.Words.{flagOf}
 use lib.Seq.{sets}
 use borrow.Author.Tests.{lt-ltb, le-ltb, eq-eqb, ne-eqb}
 use Rattle.rows.specs.declared.LineRow.{LineRow}
-use Rattle.line_rows.specs.Lines.{flag, words64, words32, putRow}
+use Rattle.line_list.specs.Lines.{words64, words32, putRow}
 
 module _ (refused w : ℕ) (t : List ℕ) (j : ℕ) (vs : List ℕ) where
   row-in : refused ≡ 0 → j < length t / w → sets t (j * w) vs ≡ putRow refused w t j vs
@@ -49,13 +50,13 @@ module _ (refused : ℕ) (t : List ℕ) (j : ℕ) (q : LineRow) (e : refused ≡
   pub stored64 : j < length t / 3 → set (set (set t (j * 3) (q .address)) (j * 3 + 1) (q .size)) (j * 3 + 2) (q .number) ≡ putRow refused 3 t j (words64 q)
   stored64 h = three t (j * 3) (q .address) (q .size) (q .number) ∙ row-in refused 3 t j (words64 q) e h
 
-  pub stored32 : j < length t / 14 → {s n d r : ℕ} → s ≡ flag (q .«has_size») → n ≡ flag (q .«srcsrv_name» .present) → d ≡ flag (q .«srcsrv_dir» .present) → r ≡ flag (q .revision .present)
+  pub stored32 : j < length t / 14 → {s n d r : ℕ} → s ≡ flagOf (q .«has_size») → n ≡ flagOf (q .«srcsrv_name» .present) → d ≡ flagOf (q .«srcsrv_dir» .present) → r ≡ flagOf (q .revision .present)
       → set (set (set (set (set (set (set (set (set (set (set (set (set (set t (j * 14) s) (j * 14 + 1) (q .name .start)) (j * 14 + 2) (q .name .len)) (j * 14 + 3) (q .directory .start)) (j * 14 + 4) (q .directory .len))
       (j * 14 + 5) n) (j * 14 + 6) (q .«srcsrv_name» .part .start)) (j * 14 + 7) (q .«srcsrv_name» .part .len)) (j * 14 + 8) d) (j * 14 + 9) (q .«srcsrv_dir» .part .start)) (j * 14 + 10) (q .«srcsrv_dir» .part .len))
       (j * 14 + 11) r) (j * 14 + 12) (q .revision .part .start)) (j * 14 + 13) (q .revision .part .len)
       ≡ putRow refused 14 t j (words32 q)
   stored32 h {s} {n} {d} {r} a b c f =
       rw (a, b, c, f)
-      (fourteen t (j * 14) (flag (q .«has_size»)) (q .name .start) (q .name .len) (q .directory .start) (q .directory .len) (flag (q .«srcsrv_name» .present)) (q .«srcsrv_name» .part .start)
-      (q .«srcsrv_name» .part .len) (flag (q .«srcsrv_dir» .present)) (q .«srcsrv_dir» .part .start) (q .«srcsrv_dir» .part .len) (flag (q .revision .present)) (q .revision .part .start) (q .revision .part .len)
+      (fourteen t (j * 14) (flagOf (q .«has_size»)) (q .name .start) (q .name .len) (q .directory .start) (q .directory .len) (flagOf (q .«srcsrv_name» .present)) (q .«srcsrv_name» .part .start)
+      (q .«srcsrv_name» .part .len) (flagOf (q .«srcsrv_dir» .present)) (q .«srcsrv_dir» .part .start) (q .«srcsrv_dir» .part .len) (flagOf (q .revision .present)) (q .revision .part .start) (q .revision .part .len)
       ∙ row-in refused 14 t j (words32 q) e h)

@@ -1,20 +1,19 @@
 -- The exported calls of the converter and the writer: each reads the record, does what the call of `writer` or `serialize` does (writer's Calls, serialize's File), and stores the record where it
 -- was accepted or closed. All for any content and any length.
 use Prim.Native.Nat.{ℕ}
-use mathlib.Core.Bool.{cond, _||_}
-use mathlib.Core.List.{List, [], _∷_}
-use lib.Dec.{eqb, ltb}
+use mathlib.Core.Bool.{cond}
+use mathlib.Core.List.{List, []}
+use lib.Dec.{ltb}
 use lib.ListN.{length}
 use Rattle.slices.specs.Bytes.{bytesAt}
 use Rattle.rows.specs.Columns.{Columns}
 use Rattle.rows.specs.declared.OptionalPart.{OptionalPart}
 use Rattle.memory.specs.Memory.{Memory}
-use Rattle.memory.specs.declared.Converter.{Converter}
 use Rattle.writer.specs.Calls.{Called, treeOf, symbolOf}
 use Rattle.memory.specs.Record.{beginOf}
 use Rattle.line_rows.specs.Calls.{LinesCalled, linesOf}
-use Rattle.serialize.specs.File.{Wrote, serializeOf}
-use Rattle.c_words.specs.Words.{stored}
+use Rattle.serialize.specs.File.{serializeOf}
+use Rattle.c_words.specs.Stored.{stored}
 use Rattle.slices.specs.Words.{yes}
 use Rattle.c_words.specs.Record.{converterOf, wordsOf, kept, lenWords}
 

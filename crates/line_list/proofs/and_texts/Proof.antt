@@ -1,8 +1,8 @@
 -- `and_texts` meets its contract.
 use borrow.Author.Needs.{needs}
 use Rattle.rows.proofs.Laws.{and-stop, and-then}
-use Rattle.unpacked.proofs.and_texts.Statement.{statement}
-use Rattle.unpacked.proofs.and_texts.Tie as tie
+use Rattle.line_list.proofs.and_texts.Statement.{statement}
+use Rattle.line_list.proofs.and_texts.Tie as tie
 
 line-texts-requires : tie.Need-line-texts-requires
 line-texts-requires c κs = search needs
