@@ -5,7 +5,11 @@ pub mod Fours
 pub mod Items
 pub mod Rows
 pub mod Steps
-pub mod Undo
+pub mod UndoRow
+pub mod UndoRows
+pub mod UndoRanges
+pub mod UndoTexts
+pub mod JournalCount
 pub mod Sets
 pub mod Maps
 pub mod Sections

@@ -198,7 +198,7 @@ get-is t n rows s H = go (lookupOf 1 t n (startRow s)) (looked 1 t n rows (start
     go i (none e m) = rw (le-ltb i n (omega arith)) (sym (loc-none rows s (startRow s) (no-start t n rows (startRow s) H m)))
 
 -- ---- any list of puts
-all-length : (ps : List Pair) (rows : List Row) → length rows ≤ length (putAllRows rows ps)
+pub all-length : (ps : List Pair) (rows : List Row) → length rows ≤ length (putAllRows rows ps)
 unfolding putAllRows
 all-length [] rows = omega arith
 all-length (p ∷ ps) rows = let a = put-length rows (pairRow p) in let b = all-length ps (putRows rows (pairRow p)) in omega arith

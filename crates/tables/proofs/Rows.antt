@@ -69,7 +69,7 @@ pub sets-high : (vs t : List ℕ) (k j : ℕ) → k + length vs ≤ j → getD (
 sets-high [] t k j h = refl
 sets-high (v ∷ vs) t k j h = sets-high vs (set t k v) (suc k) j (omega arith) ∙ getD-set-other t k j v 0 (omega arith)
 
-sets-at : (vs t : List ℕ) (k : ℕ) → k + length vs ≤ length t → wordsAt (sets t k vs) k (length vs) ≡ vs
+pub sets-at : (vs t : List ℕ) (k : ℕ) → k + length vs ≤ length t → wordsAt (sets t k vs) k (length vs) ≡ vs
 sets-at [] t k h = refl
 sets-at (v ∷ vs) t k h =
     ap₂ (λ (x : ℕ) (l : List ℕ). x ∷ l)

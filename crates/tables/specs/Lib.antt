@@ -3,3 +3,4 @@ pub mod Ranges
 pub mod Strings
 pub mod Plain
 pub mod PlainTexts
+pub mod Undo

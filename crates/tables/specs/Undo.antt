@@ -1,0 +1,146 @@
+-- Taking back what was added since a mark, for any content and any counts. A new row goes to the head of its chain and nothing else moves, so the newest rows can be taken
+-- off again in reverse order; a journal says which rows of the ranges were added and what the others held. Everything above the counts is zero, at a beginning and always.
+use Prim.Native.Nat.{ℕ, zero, suc, _+_, _*_, _-_, _<_, _≤_}
+use mathlib.Core.Path.{_≡_}
+use mathlib.Core.List.{List, [], _∷_}
+use mathlib.Core.Bool.{Bool, cond}
+use lib.Dec.{ltb, eqb}
+use lib.ListN.{length, getD, set, replicate}
+use lib.Seq.{sets}
+use Rattle.tables.specs.Table.{wordsAt, rowWords, rowOf, rowAt, linkAt, setRow, capacityOf, bucketOf, hashOf, keyOf, overOf, lookupOf, Left, left}
+use Rattle.tables.specs.Ranges.{putOf}
+use Rattle.tables.specs.Plain.{putRows, wasIn, Pair, pairRow}
+use Rattle.tables.specs.declared.Row.{Row}
+use Rattle.tables.specs.declared.ranges.Was.{Was}
+use Rattle.tables.specs.declared.ranges.Was.the-variants.{Vacant, Same, Changed}
+use Rattle.tables.specs.declared.ranges.Change.{Change}
+use Rattle.tables.specs.declared.journal.Noted.{Noted}
+
+-- ── Rows ───────────────────────────────────────────────────────────────────────────────────────────────────────────────
+
+-- everything above the first n rows is zero, up to the heads
+pub record Clear (t : List ℕ) (n : ℕ) : Type 0 where
+  pub zeros : (j : ℕ) → n * 7 ≤ j → j < capacityOf (length t) * 7 → getD t j 0 ≡ 0
+
+-- the hash by which a row was put into its bucket: its fourth word where the width is 4 (texts), else that of its key (1: ranges; 6: index sets)
+unfoldable pub rowHashOf : ℕ → Row → ℕ
+rowHashOf w r = cond (eqb w 4) (r .d) (hashOf (keyOf w r))
+
+-- row n is taken back from bucket h: its link is the head again, and its seven words are zero
+unfoldable pub undoOf : ℕ → List ℕ → ℕ → ℕ → List ℕ
+undoOf cap t n h = sets (set t (cap * 7 + h) (linkAt t n)) (n * 7) (replicate 7 0)
+
+-- row n is taken off, where there is room for one
+unfoldable pub offOf : ℕ → List ℕ → ℕ → List ℕ
+offOf w t n = cond (ltb n (capacityOf (length t))) (undoOf (capacityOf (length t)) t n (bucketOf (rowHashOf w (rowAt t n)) (capacityOf (length t)))) t
+
+-- of n rows the newest are taken off, one by one, until `to` are left
+unfoldable pub undoneTo : ℕ → ℕ → List ℕ → ℕ → List ℕ
+undoneTo w to t zero = t
+undoneTo w to t (suc n) = cond (ltb n to) t (undoneTo w to (offOf w t n) n)
+
+-- ── Texts ──────────────────────────────────────────────────────────────────────────────────────────────────────────────
+
+-- every byte from n on is zero
+pub record ClearText (text : List ℕ) (n : ℕ) : Type 0 where
+  pub zeros : (j : ℕ) → n ≤ j → getD text j 0 ≡ 0
+
+-- of n bytes those from `to` on are zero again
+unfoldable pub cutTo : ℕ → List ℕ → ℕ → List ℕ
+cutTo to text n = sets text to (replicate (n - to) 0)
+
+-- ── The journal of the ranges ──────────────────────────────────────────────────────────────────────────────────────────
+
+abbrev pub zeroRow : Row
+zeroRow = record { a = 0; b = 0; c = 0; d = 0; e = 0; f = 0 }
+
+-- every word from entry m on is zero
+pub record ClearJournal (j : List ℕ) (m : ℕ) : Type 0 where
+  pub zeros : (p : ℕ) → m * 8 ≤ p → p < capacityOf (length j) * 8 → getD j p 0 ≡ 0
+
+-- entry k, eight words: the number of a row, 1 where its start was vacant and 2 where its location was changed, and the row as it was
+unfoldable pub setEntry : List ℕ → ℕ → ℕ → ℕ → Row → List ℕ
+setEntry j k i v old = sets j (k * 8) (i ∷ v ∷ rowWords old)
+
+-- one more entry after m, where there is room; else the count is above the capacity, and there it stays
+unfoldable pub noteOf : List ℕ → ℕ → ℕ → ℕ → Row → Left ℕ
+noteOf j m i v old = cond (ltb m (capacityOf (length j))) (left (m + 1) (setEntry j m i v old)) (left (overOf m (capacityOf (length j))) j)
+
+-- what a put to n rows did: row n was added, or row i changed, or nothing
+unfoldable pub noteWas : List ℕ → ℕ → Was → ℕ → ℕ → Row → Left ℕ
+noteWas j m Vacant n i old = noteOf j m n 1 zeroRow
+noteWas j m Same n i old = left m j
+noteWas j m Changed n i old = noteOf j m i 2 old
+
+-- what putting with a journal answers, and what it leaves
+pub record Journaled : Type 0 where
+  pub got : Noted
+  pub table : List ℕ
+  pub journal : List ℕ
+
+abbrev pub journaled : Noted → List ℕ → List ℕ → Journaled
+journaled g t j = record { got = g; table = t; journal = j }
+
+abbrev pub noted : Change → ℕ → Noted
+noted g m = record { change = g; noted = m }
+
+-- the entry that putting q makes; the row that is read is the one that the put finds
+unfoldable pub entryOf : List ℕ → ℕ → List ℕ → ℕ → Row → Left ℕ
+entryOf t n j m q = noteWas j m (putOf t n q .got .was) n (lookupOf 1 t n q) (rowAt t (lookupOf 1 t n q))
+
+-- the location at q's start becomes q's, and the journal says what was there
+unfoldable pub putNotedOf : List ℕ → ℕ → List ℕ → ℕ → Row → Journaled
+putNotedOf t n j m q = journaled (noted (putOf t n q .got) (entryOf t n j m q .got)) (putOf t n q .table) (entryOf t n j m q .table)
+
+-- the same, where any mark is set; without one the journal stays as it is
+unfoldable pub putMarkedOf : Bool → List ℕ → ℕ → List ℕ → ℕ → Row → Journaled
+putMarkedOf on t n j m q = cond on (putNotedOf t n j m q) (journaled (noted (putOf t n q .got) m) (putOf t n q .table) j)
+
+-- any list of puts with a journal, each on what the one before left; n and m are the counts
+pub record Ranges : Type 0 where
+  pub table : List ℕ
+  pub count : ℕ
+  pub journal : List ℕ
+  pub entries : ℕ
+
+abbrev pub ranges : List ℕ → ℕ → List ℕ → ℕ → Ranges
+ranges t n j m = record { table = t; count = n; journal = j; entries = m }
+
+abbrev pub rangesOf : Journaled → Ranges
+rangesOf x = ranges (x .table) (x .got .change .count) (x .journal) (x .got .noted)
+
+unfoldable pub putNotedAll : Ranges → List Pair → Ranges
+putNotedAll x [] = x
+putNotedAll x (p ∷ ps) = putNotedAll (rangesOf (putNotedOf (x .table) (x .count) (x .journal) (x .entries) (pairRow p))) ps
+
+-- how many of the puts add a start or change its location, by the plain map
+abbrev pub changed : Was → ℕ
+changed Vacant = 1
+changed Same = 0
+changed Changed = 1
+
+unfoldable pub changesIn : List Row → List Pair → ℕ
+changesIn rows [] = 0
+changesIn rows (p ∷ ps) = changed (wasIn rows (pairRow p)) + changesIn (putRows rows (pairRow p)) ps
+
+-- ── Taking entries back ────────────────────────────────────────────────────────────────────────────────────────────────
+
+-- row i is taken off where it was added, and is again what it was where it was changed
+unfoldable pub undoEntry : List ℕ → ℕ → ℕ → Row → List ℕ
+undoEntry t i v old = cond (eqb v 1) (offOf 1 t i) (cond (eqb v 2) (setRow t i old) t)
+
+-- the ranges with entry k taken back
+unfoldable pub undoAt : List ℕ → List ℕ → ℕ → List ℕ
+undoAt t j k = undoEntry t (getD j (k * 8) 0) (getD j (k * 8 + 1) 0) (rowOf (wordsAt j (k * 8 + 2) 6))
+
+pub record Undone : Type 0 where
+  pub table : List ℕ
+  pub journal : List ℕ
+
+abbrev pub undone : List ℕ → List ℕ → Undone
+undone t j = record { table = t; journal = j }
+
+-- of m entries the newest are taken back, one by one, until `to` are left; each becomes zero
+unfoldable pub undoneRanges : ℕ → List ℕ → List ℕ → ℕ → Undone
+undoneRanges to t j zero = undone t j
+undoneRanges to t j (suc m) = cond (ltb m to) (undone t j) (undoneRanges to (undoAt t j m) (setEntry j m 0 0 zeroRow) m)
