@@ -13,8 +13,8 @@ use Rattle.model.specs.Counts.{fits? as plain-fits?}
 use Rattle.model.proofs.Chains.{false-true}
 use Rattle.model.proofs.Grown.{room}
 use Rattle.model.proofs.Encoded.{AllowedGiven, encoded-call}
-use Rattle.tables.proofs.Sets as sets
-use Rattle.tables.proofs.TextTables as text-tables
+use Rattle.table_laws.proofs.Sets as sets
+use Rattle.table_laws.proofs.TextTables as text-tables
 use Rattle.steps.specs.Words.{Memory, Words, fits?, over-words}
 use Rattle.steps.proofs.Lengths.{Lens, lens, lens-kept}
 use Rattle.steps.proofs.Loops.{op-keeps}

@@ -13,11 +13,10 @@ use Rattle.raw.specs.Rows.{versionInfoAt, headerAt, HeaderFits, fileAt, functio
 use Rattle.raw.specs.Head.{version-info}
 use Rattle.raw.proofs.Bytes.{row-stands}
 use Rattle.raw.proofs.Rows.{version-info-back, header-back, file-back, function-back, location-back, range-back}
-use Rattle.tables.specs.Table.{rowAt}
+use Rattle.tables.specs.Table.{rowAt, rowsOf}
 use Rattle.tables.specs.Ranges.{locationOf}
-use Rattle.tables.specs.Plain.{rowsOf}
 use Rattle.tables.specs.declared.Row.{Row}
-use Rattle.tables.proofs.Rows.{rows-length, rows-getD}
+use Rattle.table_laws.proofs.Rows.{rows-length, rows-getD}
 use Rattle.steps.specs.Words.{Memory}
 use Rattle.steps.specs.declared.Converter.{Converter}
 use Rattle.serialize.specs.Sections.{file-of, function-of, call-of, file-row, function-row, call-row, entry-location, location-row, start-row}

@@ -13,10 +13,9 @@ use Rattle.raw.specs.Rows.{rangeBytes}
 use Rattle.raw.specs.Head.{padding}
 use Rattle.raw.proofs.Bytes.{sets-join, length-table, length-words}
 use Rattle.raw.proofs.Rows.{length-file, length-function, length-location, length-range, all, next, stored}
-use Rattle.tables.specs.Table.{rowAt}
-use Rattle.tables.specs.Plain.{rowsOf}
+use Rattle.tables.specs.Table.{rowAt, rowsOf}
 use Rattle.tables.specs.declared.Row.{Row}
-use Rattle.tables.proofs.Rows.{rows-more, rows-length}
+use Rattle.table_laws.proofs.Rows.{rows-more, rows-length}
 use Rattle.serialize.specs.Sections.{file-of, function-of, call-of, file-row, function-row, call-row, entries, entry-row, entries-at, entry-location, location-row, start-row}
 
 -- ── Sizes ──

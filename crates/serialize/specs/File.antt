@@ -10,7 +10,7 @@ use Rattle.raw.specs.Bytes.{tableBytes}
 use Rattle.raw.specs.Rows.{versionInfoBytes, headerBytes}
 use Rattle.raw.specs.Head.{version-info, header, padding}
 use Rattle.raw.specs.declared.Header.{Header}
-use Rattle.tables.specs.Plain.{rowsOf}
+use Rattle.tables.specs.Table.{rowsOf}
 use Rattle.steps.specs.Words.{Memory, fits?}
 use Rattle.steps.specs.declared.LastAddr.{LastAddr}
 use Rattle.steps.specs.declared.State.{State}

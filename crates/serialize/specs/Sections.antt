@@ -9,9 +9,8 @@ use Rattle.raw.specs.Rows.{fileBytes, functionBytes, locationBytes, rangeBytes,
 use Rattle.raw.specs.declared.File.{File}
 use Rattle.raw.specs.declared.Function.{Function}
 use Rattle.raw.specs.declared.SourceLocation.{SourceLocation}
-use Rattle.tables.specs.Table.{rowAt}
+use Rattle.tables.specs.Table.{rowAt, rowsOf}
 use Rattle.tables.specs.Ranges.{getOf, locationOf}
-use Rattle.tables.specs.Plain.{rowsOf}
 use Rattle.tables.specs.declared.Row.{Row}
 use Rattle.tables.specs.declared.ranges.Found.{Found}
 use Rattle.tables.specs.declared.ranges.Found.the-variants.{Absent, At}

@@ -16,7 +16,7 @@ ghost use lib.ListN.{length, take};
 ghost use lib.Seq.{sets};
 ghost use Rattle.model.specs.Basics.{sort};
 ghost use Rattle.raw.specs.Bytes.{Words, tableBytes};
-ghost use Rattle.tables.specs.Plain.{rowsOf};
+ghost use Rattle.tables.specs.Table.{rowsOf};
 ghost use Rattle.sorting.specs.Pairs.{pairWords};
 ghost use Rattle.serialize.specs.Sections.{file-row, function-row, call-row, entries, entry-row, entries-at, entry-location, range-sections, vacant-end, sentinel};
 ghost use Rattle.raw.specs.Rows.{versionInfoBytes, headerBytes};

@@ -1,7 +1,6 @@
--- Taking back what was added since a mark, for any content and any counts. A new row goes to the head of its chain and nothing else moves, so the newest rows can be taken
--- off again in reverse order; a journal says which rows of the ranges were added and what the others held. Everything above the counts is zero, at a beginning and always.
-use Prim.Native.Nat.{ℕ, zero, suc, _+_, _*_, _-_, _<_, _≤_}
-use mathlib.Core.Path.{_≡_}
+-- Taking back what was added since a mark, for any content and any counts. A new row goes to the head of its chain and nothing else moves, so the newest rows can be
+-- taken off again in reverse order; a journal says which rows of the ranges were added and what the others held.
+use Prim.Native.Nat.{ℕ, zero, suc, _+_, _*_, _-_}
 use mathlib.Core.List.{List, [], _∷_}
 use mathlib.Core.Bool.{Bool, cond}
 use lib.Dec.{ltb, eqb}
@@ -9,7 +8,6 @@ use lib.ListN.{length, getD, set, replicate}
 use lib.Seq.{sets}
 use Rattle.tables.specs.Table.{wordsAt, rowWords, rowOf, rowAt, linkAt, setRow, capacityOf, bucketOf, hashOf, keyOf, overOf, lookupOf, Left, left}
 use Rattle.tables.specs.Ranges.{putOf}
-use Rattle.tables.specs.Plain.{putRows, wasIn, Pair, pairRow}
 use Rattle.tables.specs.declared.Row.{Row}
 use Rattle.tables.specs.declared.ranges.Was.{Was}
 use Rattle.tables.specs.declared.ranges.Was.the-variants.{Vacant, Same, Changed}
@@ -17,10 +15,6 @@ use Rattle.tables.specs.declared.ranges.Change.{Change}
 use Rattle.tables.specs.declared.journal.Noted.{Noted}
 
 -- ── Rows ───────────────────────────────────────────────────────────────────────────────────────────────────────────────
-
--- everything above the first n rows is zero, up to the heads
-pub record Clear (t : List ℕ) (n : ℕ) : Type 0 where
-  pub zeros : (j : ℕ) → n * 7 ≤ j → j < capacityOf (length t) * 7 → getD t j 0 ≡ 0
 
 -- the hash by which a row was put into its bucket: its fourth word where the width is 4 (texts), else that of its key (1: ranges; 6: index sets)
 unfoldable pub rowHashOf : ℕ → Row → ℕ
@@ -41,10 +35,6 @@ undoneTo w to t (suc n) = cond (ltb n to) t (undoneTo w to (offOf w t n) n)
 
 -- ── Texts ──────────────────────────────────────────────────────────────────────────────────────────────────────────────
 
--- every byte from n on is zero
-pub record ClearText (text : List ℕ) (n : ℕ) : Type 0 where
-  pub zeros : (j : ℕ) → n ≤ j → getD text j 0 ≡ 0
-
 -- of n bytes those from `to` on are zero again
 unfoldable pub cutTo : ℕ → List ℕ → ℕ → List ℕ
 cutTo to text n = sets text to (replicate (n - to) 0)
@@ -53,10 +43,6 @@ cutTo to text n = sets text to (replicate (n - to) 0)
 
 abbrev pub zeroRow : Row
 zeroRow = record { a = 0; b = 0; c = 0; d = 0; e = 0; f = 0 }
-
--- every word from entry m on is zero
-pub record ClearJournal (j : List ℕ) (m : ℕ) : Type 0 where
-  pub zeros : (p : ℕ) → m * 8 ≤ p → p < capacityOf (length j) * 8 → getD j p 0 ≡ 0
 
 -- entry k, eight words: the number of a row, 1 where its start was vacant and 2 where its location was changed, and the row as it was
 unfoldable pub setEntry : List ℕ → ℕ → ℕ → ℕ → Row → List ℕ
@@ -95,33 +81,6 @@ putNotedOf t n j m q = journaled (noted (putOf t n q .got) (entryOf t n j m q .g
 -- the same, where any mark is set; without one the journal stays as it is
 unfoldable pub putMarkedOf : Bool → List ℕ → ℕ → List ℕ → ℕ → Row → Journaled
 putMarkedOf on t n j m q = cond on (putNotedOf t n j m q) (journaled (noted (putOf t n q .got) m) (putOf t n q .table) j)
-
--- any list of puts with a journal, each on what the one before left; n and m are the counts
-pub record Ranges : Type 0 where
-  pub table : List ℕ
-  pub count : ℕ
-  pub journal : List ℕ
-  pub entries : ℕ
-
-abbrev pub ranges : List ℕ → ℕ → List ℕ → ℕ → Ranges
-ranges t n j m = record { table = t; count = n; journal = j; entries = m }
-
-abbrev pub rangesOf : Journaled → Ranges
-rangesOf x = ranges (x .table) (x .got .change .count) (x .journal) (x .got .noted)
-
-unfoldable pub putNotedAll : Ranges → List Pair → Ranges
-putNotedAll x [] = x
-putNotedAll x (p ∷ ps) = putNotedAll (rangesOf (putNotedOf (x .table) (x .count) (x .journal) (x .entries) (pairRow p))) ps
-
--- how many of the puts add a start or change its location, by the plain map
-abbrev pub changed : Was → ℕ
-changed Vacant = 1
-changed Same = 0
-changed Changed = 1
-
-unfoldable pub changesIn : List Row → List Pair → ℕ
-changesIn rows [] = 0
-changesIn rows (p ∷ ps) = changed (wasIn rows (pairRow p)) + changesIn (putRows rows (pairRow p)) ps
 
 -- ── Taking entries back ────────────────────────────────────────────────────────────────────────────────────────────────
 

@@ -6,7 +6,7 @@ use lib.ListN.{length}
 use lib.Seq.{sets, length-sets}
 use borrow.Author.Needs.{needs}
 use Rattle.raw.specs.Bytes.{tableBytes}
-use Rattle.tables.specs.Plain.{rowsFrom, rowsOf}
+use Rattle.tables.specs.Table.{rowsFrom, rowsOf}
 use Rattle.serialize.specs.Sections.{file-row}
 use Rattle.serialize.proofs.Rows.{length-file-row, rows-turn}
 use Rattle.serialize.proofs.write_files.Statement.{statement}

@@ -3,7 +3,7 @@ use mathlib.Core.Path.{_≡_, refl, sym, _∙_}
 use native.Mathlib.Omega.{arith}
 use lib.ListN.{length}
 use Rattle.tables.specs.Undo.{undoneRanges}
-use Rattle.tables.proofs.UndoRanges.{ranges-done, ranges-turn}
+use Rattle.tables.proofs.Undone.{ranges-done, ranges-turn}
 use borrow.Author.Needs.{needs}
 use Rattle.tables.proofs.journal.undo_ranges.Statement.{statement}
 use Rattle.tables.proofs.journal.undo_ranges.Tie as tie

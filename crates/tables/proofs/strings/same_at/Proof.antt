@@ -9,7 +9,7 @@ use lib.Dec.{eqb}
 use borrow.Author.Needs.{needs}
 use borrow.Author.Tests.{ne-eqb}
 use Rattle.tables.specs.Table.{sameWords}
-use Rattle.tables.proofs.Rows.{words-short}
+use Rattle.tables.proofs.Words.{words-short}
 use Rattle.tables.proofs.strings.same_at.Statement.{statement}
 use Rattle.tables.proofs.strings.same_at.Tie as tie
 

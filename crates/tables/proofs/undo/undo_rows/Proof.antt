@@ -3,7 +3,7 @@ use mathlib.Core.Path.{_≡_, refl, sym, _∙_}
 use native.Mathlib.Omega.{arith}
 use lib.ListN.{length}
 use Rattle.tables.specs.Undo.{undoneTo}
-use Rattle.tables.proofs.UndoRows.{undo-done, undo-turn}
+use Rattle.tables.proofs.Undone.{undo-done, undo-turn}
 use borrow.Author.Needs.{needs}
 use Rattle.tables.proofs.undo.undo_rows.Statement.{statement}
 use Rattle.tables.proofs.undo.undo_rows.Tie as tie

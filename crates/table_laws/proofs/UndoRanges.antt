@@ -9,35 +9,22 @@ use lib.Dec.{eqb, leb, ltb}
 use lib.ListN.{length, getD, set, drop, replicate, length-set}
 use lib.Seq.{sets, length-sets, getD-set-same, getD-set-other, ext-getD}
 use borrow.Author.Tests.{eqb-true, eqb-false, leb-true, leb-false, lt-ltb, le-ltb, ltb-true, ltb-false}
 use Rattle.tables.specs.Table.{wordsAt, rowWords, rowOf, rowAt, setRow, headAt, bucketIn, sameRow, capacityOf, newestOf, lookupOf, appendOf, overOf, insertAt, insertOf, left, inserted, Left}
 use Rattle.tables.specs.Ranges.{putOf, putAt, replaceOf, change}
-use Rattle.tables.specs.Plain.{Pair, pairRow}
-use Rattle.tables.specs.Undo.{Clear, ClearJournal, rowHashOf, offOf, zeroRow, setEntry, noteOf, noteWas, entryOf, putNotedOf, putNotedAll, Ranges, ranges, rangesOf, undoEntry, undoAt, Undone, undone, undoneRanges}
+use Rattle.table_laws.specs.Plain.{Pair, pairRow}
+use Rattle.table_laws.specs.Marked.{Clear, ClearJournal, putNotedAll, Ranges, ranges, rangesOf}
+use Rattle.tables.specs.Undo.{rowHashOf, offOf, zeroRow, setEntry, noteOf, noteWas, entryOf, putNotedOf, undoEntry, undoAt, Undone, undone, undoneRanges}
 use Rattle.tables.specs.declared.Row.{Row}
 use Rattle.tables.specs.declared.Inserted.{Inserted}
 use Rattle.tables.specs.declared.ranges.Was.{Was}
 use Rattle.tables.specs.declared.ranges.Was.the-variants.{Vacant, Same, Changed}
 use Rattle.tables.specs.declared.ranges.Change.{Change}
 use Rattle.tables.proofs.Room.{room-is}
-use Rattle.tables.proofs.Rows.{sets-low, sets-high, sets-at, length-setRow}
-use Rattle.tables.proofs.Sets.{over-above, over-most}
-use Rattle.tables.proofs.Steps.{zeros}
-use Rattle.tables.proofs.UndoRows.{back-one, off-none, off-append, insert-added}
-
--- ---- one turn of the loop
-module _ (to : ℕ) where
-  pub ranges-done : (t j : List ℕ) (m : ℕ) → m ≤ to → undoneRanges to t j m ≡ undone t j
-  unfolding undoneRanges
-  ranges-done t j zero h = refl
-  ranges-done t j (suc i) h = rw (lt-ltb i to (omega arith))
-
-  pub ranges-more : (t j : List ℕ) (i : ℕ) → to ≤ i → undoneRanges to t j (suc i) ≡ undoneRanges to (undoAt t j i) (setEntry j i 0 0 zeroRow) i
-  unfolding undoneRanges
-  ranges-more t j i h = rw (le-ltb i to h)
-
-  pub ranges-turn : (t j : List ℕ) (m : ℕ) → to < m → {t₁ j₁ : List ℕ} {x : Undone} → t₁ ≡ undoAt t j (m - 1) → j₁ ≡ setEntry j (m - 1) 0 0 zeroRow → undoneRanges to t j m ≡ x → undoneRanges to t₁ j₁ (m - 1) ≡ x
-  ranges-turn t j zero h e f g = absurd (omega arith)
-  ranges-turn t j (suc i) h e f g = rw (e, f, back-one i) (sym (ranges-more t j i (omega arith)) ∙ g)
+use Rattle.tables.proofs.Undone.{ranges-done, ranges-more}
+use Rattle.table_laws.proofs.Rows.{sets-low, sets-high, sets-at, length-setRow}
+use Rattle.table_laws.proofs.Sets.{over-above, over-most}
+use Rattle.table_laws.proofs.Steps.{zeros}
+use Rattle.table_laws.proofs.UndoRows.{off-none, off-append, insert-added}
 
 -- undoing to a mark, and from there to an earlier one, is undoing to the earlier one
 module _ (to mid : ℕ) (h : to ≤ mid) where

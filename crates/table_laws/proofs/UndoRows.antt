@@ -10,34 +10,18 @@ use native.Mathlib.Numerals.{add-one}
 use lib.Dec.{eqb, ltb}
 use lib.ListN.{length, getD, replicate}
 use borrow.Author.Tests.{lt-ltb, le-ltb, ltb-true, ltb-false}
 use Rattle.tables.specs.Table.{rowAt, headAt, keyOf, hashOf, bucketOf, bucketIn, capacityOf, newestOf, lookupOf, appendOf, overOf, insertAt, insertOf, left, inserted, Left}
-use Rattle.tables.specs.Plain.{insertAll}
-use Rattle.tables.specs.Undo.{Clear, rowHashOf, undoOf, offOf, undoneTo}
+use Rattle.table_laws.specs.Plain.{insertAll}
+use Rattle.tables.specs.Undo.{rowHashOf, undoOf, offOf, undoneTo}
+use Rattle.table_laws.specs.Marked.{Clear}
 use Rattle.tables.specs.declared.Row.{Row}
 use Rattle.tables.specs.declared.Inserted.{Inserted}
 use Rattle.tables.proofs.Room.{room-is}
-use Rattle.tables.proofs.Rows.{length-append, append-top}
-use Rattle.tables.proofs.Steps.{bucket-lt, zeros}
-use Rattle.tables.proofs.Sets.{over-above, over-most}
-use Rattle.tables.proofs.UndoRow.{undone, after-other}
-
-pub back-one : (i : ℕ) → suc i - 1 ≡ i
-back-one i = omega arith
-
--- ---- one turn of the loop
-module _ (w to : ℕ) where
-  pub undo-done : (t : List ℕ) (n : ℕ) → n ≤ to → undoneTo w to t n ≡ t
-  unfolding undoneTo
-  undo-done t zero h = refl
-  undo-done t (suc i) h = rw (lt-ltb i to (omega arith))
-
-  pub undo-more : (t : List ℕ) (i : ℕ) → to ≤ i → undoneTo w to t (suc i) ≡ undoneTo w to (offOf w t i) i
-  unfolding undoneTo
-  undo-more t i h = rw (le-ltb i to h)
-
-  pub undo-turn : (t : List ℕ) (n : ℕ) → to < n → {t₁ x : List ℕ} → t₁ ≡ offOf w t (n - 1) → undoneTo w to t n ≡ x → undoneTo w to t₁ (n - 1) ≡ x
-  undo-turn t zero h e f = absurd (omega arith)
-  undo-turn t (suc i) h e f = rw (e, back-one i) (sym (undo-more t i (omega arith)) ∙ f)
+use Rattle.tables.proofs.Undone.{undo-done, undo-more}
+use Rattle.table_laws.proofs.Rows.{length-append, append-top}
+use Rattle.table_laws.proofs.Steps.{bucket-lt, zeros}
+use Rattle.table_laws.proofs.Sets.{over-above, over-most}
+use Rattle.table_laws.proofs.UndoRow.{undone, after-other}
 
 module _ (w to : ℕ) where
   -- undoing to a mark, and from there to an earlier one, is undoing to the earlier one

@@ -10,10 +10,10 @@ use lib.Dec.{eqb, leb, ltb}
 use lib.ListN.{length, getD, set, replicate, length-set}
 use lib.Seq.{sets, length-sets, getD-set-same, getD-set-other, ext-getD}
 use borrow.Author.Tests.{eqb-true, eqb-false, leb-true, leb-false, ltb-true, ltb-false}
 use Rattle.tables.specs.Table.{rowWords, linkAt, headAt, setRow, appendOf}
 use Rattle.tables.specs.Undo.{undoOf}
 use Rattle.tables.specs.declared.Row.{Row}
-use Rattle.tables.proofs.Rows.{sets-low, sets-high, length-append, append-link-top}
+use Rattle.table_laws.proofs.Rows.{sets-low, sets-high, length-append, append-link-top}
 
 pub sets-zero : (m : ℕ) (t : List ℕ) (k j : ℕ) → k ≤ j → j < k + m → j < length t → getD (sets t k (replicate m 0)) j 0 ≡ 0
 sets-zero zero t k j a b r = absurd (omega arith)

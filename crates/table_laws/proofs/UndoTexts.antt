@@ -8,16 +8,17 @@ use lib.Dec.{eqb, leb, ltb}
 use lib.ListN.{length, getD, replicate, length-replicate, List·getD-eq-default}
 use lib.Seq.{sets, length-sets, ext-getD}
 use borrow.Author.Tests.{leb-true, leb-false, le-ltb, ltb-true, ltb-false}
 use Rattle.tables.specs.Table.{rowAt, capacityOf, overOf}
 use Rattle.tables.specs.Strings.{textCapacityOf, storedText, textSize, textRow, findText, indexOf, fullOf, storeOf, insertTextAt, insertTextOf, StringsLeft, stringsLeft, stored}
-use Rattle.tables.specs.PlainTexts.{insertTexts}
-use Rattle.tables.specs.Undo.{Clear, ClearText, rowHashOf, undoneTo, cutTo}
-use Rattle.tables.proofs.Rows.{sets-low, sets-high}
-use Rattle.tables.proofs.Sections.{stored-length}
-use Rattle.tables.proofs.Sets.{over-above, over-most}
-use Rattle.tables.proofs.Steps.{zeros}
-use Rattle.tables.proofs.UndoRow.{sets-zero}
-use Rattle.tables.proofs.UndoRows.{Added, added-none, added-over, added-row, added-then, added-undone}
+use Rattle.table_laws.specs.PlainTexts.{insertTexts}
+use Rattle.tables.specs.Undo.{rowHashOf, undoneTo, cutTo}
+use Rattle.table_laws.specs.Marked.{Clear, ClearText}
+use Rattle.table_laws.proofs.Rows.{sets-low, sets-high}
+use Rattle.table_laws.proofs.Sections.{stored-length}
+use Rattle.table_laws.proofs.Sets.{over-above, over-most}
+use Rattle.table_laws.proofs.Steps.{zeros}
+use Rattle.table_laws.proofs.UndoRow.{sets-zero}
+use Rattle.table_laws.proofs.UndoRows.{Added, added-none, added-over, added-row, added-then, added-undone}
 
 -- ---- bytes that are zero again
 cut-at : (to : ℕ) (text : List ℕ) (n p : ℕ) → ClearText text n → to ≤ n → p < length text → getD (cutTo to text n) p 0 ≡ cond (ltb p to) (getD text p 0) 0

@@ -9,16 +9,17 @@ use native.Mathlib.Omega.{arith}
 use lib.Dec.{leb, ltb}
 use lib.ListN.{length}
 use borrow.Author.Tests.{leb-true, leb-false, le-ltb, ltb-true, ltb-false}
 use Rattle.tables.specs.Table.{rowAt, capacityOf, lookupOf, overOf, left}
 use Rattle.tables.specs.Ranges.{putOf}
-use Rattle.tables.specs.Plain.{putRows, wasIn, putAllRows, Pair, pairRow, Holds}
-use Rattle.tables.specs.Undo.{setEntry, noteOf, noteWas, entryOf, putNotedOf, putNotedAll, Ranges, rangesOf, changed, changesIn}
+use Rattle.table_laws.specs.Plain.{putRows, wasIn, putAllRows, Pair, pairRow, Holds}
+use Rattle.tables.specs.Undo.{setEntry, noteOf, noteWas, entryOf, putNotedOf}
+use Rattle.table_laws.specs.Marked.{putNotedAll, Ranges, rangesOf, changed, changesIn}
 use Rattle.tables.specs.declared.Row.{Row}
 use Rattle.tables.specs.declared.ranges.Was.{Was}
 use Rattle.tables.specs.declared.ranges.Was.the-variants.{Vacant, Same, Changed}
-use Rattle.tables.proofs.Sets.{over-above, over-most}
-use Rattle.tables.proofs.Maps.{step, all-length}
-use Rattle.tables.proofs.UndoRanges.{long-entry}
+use Rattle.table_laws.proofs.Sets.{over-above, over-most}
+use Rattle.table_laws.proofs.Maps.{step, all-length}
+use Rattle.table_laws.proofs.UndoRanges.{long-entry}
 
 module _ (j : List ℕ) (m : ℕ) where
   note-count : (i v : ℕ) (old : Row) → m ≤ capacityOf (length j) → noteOf j m i v old .got ≡ m + 1
