@@ -1,4 +1,5 @@
 pub mod Table
+pub mod Kinds
 pub mod Ranges
 pub mod Strings
 pub mod Undo

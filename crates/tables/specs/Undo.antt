@@ -7,6 +7,7 @@ use lib.Dec.{ltb, eqb}
 use lib.ListN.{length, getD, set, replicate}
 use lib.Seq.{sets}
 use Rattle.tables.specs.Table.{wordsAt, rowWords, rowOf, rowAt, linkAt, setRow, capacityOf, bucketOf, hashOf, keyOf, overOf, lookupOf, Left, left}
+use Rattle.tables.specs.Kinds.{textOfRow}
 use Rattle.tables.specs.Ranges.{putOf}
 use Rattle.tables.specs.declared.Row.{Row}
 use Rattle.tables.specs.declared.ranges.Was.{Was}
@@ -16,9 +17,9 @@ use Rattle.tables.specs.declared.journal.Noted.{Noted}
 
 -- ── Rows ───────────────────────────────────────────────────────────────────────────────────────────────────────────────
 
--- the hash by which a row was put into its bucket: its fourth word where the width is 4 (texts), else that of its key (1: ranges; 6: index sets)
+-- the hash by which a row was put into its bucket: its text's where the width is 4 (texts), else that of its key (1: ranges; 6: index sets)
 unfoldable pub rowHashOf : ℕ → Row → ℕ
-rowHashOf w r = cond (eqb w 4) (r .d) (hashOf (keyOf w r))
+rowHashOf w r = cond (eqb w 4) (textOfRow r .hash) (hashOf (keyOf w r))
 
 -- row n is taken back from bucket h: its link is the head again, and its seven words are zero
 unfoldable pub undoOf : ℕ → List ℕ → ℕ → ℕ → List ℕ

@@ -1,6 +1,7 @@
 // Ranges with a journal, so that puts since a mark can be taken back. An entry has eight words: the number of a row, 1 where its start was vacant and 2 where its
 // location was changed, and the row as it was. An entry that there is no room for makes the count of entries capacity + 1, and there it stays.
 use crate::Row;
+use crate::kinds::row_of_range;
 use crate::ranges::Change;
 use crate::ranges::Was;
 use raw::SourceLocation;
@@ -49,14 +50,7 @@ fn put_noted(
 ) -> Noted
     ensures { λ r. ⌜ journaled r (now (t .exit)) (now (journal .exit)) ≡ putNotedOf (now (t .entry)) count (now (journal .entry)) entries (rangeRow start loc) ⌝ }
 {
-    let row = Row {
-        a: start,
-        b: loc.file_idx,
-        c: loc.line,
-        d: loc.function_idx,
-        e: loc.inlined_into_idx,
-        f: 0,
-    };
+    let row = row_of_range(start, loc);
     let i = crate::lookup(t, count, row, 1);
     let old = crate::row_at(t, i);
     let change = crate::ranges::put(t, count, start, loc);
@@ -70,20 +64,7 @@ fn note_was(journal: &mut [u32], m: u32, was: Was, n: u32, i: u32, old: Row) -> 
     ensures { λ r. ⌜ left r (now (journal .exit)) ≡ noteWas (now (journal .entry)) m was n i old ⌝ }
 {
     match was {
-        Was::Vacant => note(
-            journal,
-            m,
-            n,
-            1,
-            Row {
-                a: 0,
-                b: 0,
-                c: 0,
-                d: 0,
-                e: 0,
-                f: 0,
-            },
-        ),
+        Was::Vacant => note(journal, m, n, 1, Row::ZERO),
         Was::Same => m,
         Was::Changed => note(journal, m, i, 2, old),
     }
@@ -118,20 +99,7 @@ pub fn undo_ranges(t: &mut [u32], journal: &mut [u32], entries: u32, to: u32)
     while to < m {
         m -= 1;
         undo_at(t, journal, m);
-        set_entry(
-            journal,
-            m,
-            0,
-            0,
-            Row {
-                a: 0,
-                b: 0,
-                c: 0,
-                d: 0,
-                e: 0,
-                f: 0,
-            },
-        );
+        set_entry(journal, m, 0, 0, Row::ZERO);
     }
 }
 

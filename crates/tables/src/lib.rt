@@ -12,6 +12,7 @@ ghost use Rattle.tables.specs.Table.{wordsAt, rowWords, rowOf, rowAt, se
 
 pub mod index_set;
 pub mod journal;
+pub mod kinds;
 pub mod ranges;
 pub mod strings;
 pub mod undo;
@@ -24,6 +25,17 @@ pub struct Row {
     pub d: u32,
     pub e: u32,
     pub f: u32,
+}
+
+impl Row {
+    pub const ZERO: Row = Row {
+        a: 0,
+        b: 0,
+        c: 0,
+        d: 0,
+        e: 0,
+        f: 0,
+    };
 }
 
 // The number of an item, and how many items there are now.

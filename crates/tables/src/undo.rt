@@ -1,5 +1,6 @@
 // Rows and texts added since a mark are taken back: each table is to the word what it was.
 use crate::Row;
+use crate::kinds::text_of_row;
 ghost use mathlib.Core.Path.{_≡_};
 ghost use lib.ListN.{set};
 ghost use Rattle.tables.specs.Undo.{rowHashOf, undoOf, offOf, undoneTo, cutTo};
@@ -66,7 +67,8 @@ fn row_hash(row: Row, width: u32) -> u32
     ensures { λ r. ⌜ r ≡ rowHashOf width row ⌝ }
 {
     if width == 4 {
-        return row.d;
+        let text = text_of_row(row);
+        return text.hash;
     }
     crate::hash(crate::key(row, width))
 }
@@ -77,17 +79,6 @@ fn unlink(t: &mut [u32], cap: u32, n: u32, h: u32)
 {
     let link = crate::link_at(t, n);
     crate::set_word(t, (cap as usize) * 7 + (h as usize), link);
-    crate::set_row(
-        t,
-        n,
-        Row {
-            a: 0,
-            b: 0,
-            c: 0,
-            d: 0,
-            e: 0,
-            f: 0,
-        },
-    );
+    crate::set_row(t, n, Row::ZERO);
     crate::set_word(t, (n as usize) * 7 + 6, 0);
 }

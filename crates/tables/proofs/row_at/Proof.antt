@@ -11,14 +11,8 @@ law : (t : List ℕ) (i : ℕ) {r : Row} → r ≡ rowOf (wordsAt t (i * 7) 6) �
 unfolding rowAt
 law t i e = e
 
-mul-six : tie.Need-mul-six
-mul-six c = search needs
-
-six-requires : tie.Need-six-requires
-six-requires c κs = search needs
-
 returns : tie.Need-returns
 returns c = law (c .before .before .args .t .now) (c .before .before .args .i) (c .six .ensures)
 
 pub row-at-spec : {M : Type 1} → statement M
-row-at-spec = tie.close (tie.spec mul-six six-requires returns)
+row-at-spec = tie.close (tie.spec (λ c. search needs) (λ c κs. search needs) returns)

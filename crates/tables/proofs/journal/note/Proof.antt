@@ -24,26 +24,11 @@ module _ (j : List ℕ) (m i v : ℕ) (old : Row) {cap : ℕ} (e : cap ≡ capac
   few : cap ≤ 268435456
   few = let h = cap-most (length j) in omega arith
 
-capacity-requires : tie.Need-capacity-requires
-capacity-requires c κs = search needs
-
-set-entry-requires : tie.Need-set-entry-requires
-set-entry-requires c κs = search needs
-
-add-result : tie.Need-add-result
-add-result c = search needs
-
-same-length : tie.Need-same-length
-same-length c = search needs
-
 returns : tie.Need-returns
 returns c = let a = c .before .before .before .before .before .before .before .before .args in noted (a .journal .now) (a .m) (a .i) (a .v) (a .old) (c .before .before .before .before .before .capacity .ensures) (c .before .before .before .before .if1 .taken) (c .before .before .set-entry .ensures)
 
 over-requires : tie.Need-over-requires
 over-requires c κs = let a = c .before .before .before .before .args in few (a .journal .now) (a .m) (a .i) (a .v) (a .old) (c .before .capacity .ensures)
-
-same-length-2 : tie.Need-same-length-2
-same-length-2 c = search needs
 
 returns-2 : tie.Need-returns-2
 returns-2 c = let a = c .before .before .before .before .before .args in full (a .journal .now) (a .m) (a .i) (a .v) (a .old) (c .before .before .capacity .ensures) (c .before .if1 .left) (c .over .ensures)
@@ -52,11 +37,8 @@ pub note-spec : {M : Type 1} → statement M
 note-spec =
     tie.close
     (tie.spec
-    capacity-requires
-    set-entry-requires
-    add-result
-    same-length
+    (λ c κs. search needs) (λ c κs. search needs) (λ c. search needs) (λ c. search needs)
     returns
     over-requires
-    same-length-2
+    (λ c. search needs)
     returns-2)

@@ -23,32 +23,11 @@ module _ (j : List ℕ) (m : ℕ) (was : Was) (n i : ℕ) (old : Row) where
   unfolding noteWas
   changed e f = rw (e, f)
 
-enum-told : tie.Need-enum-told
-enum-told c = search needs
-
-note-requires : tie.Need-note-requires
-note-requires c κs = search needs
-
-enum-told-2 : tie.Need-enum-told-2
-enum-told-2 c = search needs
-
-enum-told-3 : tie.Need-enum-told-3
-enum-told-3 c = search needs
-
-note-requires-2 : tie.Need-note-requires-2
-note-requires-2 c κs = search needs
-
-same-length : tie.Need-same-length
-same-length c = search needs
-
 returns : tie.Need-returns
 returns c = let a = c .before .before .before .before .before .before .before .args in let y = c .before .before .note in vacant (a .journal .now) (a .m) (a .was) (a .n) (a .i) (a .old) (c .before .before .before .before .enum-told .given .1) {x = left (y .result) (y .last .0)} (y .ensures)
 
 returns-2 : tie.Need-returns-2
 returns-2 c = let a = c .before .before .before .args in same (a .journal .now) (a .m) (a .was) (a .n) (a .i) (a .old) (c .enum-told2 .given .1)
-
-same-length-2 : tie.Need-same-length-2
-same-length-2 c = search needs
 
 returns-3 : tie.Need-returns-3
 returns-3 c = let a = c .before .before .before .before .before .before .before .args in let y = c .before .before .note2 in changed (a .journal .now) (a .m) (a .was) (a .n) (a .i) (a .old) (c .before .before .before .before .enum-told3 .given .1) {x = left (y .result) (y .last .0)} (y .ensures)
@@ -57,13 +36,9 @@ pub note-was-spec : {M : Type 1} → statement M
 note-was-spec =
     tie.close
     (tie.spec
-    enum-told
-    note-requires
-    enum-told-2
-    enum-told-3
-    note-requires-2
-    same-length
+    (λ c. search needs) (λ c κs. search needs) (λ c. search needs) (λ c. search needs) (λ c κs. search needs)
+    (λ c. search needs)
     returns
     returns-2
-    same-length-2
+    (λ c. search needs)
     returns-3)

@@ -20,23 +20,8 @@ module _ (on : Bool) (t : List ℕ) (n : ℕ) (j : List ℕ) (m : ℕ) (q : Row)
   unfolding putMarkedOf
   plain e f = rw (e, ← f)
 
-put-noted-requires : tie.Need-put-noted-requires
-put-noted-requires c κs = search needs
-
-same-length : tie.Need-same-length
-same-length c = search needs
-
-same-length-2 : tie.Need-same-length-2
-same-length-2 c = search needs
-
 returns : tie.Need-returns
 returns c = let a = c .before .before .before .before .before .before .before .before .before .before .args in let y = c .before .before .before .before .put-noted in marked (a .on) (a .t .now) (a .count) (a .journal .now) (a .entries) (rangeRow (a .start) (a .loc)) (c .before .before .before .before .before .before .before .if1 .taken) {x = journaled (y .result) (y .last .0) (y .last .1 .1 .0)} (y .ensures)
-
-put-requires : tie.Need-put-requires
-put-requires c κs = search needs
-
-same-length-3 : tie.Need-same-length-3
-same-length-3 c = search needs
 
 returns-2 : tie.Need-returns-2
 returns-2 c = let a = c .before .before .before .before .before .before .before .args in let x = c .before .before .put in plain (a .on) (a .t .now) (a .count) (a .journal .now) (a .entries) (rangeRow (a .start) (a .loc)) (c .before .before .before .before .if1 .left) {x = left (x .result) (x .last .0)} (x .ensures)
@@ -45,10 +30,7 @@ pub put-spec : {M : Type 1} → statement M
 put-spec =
     tie.close
     (tie.spec
-    put-noted-requires
-    same-length
-    same-length-2
+    (λ c κs. search needs) (λ c. search needs) (λ c. search needs)
     returns
-    put-requires
-    same-length-3
+    (λ c κs. search needs) (λ c. search needs)
     returns-2)

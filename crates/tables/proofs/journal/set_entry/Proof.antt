@@ -18,27 +18,6 @@ law j k i v old e1 e2 e3 =
     let q : k * 8 + 2 ≡ suc (suc (k * 8)) = omega arith in
     rw (e3, e2, e1, p, q)
 
-mul-at : tie.Need-mul-at
-mul-at c = search needs
-
-set-word-requires : tie.Need-set-word-requires
-set-word-requires c κs = search needs
-
-add-set-word : tie.Need-add-set-word
-add-set-word c = search needs
-
-set-word-requires-2 : tie.Need-set-word-requires-2
-set-word-requires-2 c κs = search needs
-
-add-set-six : tie.Need-add-set-six
-add-set-six c = search needs
-
-set-six-requires : tie.Need-set-six-requires
-set-six-requires c κs = search needs
-
-same-length : tie.Need-same-length
-same-length c = search needs
-
 returns : tie.Need-returns
 returns c = let a = c .before .before .before .before .before .before .before .before .before .before .before .before .before .args in law (a .journal .now) (a .k) (a .i) (a .v) (a .old) (c .before .before .before .before .before .before .before .before .before .before .set-word .ensures) (c .before .before .before .before .before .before .set-word2 .ensures) (c .before .before .set-six .ensures)
 
@@ -46,11 +25,6 @@ pub set-entry-spec : {M : Type 1} → statement M
 set-entry-spec =
     tie.close
     (tie.spec
-    mul-at
-    set-word-requires
-    add-set-word
-    set-word-requires-2
-    add-set-six
-    set-six-requires
-    same-length
+    (λ c. search needs) (λ c κs. search needs) (λ c. search needs) (λ c κs. search needs) (λ c. search needs)
+    (λ c κs. search needs) (λ c. search needs)
     returns)

@@ -13,30 +13,6 @@ law : (t j : List ℕ) (k : ℕ) {i v : ℕ} {old : Row} {t₁ : List ℕ} → i
 unfolding undoAt
 law t j k e1 e2 e3 e4 = rw (e4, e3, e2, e1)
 
-mul-at : tie.Need-mul-at
-mul-at c = search needs
-
-word-requires : tie.Need-word-requires
-word-requires c κs = search needs
-
-add-word : tie.Need-add-word
-add-word c = search needs
-
-word-requires-2 : tie.Need-word-requires-2
-word-requires-2 c κs = search needs
-
-add-six : tie.Need-add-six
-add-six c = search needs
-
-six-requires : tie.Need-six-requires
-six-requires c κs = search needs
-
-undo-entry-requires : tie.Need-undo-entry-requires
-undo-entry-requires c κs = search needs
-
-same-length : tie.Need-same-length
-same-length c = search needs
-
 returns : tie.Need-returns
 returns c = let a = c .before .before .before .before .before .before .before .before .before .args in law (a .t .now) (a .journal .now) (a .k) (c .before .before .before .before .before .before .word .ensures) (c .before .before .before .before .before .word2 .ensures) (c .before .before .before .before .six .ensures) (c .before .before .undo-entry .ensures)
 
@@ -44,12 +20,6 @@ pub undo-at-spec : {M : Type 1} → statement M
 undo-at-spec =
     tie.close
     (tie.spec
-    mul-at
-    word-requires
-    add-word
-    word-requires-2
-    add-six
-    six-requires
-    undo-entry-requires
-    same-length
+    (λ c. search needs) (λ c κs. search needs) (λ c. search needs) (λ c κs. search needs) (λ c. search needs)
+    (λ c κs. search needs) (λ c κs. search needs) (λ c. search needs)
     returns)

@@ -22,20 +22,8 @@ module _ (t : List ℕ) (i v : ℕ) (old : Row) where
   unfolding undoEntry
   none n e = rw (ne-eqb v 1 n, ne-eqb v 2 e)
 
-take-off-requires : tie.Need-take-off-requires
-take-off-requires c κs = search needs
-
-same-length : tie.Need-same-length
-same-length c = search needs
-
 returns : tie.Need-returns
 returns c = let a = c .before .before .before .before .before .before .args in added (a .t .now) (a .i) (a .v) (a .old) (c .before .before .before .before .if1 .taken) (c .before .before .take-off .ensures)
-
-set-row-requires : tie.Need-set-row-requires
-set-row-requires c κs = search needs
-
-same-length-2 : tie.Need-same-length-2
-same-length-2 c = search needs
 
 returns-2 : tie.Need-returns-2
 returns-2 c = let a = c .before .before .before .before .before .before .before .args in changed (a .t .now) (a .i) (a .v) (a .old) (c .before .before .before .before .before .if1 .left) (c .before .before .before .before .if2 .taken) (c .before .before .set-row .ensures)
@@ -47,10 +35,8 @@ pub undo-entry-spec : {M : Type 1} → statement M
 undo-entry-spec =
     tie.close
     (tie.spec
-    take-off-requires
-    same-length
+    (λ c κs. search needs) (λ c. search needs)
     returns
-    set-row-requires
-    same-length-2
+    (λ c κs. search needs) (λ c. search needs)
     returns-2
     returns-3)

@@ -17,18 +17,6 @@ abbrev μ-loop : tie.MeasureT-loop
 loop-holds : tie.Need-loop-holds Inv-loop μ-loop
 loop-holds c = (refl, refl, refl)
 
-sub-m : tie.Need-sub-m Inv-loop μ-loop
-sub-m c = omega arith
-
-undo-at-requires : tie.Need-undo-at-requires Inv-loop μ-loop
-undo-at-requires c κs = tt
-
-set-entry-requires : tie.Need-set-entry-requires Inv-loop μ-loop
-set-entry-requires c κs = tt
-
-loop-less : tie.Need-loop-less Inv-loop μ-loop
-loop-less c = omega arith
-
 loop-again : tie.Need-loop-again Inv-loop μ-loop
 loop-again c = let a = c .before .before .before .before .before .before .before .before .before .before .before .before .before .args in let l = c .before .before .before .before .before .before .before .before .before .before .loop in (search needs, search needs, ranges-turn (a .to) (l .t) (l .journal) (l .m) (c .before .before .before .before .before .before .before .before .before .loop-test .taken) (c .before .before .before .before .before .before .undo-at .ensures) (c .before .before .set-entry .ensures) (l .inv .2))
 
@@ -48,10 +36,7 @@ undo-ranges-spec =
     Inv-loop
     μ-loop
     loop-holds
-    sub-m
-    undo-at-requires
-    set-entry-requires
-    loop-less
+    (λ c. omega arith) (λ c κs. tt) (λ c κs. tt) (λ c. omega arith)
     loop-again
     same-length
     same-length-2

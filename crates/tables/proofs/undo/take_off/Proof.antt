@@ -19,29 +19,8 @@ module _ (w : ℕ) (t : List ℕ) (n : ℕ) {m : ℕ} (e : m ≡ capacityOf (len
   unfolding offOf
   none p = rw (← e, le-ltb n m p)
 
-capacity-requires : tie.Need-capacity-requires
-capacity-requires c κs = search needs
-
-row-at-requires : tie.Need-row-at-requires
-row-at-requires c κs = search needs
-
-row-hash-requires : tie.Need-row-hash-requires
-row-hash-requires c κs = search needs
-
-bucket-requires : tie.Need-bucket-requires
-bucket-requires c κs = search needs
-
-unlink-requires : tie.Need-unlink-requires
-unlink-requires c κs = search needs
-
-same-length : tie.Need-same-length
-same-length c = search needs
-
 returns : tie.Need-returns
 returns c = let a = c .before .before .before .before .before .before .before .before .before .before .before .before .args in off (a .width) (a .t .now) (a .n) (c .before .before .before .before .before .before .before .before .before .capacity .ensures) (c .before .before .before .before .before .before .before .before .if1 .taken) (c .before .before .before .before .before .before .row-at .ensures) (c .before .before .before .before .before .row-hash .ensures) (c .before .before .before .before .bucket .ensures) (c .before .before .unlink .ensures)
-
-same-length-2 : tie.Need-same-length-2
-same-length-2 c = search needs
 
 returns-2 : tie.Need-returns-2
 returns-2 c = let a = c .before .before .before .before .args in none (a .width) (a .t .now) (a .n) (c .before .capacity .ensures) (c .if1 .left)
@@ -50,12 +29,8 @@ pub take-off-spec : {M : Type 1} → statement M
 take-off-spec =
     tie.close
     (tie.spec
-    capacity-requires
-    row-at-requires
-    row-hash-requires
-    bucket-requires
-    unlink-requires
-    same-length
+    (λ c κs. search needs) (λ c κs. search needs) (λ c κs. search needs) (λ c κs. search needs) (λ c κs. search needs)
+    (λ c. search needs)
     returns
-    same-length-2
+    (λ c. search needs)
     returns-2)

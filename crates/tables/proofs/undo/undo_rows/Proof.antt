@@ -17,15 +17,6 @@ abbrev μ-loop : tie.MeasureT-loop
 loop-holds : tie.Need-loop-holds Inv-loop μ-loop
 loop-holds c = (refl, refl)
 
-sub-n : tie.Need-sub-n Inv-loop μ-loop
-sub-n c = omega arith
-
-take-off-requires : tie.Need-take-off-requires Inv-loop μ-loop
-take-off-requires c κs = tt
-
-loop-less : tie.Need-loop-less Inv-loop μ-loop
-loop-less c = omega arith
-
 loop-again : tie.Need-loop-again Inv-loop μ-loop
 loop-again c = let a = c .before .before .before .before .before .before .before .args in let l = c .before .before .before .before .before .loop in (search needs, undo-turn (a .width) (a .to) (l .t) (l .n) (c .before .before .before .before .loop-test .taken) (c .before .before .take-off .ensures) (l .inv .1))
 
@@ -42,9 +33,7 @@ undo-rows-spec =
     Inv-loop
     μ-loop
     loop-holds
-    sub-n
-    take-off-requires
-    loop-less
+    (λ c. omega arith) (λ c κs. tt) (λ c. omega arith)
     loop-again
     same-length
     returns)

@@ -15,33 +15,6 @@ law m t n h e e1 e2 e3 =
     let s : n * 7 + 6 ≡ suc (suc (suc (suc (suc (suc (n * 7)))))) = omega arith in
     rw (e3, e2, e1, e, s)
 
-link-at-requires : tie.Need-link-at-requires
-link-at-requires c κs = search needs
-
-mul-set-word : tie.Need-mul-set-word
-mul-set-word c = search needs
-
-add-set-word : tie.Need-add-set-word
-add-set-word c = search needs
-
-set-word-requires : tie.Need-set-word-requires
-set-word-requires c κs = search needs
-
-set-row-requires : tie.Need-set-row-requires
-set-row-requires c κs = search needs
-
-mul-set-word-2 : tie.Need-mul-set-word-2
-mul-set-word-2 c = search needs
-
-add-set-word-2 : tie.Need-add-set-word-2
-add-set-word-2 c = search needs
-
-set-word-requires-2 : tie.Need-set-word-requires-2
-set-word-requires-2 c κs = search needs
-
-same-length : tie.Need-same-length
-same-length c = search needs
-
 returns : tie.Need-returns
 returns c = let a = c .before .before .before .before .before .before .before .before .before .before .before .before .before .before .before .args in law (a .cap) (a .t .now) (a .n) (a .h) (c .before .before .before .before .before .before .before .before .before .before .before .before .link-at .ensures) (c .before .before .before .before .before .before .before .before .before .before .set-word .ensures) (c .before .before .before .before .before .before .set-row .ensures) (c .before .before .set-word2 .ensures)
 
@@ -49,13 +22,6 @@ pub unlink-spec : {M : Type 1} → statement M
 unlink-spec =
     tie.close
     (tie.spec
-    link-at-requires
-    mul-set-word
-    add-set-word
-    set-word-requires
-    set-row-requires
-    mul-set-word-2
-    add-set-word-2
-    set-word-requires-2
-    same-length
+    (λ c κs. search needs) (λ c. search needs) (λ c. search needs) (λ c κs. search needs) (λ c κs. search needs)
+    (λ c. search needs) (λ c. search needs) (λ c κs. search needs) (λ c. search needs)
     returns)
