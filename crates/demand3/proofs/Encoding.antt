@@ -25,11 +25,11 @@ use Rattle.model.proofs.Encoded.{Encoding, Goes}
 use Rattle.raw.specs.declared.SourceLocation.{SourceLocation}
 use Rattle.tables.specs.Table.{capacityOf}
 use Rattle.tables.specs.Strings.{textCapacityOf}
-use Rattle.tables.specs.Plain.{Holds}
-use Rattle.tables.specs.PlainTexts.{Texts}
+use Rattle.table_laws.specs.Plain.{Holds}
+use Rattle.table_laws.specs.PlainTexts.{Texts}
 use Rattle.tables.proofs.Room.{cap-most, text-room}
-use Rattle.tables.proofs.Sets as sets
-use Rattle.tables.proofs.TextTables as text-tables
+use Rattle.table_laws.proofs.Sets as sets
+use Rattle.table_laws.proofs.TextTables as text-tables
 use Rattle.memory.specs.Memory.{Words}
 use Rattle.memory.specs.Record.{fits?}
 use Rattle.steps.specs.Steps.{last-of}

@@ -21,19 +21,19 @@ use Rattle.model.proofs.Always.{Within, reads-within}
 use Rattle.tables.specs.Table.{Left, capacityOf, insertOf, sameRow, sameWords, rowWords, keyOf, rowAt}
 use Rattle.tables.specs.Ranges.{getOf, putOf, locationOf}
 use Rattle.tables.specs.Strings.{textCapacityOf, textSize, insertTextOf, StringsLeft}
-use Rattle.tables.specs.Plain.{sameKey, putRows, Holds}
-use Rattle.tables.specs.Plain.{intern as row-intern}
-use Rattle.tables.specs.PlainTexts.{textBytes, textOffset, withText, offsetIn, Texts}
+use Rattle.table_laws.specs.Plain.{sameKey, putRows, Holds}
+use Rattle.table_laws.specs.Plain.{intern as row-intern}
+use Rattle.table_laws.specs.PlainTexts.{textBytes, textOffset, withText, offsetIn, Texts}
 use Rattle.tables.specs.declared.Row.{Row}
 use Rattle.tables.specs.declared.Inserted.{Inserted}
 use Rattle.tables.specs.declared.ranges.Found.{Found}
 use Rattle.tables.specs.declared.ranges.Found.the-variants.{Absent, At as Held}
 use Rattle.tables.specs.declared.ranges.Change.{Change}
-use Rattle.tables.proofs.Rows.{same-eq, words-refl}
-use Rattle.tables.proofs.Sets.{Over}
-use Rattle.tables.proofs.Sets as sets
-use Rattle.tables.proofs.Maps as maps
-use Rattle.tables.proofs.TextTables as texts
+use Rattle.table_laws.proofs.Rows.{same-eq, words-refl}
+use Rattle.table_laws.proofs.Sets.{Over}
+use Rattle.table_laws.proofs.Sets as sets
+use Rattle.table_laws.proofs.Maps as maps
+use Rattle.table_laws.proofs.TextTables as texts
 use Rattle.steps.specs.Steps.{held}
 use Rattle.raw.specs.declared.SourceLocation.{SourceLocation}
 use Rattle.demand3.proofs.WordRows.{range-row, source, range-row-location, grows-offset}

@@ -13,8 +13,8 @@ use Rattle.model.specs.Counts.{fits? as plain-fits?}
 use Rattle.model.proofs.Chains.{false-true}
 use Rattle.model.proofs.Grown.{room}
 use Rattle.model.proofs.Encoded.{AllowedGiven, encoded-call}
-use Rattle.tables.proofs.Sets as sets
-use Rattle.tables.proofs.TextTables as text-tables
+use Rattle.table_laws.proofs.Sets as sets
+use Rattle.table_laws.proofs.TextTables as text-tables
 use Rattle.memory.specs.Memory.{Memory, Words}
 use Rattle.memory.specs.Record.{fits?}
 use Rattle.steps.specs.Steps.{over-words}

@@ -25,7 +25,7 @@ use Rattle.raw.specs.declared.SourceLocation.{SourceLocation}
 use Rattle.tables.specs.Table.{capacityOf, insertOf}
 use Rattle.tables.specs.Ranges.{rangeRow, putOf}
 use Rattle.tables.specs.Strings.{textCapacityOf, insertTextOf}
-use Rattle.tables.specs.Plain.{Holds}
+use Rattle.table_laws.specs.Plain.{Holds}
 use Rattle.tables.specs.declared.Row.{Row}
 use Rattle.memory.specs.declared.LastAddr.{LastAddr}
 use Rattle.memory.specs.Memory.{Words}

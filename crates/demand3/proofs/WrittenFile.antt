@@ -26,15 +26,15 @@ use Rattle.slices.specs.Bytes.{le, words, tableBytes}
 use Rattle.raw.specs.Rows.{versionInfoBytes, headerBytes, fileBytes, functionBytes, locationBytes, rangeBytes}
 use Rattle.raw.specs.Head.{version-info, header, padding}
 use Rattle.raw.specs.declared.SourceLocation.{SourceLocation}
-use Rattle.tables.specs.Table.{rowAt}
+use Rattle.tables.specs.Table.{rowAt, rowsOf}
 use Rattle.tables.specs.Ranges.{getOf, locationOf}
 use Rattle.tables.specs.Strings.{storedText}
-use Rattle.tables.specs.Plain.{rowsOf, Holds}
-use Rattle.tables.specs.PlainTexts.{section}
+use Rattle.table_laws.specs.Plain.{Holds}
+use Rattle.table_laws.specs.PlainTexts.{section}
 use Rattle.tables.specs.declared.Row.{Row}
 use Rattle.tables.specs.declared.ranges.Found.{Found}
 use Rattle.tables.specs.declared.ranges.Found.the-variants.{Absent, At}
-use Rattle.tables.proofs.Rows.{rows-getD}
+use Rattle.table_laws.proofs.Rows.{rows-getD}
 use Rattle.memory.specs.Memory.{Memory}
 use Rattle.memory.specs.Record.{fits?}
 use Rattle.steps.specs.Steps.{held, last-of}

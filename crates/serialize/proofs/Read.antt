@@ -13,14 +13,13 @@ use Rattle.raw.specs.Rows.{versionInfoAt, headerAt, HeaderFits, fileAt, functio
 use Rattle.raw.specs.Head.{version-info}
 use Rattle.slices.proofs.Bytes.{row-stands}
 use Rattle.raw.proofs.Rows.{version-info-back, header-back, file-back, function-back, location-back, range-back}
-use Rattle.tables.specs.Table.{rowAt}
-use Rattle.tables.specs.Ranges.{locationOf}
-use Rattle.tables.specs.Plain.{rowsOf}
+use Rattle.tables.specs.Table.{rowAt, rowsOf}
+use Rattle.tables.specs.Kinds.{fileOfRow, functionOfRow, callOfRow, locationOf}
 use Rattle.tables.specs.declared.Row.{Row}
-use Rattle.tables.proofs.Rows.{rows-length, rows-getD}
+use Rattle.table_laws.proofs.Rows.{rows-length, rows-getD}
 use Rattle.memory.specs.Memory.{Memory}
 use Rattle.memory.specs.declared.Converter.{Converter}
-use Rattle.serialize.specs.Sections.{file-of, function-of, call-of, file-row, function-row, call-row, entry-location, location-row, start-row}
+use Rattle.serialize.specs.Sections.{file-row, function-row, call-row, entry-location, location-row, start-row}
 use Rattle.serialize.specs.File.{ranges-of, header-of}
 use Rattle.serialize.specs.declared.Layout.{Layout}
 use Rattle.serialize.proofs.Rows.{length-file-row, length-function-row, length-call-row, length-location-row, length-start-row}
@@ -58,22 +57,22 @@ module _ (c : Converter) (m : Memory) (at : Layout) (s : List ℕ) (h : Standing
   pub header-read : HeaderFits (header-of c (length (ranges-of c m))) → headerAt s 8 ≡ header-of c (length (ranges-of c m))
   header-read f = header-back (header-of c (length (ranges-of c m))) s 8 f (h .header)
 
-  pub file-read : Words32 (m .files) → (i : ℕ) → i < c .state .files → fileAt s (80 + 24 * i) ≡ file-of (rowAt (m .files) i)
+  pub file-read : Words32 (m .files) → (i : ℕ) → i < c .state .files → fileAt s (80 + 24 * i) ≡ fileOfRow (rowAt (m .files) i)
   unfolding file-row rowAt
   file-read w i l =
-      file-back (file-of (rowAt (m .files) i)) s (80 + 24 * i) (w (i * 7), (w (i * 7 + 1), (w (i * 7 + 1 + 1), (w (i * 7 + 1 + 1 + 1), (w (i * 7 + 1 + 1 + 1 + 1), (w (i * 7 + 1 + 1 + 1 + 1 + 1), tt))))))
+      file-back (fileOfRow (rowAt (m .files) i)) s (80 + 24 * i) (w (i * 7), (w (i * 7 + 1), (w (i * 7 + 1 + 1), (w (i * 7 + 1 + 1 + 1), (w (i * 7 + 1 + 1 + 1 + 1), (w (i * 7 + 1 + 1 + 1 + 1 + 1), tt))))))
       (row-there file-row 24 length-file-row (m .files) (c .state .files) s 80 i l (h .files))
 
-  pub function-read : Words32 (m .functions) → (i : ℕ) → i < c .state .functions → functionAt s (at .functions + 16 * i) ≡ function-of (rowAt (m .functions) i)
+  pub function-read : Words32 (m .functions) → (i : ℕ) → i < c .state .functions → functionAt s (at .functions + 16 * i) ≡ functionOfRow (rowAt (m .functions) i)
   unfolding function-row rowAt
   function-read w i l =
-      function-back (function-of (rowAt (m .functions) i)) s (at .functions + 16 * i) (w (i * 7), (w (i * 7 + 1), (w (i * 7 + 1 + 1), (w (i * 7 + 1 + 1 + 1), tt))))
+      function-back (functionOfRow (rowAt (m .functions) i)) s (at .functions + 16 * i) (w (i * 7), (w (i * 7 + 1), (w (i * 7 + 1 + 1), (w (i * 7 + 1 + 1 + 1), tt))))
       (row-there function-row 16 length-function-row (m .functions) (c .state .functions) s (at .functions) i l (h .functions))
 
-  pub call-read : Words32 (m .calls) → (i : ℕ) → i < c .state .«call_locations» → locationAt s (at .«call_locations» + 16 * i) ≡ call-of (rowAt (m .calls) i)
+  pub call-read : Words32 (m .calls) → (i : ℕ) → i < c .state .«call_locations» → locationAt s (at .«call_locations» + 16 * i) ≡ callOfRow (rowAt (m .calls) i)
   unfolding call-row rowAt
   call-read w i l =
-      location-back (call-of (rowAt (m .calls) i)) s (at .«call_locations» + 16 * i) (w (i * 7), (w (i * 7 + 1), (w (i * 7 + 1 + 1), (w (i * 7 + 1 + 1 + 1), tt))))
+      location-back (callOfRow (rowAt (m .calls) i)) s (at .«call_locations» + 16 * i) (w (i * 7), (w (i * 7 + 1), (w (i * 7 + 1 + 1), (w (i * 7 + 1 + 1 + 1), tt))))
       (row-there call-row 16 length-call-row (m .calls) (c .state .«call_locations») s (at .«call_locations») i l (h .calls))
 
   -- range i: the location and the start of entry i, in order

@@ -13,25 +13,25 @@ use Rattle.raw.specs.Rows.{rangeBytes}
 use Rattle.raw.specs.Head.{padding}
 use Rattle.slices.proofs.Bytes.{sets-join, length-table, length-words}
 use Rattle.raw.proofs.Rows.{length-file, length-function, length-location, length-range, all, next, stored}
-use Rattle.tables.specs.Table.{rowAt}
-use Rattle.tables.specs.Plain.{rowsOf}
+use Rattle.tables.specs.Table.{rowAt, rowsOf}
+use Rattle.tables.specs.Kinds.{fileOfRow, functionOfRow, callOfRow}
 use Rattle.tables.specs.declared.Row.{Row}
-use Rattle.tables.proofs.Rows.{rows-more, rows-length}
-use Rattle.serialize.specs.Sections.{file-of, function-of, call-of, file-row, function-row, call-row, entries, entry-row, entries-at, entry-location, location-row, start-row}
+use Rattle.table_laws.proofs.Rows.{rows-more, rows-length}
+use Rattle.serialize.specs.Sections.{file-row, function-row, call-row, entries, entry-row, entries-at, entry-location, location-row, start-row}
 
 -- ── Sizes ──
 
 pub length-file-row : (r : Row) → length (file-row r) ≡ 24
 unfolding file-row
-length-file-row r = length-file (file-of r)
+length-file-row r = length-file (fileOfRow r)
 
 pub length-function-row : (r : Row) → length (function-row r) ≡ 16
 unfolding function-row
-length-function-row r = length-function (function-of r)
+length-function-row r = length-function (functionOfRow r)
 
 pub length-call-row : (r : Row) → length (call-row r) ≡ 16
 unfolding call-row
-length-call-row r = length-location (call-of r)
+length-call-row r = length-location (callOfRow r)
 
 pub length-entry-row : (p : Span) → length (entry-row p) ≡ 8
 unfolding entry-row

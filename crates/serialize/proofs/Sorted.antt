@@ -10,9 +10,8 @@ use borrow.Rule.Slice.PartMut.{midOf, putMid}
 use Rattle.model.specs.Basics.{Span, before, place, sort}
 use Rattle.slices.specs.Bytes.{le, words, Words, Stands, tableBytes}
 use Rattle.slices.proofs.Bytes.{sets-join, length-table, length-words, length-le, stands-left, stands-right, stands-stored, le-back}
-use Rattle.tables.specs.Table.{rowAt}
-use Rattle.tables.specs.Plain.{rowsFrom, rowsOf}
-use Rattle.tables.proofs.Rows.{rows-length}
+use Rattle.tables.specs.Table.{rowAt, rowsFrom, rowsOf}
+use Rattle.table_laws.proofs.Rows.{rows-length}
 use Rattle.sorting.specs.Pairs.{pairWords, sortedBytesOf}
 use Rattle.sorting.proofs.Pairs.{length-pairWords, sorted-entries}
 use Rattle.sorting.proofs.Order.{sort-length}

@@ -12,9 +12,9 @@ use Rattle.raw.specs.Rows.{versionInfoBytes, headerBytes}
 use Rattle.raw.specs.Head.{version-info, padding}
 use Rattle.slices.proofs.Bytes.{sets-join, length-table, stands-left, stands-right, stands-between}
 use Rattle.raw.proofs.Rows.{length-version-info, length-header, length-range}
-use Rattle.tables.specs.Plain.{rowsOf}
+use Rattle.tables.specs.Table.{rowsOf}
 use Rattle.tables.specs.declared.Row.{Row}
-use Rattle.tables.proofs.Rows.{rows-length}
+use Rattle.table_laws.proofs.Rows.{rows-length}
 use Rattle.sorting.proofs.Order.{sort-length}
 use Rattle.memory.specs.Memory.{Memory}
 use Rattle.memory.specs.declared.LastAddr.{LastAddr}

@@ -9,9 +9,8 @@ use Rattle.slices.specs.Bytes.{le, words, tableBytes}
 use Rattle.raw.specs.Rows.{max32, versionInfoBytes, headerBytes, fileBytes, functionBytes, locationBytes, rangeBytes}
 use Rattle.raw.specs.Head.{padding}
 use Rattle.raw.specs.declared.SourceLocation.{SourceLocation}
-use Rattle.tables.specs.Table.{rowAt, linkAt, headAt, setRow, appendOf, bucketOf, walk, keyOf, sameRow, hashOf, hitAt, newestOf, lookupOf, insertAt, insertOf, capacityOf}
+use Rattle.tables.specs.Table.{rowAt, linkAt, headAt, setRow, appendOf, bucketOf, walk, keyOf, sameRow, hashOf, hitAt, newestOf, lookupOf, insertAt, insertOf, capacityOf, rowsFrom}
 use Rattle.tables.specs.Ranges.{rangeRow, getOf, putAt, putOf}
-use Rattle.tables.specs.Plain.{rowsFrom}
 use Rattle.tables.specs.Strings.{textCapacityOf}
 use Rattle.memory.specs.Memory.{Memory, memory}
 use Rattle.memory.specs.Record.{fits?}

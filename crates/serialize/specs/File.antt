@@ -10,7 +10,7 @@ use Rattle.slices.specs.Bytes.{tableBytes}
 use Rattle.raw.specs.Rows.{versionInfoBytes, headerBytes}
 use Rattle.raw.specs.Head.{version-info, header, padding}
 use Rattle.raw.specs.declared.Header.{Header}
-use Rattle.tables.specs.Plain.{rowsOf}
+use Rattle.tables.specs.Table.{rowsOf}
 use Rattle.memory.specs.Memory.{Memory}
 use Rattle.memory.specs.Record.{fits?}
 use Rattle.memory.specs.declared.LastAddr.{LastAddr}

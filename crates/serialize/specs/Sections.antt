@@ -6,12 +6,10 @@ use lib.Dec.{ltb}
 use Rattle.model.specs.Basics.{Span, sort}
 use Rattle.slices.specs.Bytes.{leAt, words, tableBytes}
 use Rattle.raw.specs.Rows.{fileBytes, functionBytes, locationBytes, rangeBytes, noSourceLocation}
-use Rattle.raw.specs.declared.File.{File}
-use Rattle.raw.specs.declared.Function.{Function}
 use Rattle.raw.specs.declared.SourceLocation.{SourceLocation}
-use Rattle.tables.specs.Table.{rowAt}
-use Rattle.tables.specs.Ranges.{getOf, locationOf}
-use Rattle.tables.specs.Plain.{rowsOf}
+use Rattle.tables.specs.Table.{rowAt, rowsOf}
+use Rattle.tables.specs.Kinds.{fileOfRow, functionOfRow, callOfRow, startOf, locationOf}
+use Rattle.tables.specs.Ranges.{getOf}
 use Rattle.tables.specs.declared.Row.{Row}
 use Rattle.tables.specs.declared.ranges.Found.{Found}
 use Rattle.tables.specs.declared.ranges.Found.the-variants.{Absent, At}
@@ -20,31 +18,22 @@ use Rattle.memory.specs.declared.LastAddr.the-variants.{Unset, Set}
 
 -- ── Files, functions, call locations ───────────────────────────────────────────────────────────────────────────────────
 
--- the words of a table's row are the fields of the file's row, in struct order
-abbrev pub file-of : Row → File
-file-of r = record { «comp_dir_offset» = r .a; «directory_offset» = r .b; «name_offset» = r .c; «srcsrv_name_offset» = r .d; «srcsrv_dir_offset» = r .e; «srcsrv_revision_offset» = r .f }
-
-abbrev pub function-of : Row → Function
-function-of r = record { «name_offset» = r .a; «comp_dir_offset» = r .b; «entry_pc» = r .c; lang = r .d }
-
-abbrev pub call-of : Row → SourceLocation
-call-of r = record { «file_idx» = r .a; line = r .b; «function_idx» = r .c; «inlined_into_idx» = r .d }
-
+-- the bytes of a table's row, as the row of the file that it stands for
 unfoldable pub file-row : Row → List ℕ
-file-row r = fileBytes (file-of r)
+file-row r = fileBytes (fileOfRow r)
 
 unfoldable pub function-row : Row → List ℕ
-function-row r = functionBytes (function-of r)
+function-row r = functionBytes (functionOfRow r)
 
 unfoldable pub call-row : Row → List ℕ
-call-row r = locationBytes (call-of r)
+call-row r = locationBytes (callOfRow r)
 
 -- ── The ranges, ascending ──────────────────────────────────────────────────────────────────────────────────────────────
 
 -- an entry is a range's start and its row number: those of the rows, the first of which has the number k
 unfoldable pub entries : ℕ → List Row → List Span
 entries k [] = []
-entries k (r ∷ rs) = record { from = r .a; to = k } ∷ entries (suc k) rs
+entries k (r ∷ rs) = record { from = startOf r; to = k } ∷ entries (suc k) rs
 
 -- "Insert a trailing sentinel source location in case we have a definite end addr": where the last end is vacant among the ranges
 abbrev pub if-vacant : Found → ℕ → LastAddr

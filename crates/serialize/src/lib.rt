@@ -1,13 +1,16 @@
 // The written file: writer.rs, `serialize`, from the lent tables into a lent output.
-use memory::Converter;
-use memory::LastAddr;
-use memory::State;
-use raw::File;
-use raw::Function;
 use raw::Header;
 use raw::Range;
 use raw::SourceLocation;
 use raw::VersionInfo;
+use memory::Converter;
+use memory::LastAddr;
+use memory::State;
+use tables::kinds::call_of_row;
+use tables::kinds::file_of_row;
+use tables::kinds::function_of_row;
+use tables::kinds::location_of_row;
+use tables::kinds::start_of_row;
 use tables::ranges::Found;
 ghost use mathlib.Core.Path.{_≡_};
 ghost use Prim.Native.Nat.{ℕ, _+_, _*_, _≤_, _<_};
@@ -16,7 +19,7 @@ ghost use lib.ListN.{length, take};
 ghost use lib.Seq.{sets};
 ghost use Rattle.model.specs.Basics.{sort};
 ghost use Rattle.slices.specs.Bytes.{Words, tableBytes};
-ghost use Rattle.tables.specs.Plain.{rowsOf};
+ghost use Rattle.tables.specs.Table.{rowsOf};
 ghost use Rattle.sorting.specs.Pairs.{pairWords};
 ghost use Rattle.serialize.specs.Sections.{file-row, function-row, call-row, entries, entry-row, entries-at, entry-location, range-sections, vacant-end, sentinel};
 ghost use Rattle.raw.specs.Rows.{versionInfoBytes, headerBytes};
@@ -202,19 +205,8 @@ fn write_files(out: &mut [u8], at: usize, files: &[u32], count: u32)
 {
     let mut i: u32 = 0;
     while i < count {
-        let r = tables::row_at(files, i);
-        raw::write_file(
-            out,
-            at + (i as usize) * 24,
-            File {
-                comp_dir_offset: r.a,
-                directory_offset: r.b,
-                name_offset: r.c,
-                srcsrv_name_offset: r.d,
-                srcsrv_dir_offset: r.e,
-                srcsrv_revision_offset: r.f,
-            },
-        );
+        let file = file_of_row(tables::row_at(files, i));
+        raw::write_file(out, at + (i as usize) * 24, file);
         i += 1;
     }
 }
@@ -226,17 +218,8 @@ fn write_functions(out: &mut [u8], at: usize, functions: &[u32], count: u32)
 {
     let mut i: u32 = 0;
     while i < count {
-        let r = tables::row_at(functions, i);
-        raw::write_function(
-            out,
-            at + (i as usize) * 16,
-            Function {
-                name_offset: r.a,
-                comp_dir_offset: r.b,
-                entry_pc: r.c,
-                lang: r.d,
-            },
-        );
+        let function = function_of_row(tables::row_at(functions, i));
+        raw::write_function(out, at + (i as usize) * 16, function);
         i += 1;
     }
 }
@@ -248,17 +231,8 @@ fn write_call_locations(out: &mut [u8], at: usize, call_locations: &[u32], count
 {
     let mut i: u32 = 0;
     while i < count {
-        let r = tables::row_at(call_locations, i);
-        raw::write_location(
-            out,
-            at + (i as usize) * 16,
-            SourceLocation {
-                file_idx: r.a,
-                line: r.b,
-                function_idx: r.c,
-                inlined_into_idx: r.d,
-            },
-        );
+        let location = call_of_row(tables::row_at(call_locations, i));
+        raw::write_location(out, at + (i as usize) * 16, location);
         i += 1;
     }
 }
@@ -292,8 +266,8 @@ fn write_entries(out: &mut [u8], at: usize, ranges: &[u32], count: u32)
 {
     let mut i: u32 = 0;
     while i < count {
-        let r = tables::row_at(ranges, i);
-        write_entry(out, at + (i as usize) * 8, r.a, i);
+        let start = start_of_row(tables::row_at(ranges, i));
+        write_entry(out, at + (i as usize) * 8, start, i);
         i += 1;
     }
 }
@@ -334,13 +308,7 @@ fn entry_location(ranges: &[u32], count: u32, start: u32, row: u32) -> SourceLoc
     ensures { λ r. ⌜ r ≡ entry-location (now (ranges .entry)) count (record { from = start; to = row }) ⌝ }
 {
     if row < count {
-        let r = tables::row_at(ranges, row);
-        return SourceLocation {
-            file_idx: r.b,
-            line: r.c,
-            function_idx: r.d,
-            inlined_into_idx: r.e,
-        };
+        return location_of_row(tables::row_at(ranges, row));
     }
     SourceLocation::NO_SOURCE_LOCATION
 }

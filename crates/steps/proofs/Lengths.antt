@@ -16,7 +16,7 @@ use Rattle.tables.specs.declared.Row.{Row}
 use Rattle.tables.specs.declared.Inserted.{Inserted}
 use Rattle.tables.specs.declared.ranges.Was.{Was}
 use Rattle.tables.specs.declared.ranges.Change.{Change}
-use Rattle.tables.proofs.Rows.{length-setRow, length-append}
+use Rattle.table_laws.proofs.Rows.{length-setRow, length-append}
 use Rattle.memory.specs.Memory.{Words}
 use Rattle.steps.specs.Steps.{store, add-function, add-file-row, add-call, put-range, store-six, locate-six, begin-named, functionRow, locationRow, fileRow, over-words}
 use Rattle.steps.proofs.Loops.{Keeps}

@@ -10,7 +10,7 @@ use lib.Seq.{drop-cons, take-all, getD-drop}
 use borrow.Author.Tests.{eq-eqb}
 use Rattle.tables.specs.Table.{sameWords}
 use Rattle.tables.specs.Strings.{four, fourAt}
-use Rattle.tables.proofs.Rows.{words-eq}
+use Rattle.tables.proofs.Words.{words-eq}
 
 next : (t : List ℕ) (i : ℕ) → i < length t → drop i t ≡ getD t i 0 ∷ drop (i + 1) t
 next t i h = rw (add-one i) (drop-cons t i 0 h)

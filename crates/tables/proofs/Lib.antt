@@ -1,12 +1,5 @@
 pub mod Room
 pub mod Walk
-pub mod Chain
+pub mod Words
 pub mod Fours
-pub mod Items
-pub mod Rows
-pub mod Steps
-pub mod Undo
-pub mod Sets
-pub mod Maps
-pub mod Sections
-pub mod TextTables
+pub mod Undone

@@ -10,7 +10,7 @@ use Rattle.tables.specs.Table.{walk}
 le-step : {l i : ℕ} → (l ≡ suc i → ⊥) → l ≤ suc i → l ≤ i
 le-step n h = omega arith
 
-back : (i : ℕ) → suc i - 1 ≡ i
+pub back : (i : ℕ) → suc i - 1 ≡ i
 back i = omega arith
 
 module _ (link : ℕ → ℕ) (hit : ℕ → Bool) (d : ℕ) where

@@ -1,5 +1,5 @@
 pub mod Table
+pub mod Kinds
 pub mod Ranges
 pub mod Strings
-pub mod Plain
-pub mod PlainTexts
+pub mod Undo

@@ -1,27 +1,18 @@
--- A table as the Rust's `BTreeMap<u32, SourceLocation>`, used by exact key alone: a row's first word is the start, its next four are the location.
+-- A table as the Rust's `BTreeMap<u32, SourceLocation>`, used by exact key alone: a row's first word, its start, is its key.
 use Prim.Native.Nat.{ℕ}
 use mathlib.Core.List.{List}
 use mathlib.Core.Bool.{cond}
 use lib.Dec.{ltb}
 use lib.ListN.{length}
 use Rattle.tables.specs.Table.{rowAt, setRow, sameRow, capacityOf, lookupOf, insertOf, Left, left}
+pub use Rattle.tables.specs.Kinds.{rangeRow, locationOf, startRow}
 use Rattle.tables.specs.declared.Row.{Row}
 use Rattle.tables.specs.declared.Inserted.{Inserted}
-use Rattle.raw.specs.declared.SourceLocation.{SourceLocation}
 use Rattle.tables.specs.declared.ranges.Found.{Found}
 use Rattle.tables.specs.declared.ranges.Found.the-variants.{Absent, At}
 use Rattle.tables.specs.declared.ranges.Was.{Was}
 use Rattle.tables.specs.declared.ranges.Was.the-variants.{Vacant, Same, Changed}
 use Rattle.tables.specs.declared.ranges.Change.{Change}
-
-abbrev pub rangeRow : ℕ → SourceLocation → Row
-rangeRow s l = record { a = s; b = l .«file_idx»; c = l .line; d = l .«function_idx»; e = l .«inlined_into_idx»; f = 0 }
-
-abbrev pub locationOf : Row → SourceLocation
-locationOf r = record { «file_idx» = r .b; line = r .c; «function_idx» = r .d; «inlined_into_idx» = r .e }
-
-abbrev pub startRow : ℕ → Row
-startRow s = record { a = s; b = 0; c = 0; d = 0; e = 0; f = 0 }
 
 -- `BTreeMap::get`
 unfoldable pub getOf : List ℕ → ℕ → ℕ → Found

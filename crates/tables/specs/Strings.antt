@@ -1,5 +1,5 @@
 -- The string table (document 01, "Texts"): the bytes of the string section, and an index of its texts, for any content and any counts. The Rust's `StringTable` keeps a
--- hash map; here the index is one more table. A row of it says where the text's length prefix begins, where its bytes begin, how many there are, and its hash.
+-- hash map; here the index is one more table, with a row for each text.
 use Prim.Native.Nat.{ℕ, _+_, _*_, _/_, _%_, _<_}
 use mathlib.Core.Path.{_≡_}
 use mathlib.Core.List.{List, [], _∷_, _++_}
@@ -9,6 +9,7 @@ use lib.ListN.{length, getD, take, drop}
 use lib.Seq.{sets}
 use Rattle.text.specs.Leb128.{encoded}
 use Rattle.tables.specs.Table.{rowAt, linkAt, headAt, appendOf, overOf, capacityOf, bucketOf, sameWords, walk}
+use Rattle.tables.specs.Kinds.{rowOfText, textOfRow}
 use Rattle.tables.specs.declared.Row.{Row}
 use Rattle.tables.specs.declared.strings.Stored.{Stored}
 
@@ -57,11 +58,13 @@ textHash t = hashFrom (length t) t % 4294967291
 
 -- the row of the text t whose prefix begins at the offset
 unfoldable pub textRow : ℕ → List ℕ → Row
-textRow offset t = record { a = offset; b = offset + length (encoded (length t)); c = length t; d = textHash t; e = 0; f = 0 }
+textRow offset t = rowOfText (record { offset = offset; start = offset + length (encoded (length t)); len = length t; hash = textHash t })
 
 -- a row's text is t: hash, length, and then all the bytes are compared
 unfoldable pub isText : List ℕ → List ℕ → Row → Bool
-isText text t r = eqb (r .d) (textHash t) && (eqb (r .c) (length t) && sameWords (take (length t) (drop (r .b) text)) t)
+isText text t r =
+    eqb (textOfRow r .hash) (textHash t)
+    && (eqb (textOfRow r .len) (length t) && sameWords (take (length t) (drop (textOfRow r .start) text)) t)
 
 unfoldable pub textAt : List ℕ → List ℕ → List ℕ → ℕ → Bool
 textAt text strings t i = isText text t (rowAt strings i)
@@ -76,7 +79,8 @@ findText text strings n t = walk (linkAt strings) (textAt text strings t) n n (n
 
 -- row n, at the head of its hash's bucket
 unfoldable pub indexOf : ℕ → List ℕ → ℕ → Row → List ℕ
-indexOf cap strings n r = appendOf cap strings n r (headAt cap strings (bucketOf (r .d) cap)) (bucketOf (r .d) cap)
+indexOf cap strings n r =
+    appendOf cap strings n r (headAt cap strings (bucketOf (textOfRow r .hash) cap)) (bucketOf (textOfRow r .hash) cap)
 
 -- ── Storing ────────────────────────────────────────────────────────────────────────────────────────────────────────────
 
@@ -107,7 +111,7 @@ storeOf text strings bytes count t =
 -- with the row found at hand
 unfoldable pub insertTextAt : List ℕ → List ℕ → ℕ → ℕ → List ℕ → ℕ → StringsLeft
 insertTextAt text strings bytes count t i =
-    cond (ltb i count) (stringsLeft (stored (rowAt strings i .a) bytes count) text strings) (storeOf text strings bytes count t)
+    cond (ltb i count) (stringsLeft (stored (textOfRow (rowAt strings i) .offset) bytes count) text strings) (storeOf text strings bytes count t)
 
 -- "A text is stored once"; "An empty text takes offset MAX"
 unfoldable pub insertTextOf : List ℕ → List ℕ → ℕ → ℕ → List ℕ → StringsLeft

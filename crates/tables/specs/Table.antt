@@ -38,6 +38,14 @@ linkAt t i = getD t (i * 7 + 6) 0
 unfoldable pub headAt : ℕ → List ℕ → ℕ → ℕ
 headAt cap t h = getD t (cap * 7 + h) 0
 
+-- n rows of the table, from row k on; the first n rows
+unfoldable pub rowsFrom : List ℕ → ℕ → ℕ → List Row
+rowsFrom t k zero = []
+rowsFrom t k (suc n) = rowAt t k ∷ rowsFrom t (suc k) n
+
+abbrev pub rowsOf : List ℕ → ℕ → List Row
+rowsOf t n = rowsFrom t 0 n
+
 -- row i becomes r
 unfoldable pub setRow : List ℕ → ℕ → Row → List ℕ
 setRow t i r = sets t (i * 7) (rowWords r)

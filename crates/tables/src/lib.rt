@@ -7,11 +7,15 @@
 ghost use mathlib.Core.Path.{_≡_};
 ghost use Prim.Native.Nat.{_<_, _≤_};
 ghost use lib.ListN.{length, getD, set};
-ghost use Rattle.tables.specs.Table.{rowAt, setRow, keyOf, sameRow, capacityOf, hashOf, bucketOf, linkAt, headAt, hitAt, walk, appendOf, newestOf, lookupOf, overOf, insertOf, left};
+ghost use lib.Seq.{sets};
+ghost use Rattle.tables.specs.Table.{wordsAt, rowWords, rowOf, rowAt, setRow, keyOf, sameRow, capacityOf, hashOf, bucketOf, linkAt, headAt, hitAt, walk, appendOf, newestOf, lookupOf, overOf, insertOf, left};
 
 pub mod index_set;
+pub mod journal;
+pub mod kinds;
 pub mod ranges;
 pub mod strings;
+pub mod undo;
 
 // The six words of a row.
 pub struct Row {
@@ -21,6 +25,17 @@ pub struct Row {
     pub d: u32,
     pub e: u32,
     pub f: u32,
+}
+
+impl Row {
+    pub const ZERO: Row = Row {
+        a: 0,
+        b: 0,
+        c: 0,
+        d: 0,
+        e: 0,
+        f: 0,
+    };
 }
 
 // The number of an item, and how many items there are now.
@@ -44,7 +59,14 @@ pub fn capacity(t: &[u32]) -> u32
 pub fn row_at(t: &[u32], i: u32) -> Row
     ensures { λ r. ⌜ r ≡ rowAt (now (t .entry)) i ⌝ }
 {
-    let k0 = (i as usize) * 7;
+    six(t, (i as usize) * 7)
+}
+
+// The six words from k0 on.
+fn six(t: &[u32], k0: usize) -> Row
+    requires { ⌜ k0 < 68719476736 ⌝ }
+    ensures { λ r. ⌜ r ≡ rowOf (wordsAt (now (t .entry)) k0 6) ⌝ }
+{
     let k1 = k0 + 1;
     let k2 = k1 + 1;
     let k3 = k2 + 1;
@@ -73,7 +95,14 @@ pub fn row_at(t: &[u32], i: u32) -> Row
 fn set_row(t: &mut [u32], i: u32, r: Row)
     ensures { λ _. ⌜ now (t .exit) ≡ setRow (now (t .entry)) i r ⌝ }
 {
-    let k0 = (i as usize) * 7;
+    set_six(t, (i as usize) * 7, r);
+}
+
+// The six words from k0 on become r.
+fn set_six(t: &mut [u32], k0: usize, r: Row)
+    requires { ⌜ k0 < 68719476736 ⌝ }
+    ensures { λ _. ⌜ now (t .exit) ≡ sets (now (t .entry)) k0 (rowWords r) ⌝ }
+{
     let k1 = k0 + 1;
     let k2 = k1 + 1;
     let k3 = k2 + 1;

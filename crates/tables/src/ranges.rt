@@ -1,11 +1,14 @@
 // A BTreeMap from starts to source locations, by exact key only: rows in order of insertion, found by their first word.
 use crate::Row;
+use crate::kinds::location_of_row;
+use crate::kinds::row_of_range;
+use crate::kinds::row_of_start;
 use raw::SourceLocation;
 ghost use mathlib.Core.Path.{_≡_};
 ghost use Rattle.tables.specs.Table.{newestOf, left};
 ghost use Rattle.tables.specs.Ranges.{startRow, getOf, putOf, replaceOf, rangeRow};
 
-// What a start holds: words b to e of its row.
+// What a start holds.
 pub enum Found {
     Absent,
     At(SourceLocation),
@@ -29,45 +32,16 @@ pub struct Change {
 pub fn newest(t: &[u32], start: u32) -> u32
     ensures { λ r. ⌜ r ≡ newestOf 1 (now (t .entry)) (startRow start) ⌝ }
 {
-    crate::newest(
-        t,
-        Row {
-            a: start,
-            b: 0,
-            c: 0,
-            d: 0,
-            e: 0,
-            f: 0,
-        },
-        1,
-    )
+    crate::newest(t, row_of_start(start), 1)
 }
 
 // The location at a start.
 pub fn get(t: &[u32], count: u32, start: u32) -> Found
     ensures { λ r. ⌜ r ≡ getOf (now (t .entry)) count start ⌝ }
 {
-    let i = crate::lookup(
-        t,
-        count,
-        Row {
-            a: start,
-            b: 0,
-            c: 0,
-            d: 0,
-            e: 0,
-            f: 0,
-        },
-        1,
-    );
+    let i = crate::lookup(t, count, row_of_start(start), 1);
     if i < count {
-        let r = crate::row_at(t, i);
-        return Found::At(SourceLocation {
-            file_idx: r.b,
-            line: r.c,
-            function_idx: r.d,
-            inlined_into_idx: r.e,
-        });
+        return Found::At(location_of_row(crate::row_at(t, i)));
     }
     Found::Absent
 }
@@ -84,14 +58,7 @@ pub fn put(t: &mut [u32], count: u32, start: u32, loc: SourceLocation) -> Change
             was: Was::Vacant,
         };
     }
-    let row = Row {
-        a: start,
-        b: loc.file_idx,
-        c: loc.line,
-        d: loc.function_idx,
-        e: loc.inlined_into_idx,
-        f: 0,
-    };
+    let row = row_of_range(start, loc);
     let got = crate::insert(t, count, row, 1);
     let index = got.index;
     if index < count {

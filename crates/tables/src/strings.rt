@@ -1,6 +1,8 @@
 // The string table: each text once, its length as LEB128 and then its bytes, one after the other in the string section.
-// A table indexes the texts. A row has four words: where the text's prefix begins, where its bytes begin, how many there are, and the text's hash.
-use crate::Row;
+// A table indexes the texts, with a row for each.
+use crate::kinds::IndexedText;
+use crate::kinds::row_of_text;
+use crate::kinds::text_of_row;
 use text::leb128::leb128_len;
 use text::leb128::write_leb128;
 ghost use mathlib.Core.Path.{_≡_};
@@ -10,6 +12,7 @@ ghost use lib.Dec.{leb, ltb};
 ghost use lib.ListN.{length, getD, take, drop};
 ghost use lib.Seq.{sets};
 ghost use Rattle.text.specs.Leb128.{encoded};
+ghost use Rattle.tables.specs.Kinds.{rowOfText};
 ghost use Rattle.tables.specs.Table.{linkAt, sameWords, walk};
 ghost use Rattle.tables.specs.Strings.{textCapacityOf, storedText, mixed, fourAt, hashFrom, textHash, textAt, newestText, findText, indexOf, fullOf, storeOf, insertTextOf, stringsLeft};
 
@@ -46,9 +49,9 @@ pub fn insert(text: &mut [u8], strings: &mut [u32], bytes: u32, count: u32, t: &
     let hash = hash(t);
     let i = find(text, strings, count, t, hash);
     if i < count {
-        let row = crate::row_at(strings, i);
+        let found = text_of_row(crate::row_at(strings, i));
         return Stored {
-            offset: row.a,
+            offset: found.offset,
             bytes,
             count,
         };
@@ -79,13 +82,11 @@ fn store(
             strings,
             cap,
             count,
-            Row {
-                a: bytes,
-                b: start as u32,
-                c: t.len() as u32,
-                d: hash,
-                e: 0,
-                f: 0,
+            IndexedText {
+                offset: bytes,
+                start: start as u32,
+                len: t.len() as u32,
+                hash,
             },
         );
         return Stored {
@@ -162,14 +163,14 @@ fn copy(text: &mut [u8], start: usize, t: &[u8])
     }
 }
 
-// Row n, at the head of the bucket of its hash.
-fn index(strings: &mut [u32], cap: u32, n: u32, row: Row)
+// Row n, at the head of the bucket of its text's hash.
+fn index(strings: &mut [u32], cap: u32, n: u32, text: IndexedText)
     requires { ⌜ n < 16777216 ⌝ }
-    ensures { λ _. ⌜ now (strings .exit) ≡ indexOf cap (now (strings .entry)) n row ⌝ }
+    ensures { λ _. ⌜ now (strings .exit) ≡ indexOf cap (now (strings .entry)) n (rowOfText text) ⌝ }
 {
-    let h = crate::bucket(row.d, cap);
+    let h = crate::bucket(text.hash, cap);
     let link = crate::head_at(strings, cap, h);
-    crate::append(strings, cap, n, row, link, h);
+    crate::append(strings, cap, n, row_of_text(text), link, h);
 }
 
 // The number + 1 of the newest row in the bucket of t, which may be t's; 0 where there is none.
@@ -214,10 +215,10 @@ fn is_text(text: &[u8], strings: &[u32], i: u32, t: &[u8], hash: u32) -> bool
     requires { ⌜ hash ≡ textHash (now t) ⌝ }
     ensures { λ r. ⌜ r ≡ textAt (now (text .entry)) (now (strings .entry)) (now (t .entry)) i ⌝ }
 {
-    let row = crate::row_at(strings, i);
-    if row.d == hash {
-        if row.c as usize == t.len() {
-            return same_at(text, row.b as usize, t);
+    let found = text_of_row(crate::row_at(strings, i));
+    if found.hash == hash {
+        if found.len as usize == t.len() {
+            return same_at(text, found.start as usize, t);
         }
     }
     false

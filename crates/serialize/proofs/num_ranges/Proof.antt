@@ -4,15 +4,6 @@ use native.Mathlib.Nat.{add-zero}
 use Rattle.serialize.proofs.num_ranges.Statement.{statement}
 use Rattle.serialize.proofs.num_ranges.Tie as tie
 
-enum-told : tie.Need-enum-told
-enum-told c = search needs
-
-enum-told-2 : tie.Need-enum-told-2
-enum-told-2 c = search needs
-
-add-result : tie.Need-add-result
-add-result c = search needs
-
 returns : tie.Need-returns
 returns c = rw (c .enum-told .given .1, add-zero)
 
@@ -20,4 +11,4 @@ returns-2 : tie.Need-returns-2
 returns-2 c = rw (c .enum-told2 .given .1)
 
 pub num-ranges-spec : {M : Type 1} → statement M
-num-ranges-spec = tie.close (tie.spec enum-told enum-told-2 add-result returns returns-2)
+num-ranges-spec = tie.close (tie.spec (λ c. search needs) (λ c. search needs) (λ c. search needs) returns returns-2)

@@ -10,24 +10,15 @@ use Rattle.serialize.proofs.serialize.Tie as tie
 returns : tie.Need-returns
 returns c = let a = c .before .before .before .before .before .before .before .before .before .before .args in closed (a .converter) (memory (a .string-bytes .now) (a .strings .now) (a .files .now) (a .functions .now) (a .call-locations .now) (a .ranges .now)) (a .out .now) (c .if1 .taken)
 
-fits-requires : tie.Need-fits-requires
-fits-requires c κs = search needs
-
 returns-2 : tie.Need-returns-2
 returns-2 c =
     let a = c .before .before .before .before .before .before .before .before .before .before .before .before .args in
     over (a .converter) (memory (a .string-bytes .now) (a .strings .now) (a .files .now) (a .functions .now) (a .call-locations .now) (a .ranges .now)) (a .out .now) (c .before .before .if1 .left) (c .before .fits2 .result) (c .before .fits2 .ensures) (c .if2 .taken)
 
-vacant-end-requires : tie.Need-vacant-end-requires
-vacant-end-requires c κs = search needs
-
 num-ranges-requires : tie.Need-num-ranges-requires
 num-ranges-requires c κs =
     let a = c .before .before .before .before .before .before .before .before .before .before .before .before .before .args in
     counts (a .converter) (memory (a .string-bytes .now) (a .strings .now) (a .files .now) (a .functions .now) (a .call-locations .now) (a .ranges .now)) (c .before .before .fits2 .result) (c .before .before .fits2 .ensures) (c .before .if2 .left) .ranges
-
-lay-out-requires : tie.Need-lay-out-requires
-lay-out-requires c κs = search needs
 
 returns-3 : tie.Need-returns-3
 returns-3 c =
@@ -47,9 +38,6 @@ write-sections-requires c κs =
     (c .before .before .before .before .vacant-end .result) (c .before .before .before .before .vacant-end .ensures) (c .before .before .before .num-ranges .result) (c .before .before .before .num-ranges .ensures)
     (c .before .before .lay-out .result) (c .before .before .lay-out .ensures) (c .before .if3 .left)
 
-same-length : tie.Need-same-length
-same-length c = search needs
-
 returns-4 : tie.Need-returns-4
 returns-4 c =
     let a = c .before .before .before .before .before .before .before .before .before .before .before .before .before .before .before .before .before .before .before .before .args in
@@ -64,12 +52,12 @@ serialize-spec =
     tie.close
     (tie.spec
     returns
-    fits-requires
+    (λ c κs. search needs)
     returns-2
-    vacant-end-requires
+    (λ c κs. search needs)
     num-ranges-requires
-    lay-out-requires
+    (λ c κs. search needs)
     returns-3
     write-sections-requires
-    same-length
+    (λ c. search needs)
     returns-4)

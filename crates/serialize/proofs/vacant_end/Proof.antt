@@ -20,24 +20,6 @@ module _ (last : LastAddr) (t : List ℕ) (n a : ℕ) (f : Found) (h : last ≡ 
   taken : (l : SourceLocation) → f ≡ At l → Unset ≡ vacant-end last t n
   taken l e = rw (h, ← g, e)
 
-enum-told : tie.Need-enum-told
-enum-told c = search needs
-
-enum-known-last : tie.Need-enum-known-last
-enum-known-last c = search needs
-
-get-requires : tie.Need-get-requires
-get-requires c κs = search needs
-
-enum-told-2 : tie.Need-enum-told-2
-enum-told-2 c = search needs
-
-enum-told-3 : tie.Need-enum-told-3
-enum-told-3 c = search needs
-
-returns : tie.Need-returns
-returns c = search needs
-
 returns-2 : tie.Need-returns-2
 returns-2 c =
     let a = c .before .before .before .before .before .before .before .args in
@@ -54,11 +36,7 @@ pub vacant-end-spec : {M : Type 1} → statement M
 vacant-end-spec =
     tie.close
     (tie.spec
-    enum-told
-    enum-known-last
-    get-requires
-    enum-told-2
-    enum-told-3
-    returns
+    (λ c. search needs) (λ c. search needs) (λ c κs. search needs) (λ c. search needs) (λ c. search needs)
+    (λ c. search needs)
     returns-2
     returns-3)

@@ -6,7 +6,9 @@ use lib.ListN.{length}
 use lib.Seq.{sets, length-sets}
 use borrow.Author.Needs.{needs}
 use Rattle.slices.specs.Bytes.{tableBytes}
-use Rattle.tables.specs.Plain.{rowsFrom, rowsOf}
+use Rattle.raw.specs.Rows.{locationBytes}
+use Rattle.raw.specs.declared.SourceLocation.{SourceLocation}
+use Rattle.tables.specs.Table.{rowsFrom, rowsOf}
 use Rattle.serialize.specs.Sections.{call-row}
 use Rattle.serialize.proofs.Rows.{length-call-row, rows-turn}
 use Rattle.serialize.proofs.write_call_locations.Statement.{statement}
@@ -22,34 +24,23 @@ loop-holds : tie.Need-loop-holds Inv-loop μ-loop
 unfolding tableBytes rowsFrom
 loop-holds c = (omega arith, refl)
 
-row-at-requires : tie.Need-row-at-requires Inv-loop μ-loop
-row-at-requires c κs = search needs
+-- in the loop's body
+abbrev turn : tie.After-call-of-row Inv-loop μ-loop → tie.At-loop Inv-loop μ-loop
+turn c = c .before .before .before
 
-cast-write-location : tie.Need-cast-write-location Inv-loop μ-loop
-cast-write-location c = omega arith
-
-mul-write-location : tie.Need-mul-write-location Inv-loop μ-loop
-mul-write-location c = omega arith
-
-add-write-location : tie.Need-add-write-location Inv-loop μ-loop
-add-write-location c = omega arith
-
-write-location-requires : tie.Need-write-location-requires Inv-loop μ-loop
-write-location-requires c κs = search needs
-
-add-i : tie.Need-add-i Inv-loop μ-loop
-add-i c = omega arith
-
-loop-less : tie.Need-loop-less Inv-loop μ-loop
-loop-less c = omega arith
+abbrev start : tie.At-loop Inv-loop μ-loop → tie.Start Inv-loop μ-loop
+start c = c .before .before .before
 
 loop-again : tie.Need-loop-again Inv-loop μ-loop
 unfolding call-row
 loop-again c =
-    let l = c .before .before .before .before .before .before .loop in
-    let a = c .before .before .before .before .before .before .before .before .before .args in
-    let row = c .before .before .before .before .row-at in
-    (omega arith, rows-turn call-row 16 length-call-row (a .out .now) (l .out) _ (a .at) (a .at + l .i * 16) (a .call-locations .now) (l .i) (row .result) (row .ensures) (omega arith) (l .inv .1) (c .before .before .write-location .ensures))
+    let x = c .before .before .before .before in
+    let row = x .before .row-at in
+    let l = turn x .loop in
+    let a = start (turn x) .args in
+    let to = a .at + l .i * 16 in
+    let stored = (c .before .before .write-location .ensures) ∙ ap (λ (y : SourceLocation). sets (l .out) to (locationBytes y)) (x .call-of-row .ensures) in
+    (omega arith, rows-turn call-row 16 length-call-row (a .out .now) (l .out) _ (a .at) to (a .call-locations .now) (l .i) (row .result) (row .ensures) (omega arith) (l .inv .1) stored)
 
 same-length : tie.Need-same-length Inv-loop μ-loop
 same-length c = ap length (c .before .loop .inv .1) ∙ simp length-sets
@@ -63,4 +54,12 @@ returns c =
 pub write-call-locations-spec : {M : Type 1} → statement M
 write-call-locations-spec =
     tie.close
-    (tie.spec Inv-loop μ-loop loop-holds row-at-requires cast-write-location mul-write-location add-write-location write-location-requires add-i loop-less loop-again same-length returns)
+    (tie.spec
+    Inv-loop
+    μ-loop
+    loop-holds
+    (λ c κs. search needs) (λ c κs. search needs) (λ c. omega arith) (λ c. omega arith) (λ c. omega arith) (λ c κs. search needs)
+    (λ c. omega arith) (λ c. omega arith)
+    loop-again
+    same-length
+    returns)

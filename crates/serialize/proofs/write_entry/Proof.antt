@@ -4,18 +4,6 @@ use Rattle.serialize.proofs.Rows.{entry-stored}
 use Rattle.serialize.proofs.write_entry.Statement.{statement}
 use Rattle.serialize.proofs.write_entry.Tie as tie
 
-write-range-requires : tie.Need-write-range-requires
-write-range-requires c κs = search needs
-
-add-write-range : tie.Need-add-write-range
-add-write-range c = search needs
-
-write-range-requires-2 : tie.Need-write-range-requires-2
-write-range-requires-2 c κs = search needs
-
-same-length : tie.Need-same-length
-same-length c = search needs
-
 returns : tie.Need-returns
 returns c =
     let a = c .before .before .before .before .before .before .before .before .before .args in
@@ -24,4 +12,4 @@ returns c =
 pub write-entry-spec : {M : Type 1} → statement M
 write-entry-spec =
     tie.close
-    (tie.spec write-range-requires add-write-range write-range-requires-2 same-length returns)
+    (tie.spec (λ c κs. search needs) (λ c. search needs) (λ c κs. search needs) (λ c. search needs) returns)

@@ -6,7 +6,9 @@ use lib.ListN.{length}
 use lib.Seq.{sets, length-sets}
 use borrow.Author.Needs.{needs}
 use Rattle.slices.specs.Bytes.{tableBytes}
-use Rattle.tables.specs.Plain.{rowsFrom, rowsOf}
+use Rattle.raw.specs.Rows.{fileBytes}
+use Rattle.raw.specs.declared.File.{File}
+use Rattle.tables.specs.Table.{rowsFrom, rowsOf}
 use Rattle.serialize.specs.Sections.{file-row}
 use Rattle.serialize.proofs.Rows.{length-file-row, rows-turn}
 use Rattle.serialize.proofs.write_files.Statement.{statement}
@@ -22,34 +24,23 @@ loop-holds : tie.Need-loop-holds Inv-loop μ-loop
 unfolding tableBytes rowsFrom
 loop-holds c = (omega arith, refl)
 
-row-at-requires : tie.Need-row-at-requires Inv-loop μ-loop
-row-at-requires c κs = search needs
+-- in the loop's body
+abbrev turn : tie.After-file-of-row Inv-loop μ-loop → tie.At-loop Inv-loop μ-loop
+turn c = c .before .before .before
 
-cast-write-file : tie.Need-cast-write-file Inv-loop μ-loop
-cast-write-file c = omega arith
-
-mul-write-file : tie.Need-mul-write-file Inv-loop μ-loop
-mul-write-file c = omega arith
-
-add-write-file : tie.Need-add-write-file Inv-loop μ-loop
-add-write-file c = omega arith
-
-write-file-requires : tie.Need-write-file-requires Inv-loop μ-loop
-write-file-requires c κs = search needs
-
-add-i : tie.Need-add-i Inv-loop μ-loop
-add-i c = omega arith
-
-loop-less : tie.Need-loop-less Inv-loop μ-loop
-loop-less c = omega arith
+abbrev start : tie.At-loop Inv-loop μ-loop → tie.Start Inv-loop μ-loop
+start c = c .before .before .before
 
 loop-again : tie.Need-loop-again Inv-loop μ-loop
 unfolding file-row
 loop-again c =
-    let l = c .before .before .before .before .before .before .loop in
-    let a = c .before .before .before .before .before .before .before .before .before .args in
-    let row = c .before .before .before .before .row-at in
-    (omega arith, rows-turn file-row 24 length-file-row (a .out .now) (l .out) _ (a .at) (a .at + l .i * 24) (a .files .now) (l .i) (row .result) (row .ensures) (omega arith) (l .inv .1) (c .before .before .write-file .ensures))
+    let x = c .before .before .before .before in
+    let row = x .before .row-at in
+    let l = turn x .loop in
+    let a = start (turn x) .args in
+    let to = a .at + l .i * 24 in
+    let stored = (c .before .before .write-file .ensures) ∙ ap (λ (y : File). sets (l .out) to (fileBytes y)) (x .file-of-row .ensures) in
+    (omega arith, rows-turn file-row 24 length-file-row (a .out .now) (l .out) _ (a .at) to (a .files .now) (l .i) (row .result) (row .ensures) (omega arith) (l .inv .1) stored)
 
 same-length : tie.Need-same-length Inv-loop μ-loop
 same-length c = ap length (c .before .loop .inv .1) ∙ simp length-sets
@@ -63,4 +54,12 @@ returns c =
 pub write-files-spec : {M : Type 1} → statement M
 write-files-spec =
     tie.close
-    (tie.spec Inv-loop μ-loop loop-holds row-at-requires cast-write-file mul-write-file add-write-file write-file-requires add-i loop-less loop-again same-length returns)
+    (tie.spec
+    Inv-loop
+    μ-loop
+    loop-holds
+    (λ c κs. search needs) (λ c κs. search needs) (λ c. omega arith) (λ c. omega arith) (λ c. omega arith) (λ c κs. search needs)
+    (λ c. omega arith) (λ c. omega arith)
+    loop-again
+    same-length
+    returns)

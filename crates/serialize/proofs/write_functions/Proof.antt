@@ -6,7 +6,9 @@ use lib.ListN.{length}
 use lib.Seq.{sets, length-sets}
 use borrow.Author.Needs.{needs}
 use Rattle.slices.specs.Bytes.{tableBytes}
-use Rattle.tables.specs.Plain.{rowsFrom, rowsOf}
+use Rattle.raw.specs.Rows.{functionBytes}
+use Rattle.raw.specs.declared.Function.{Function}
+use Rattle.tables.specs.Table.{rowsFrom, rowsOf}
 use Rattle.serialize.specs.Sections.{function-row}
 use Rattle.serialize.proofs.Rows.{length-function-row, rows-turn}
 use Rattle.serialize.proofs.write_functions.Statement.{statement}
@@ -22,34 +24,23 @@ loop-holds : tie.Need-loop-holds Inv-loop μ-loop
 unfolding tableBytes rowsFrom
 loop-holds c = (omega arith, refl)
 
-row-at-requires : tie.Need-row-at-requires Inv-loop μ-loop
-row-at-requires c κs = search needs
+-- in the loop's body
+abbrev turn : tie.After-function-of-row Inv-loop μ-loop → tie.At-loop Inv-loop μ-loop
+turn c = c .before .before .before
 
-cast-write-function : tie.Need-cast-write-function Inv-loop μ-loop
-cast-write-function c = omega arith
-
-mul-write-function : tie.Need-mul-write-function Inv-loop μ-loop
-mul-write-function c = omega arith
-
-add-write-function : tie.Need-add-write-function Inv-loop μ-loop
-add-write-function c = omega arith
-
-write-function-requires : tie.Need-write-function-requires Inv-loop μ-loop
-write-function-requires c κs = search needs
-
-add-i : tie.Need-add-i Inv-loop μ-loop
-add-i c = omega arith
-
-loop-less : tie.Need-loop-less Inv-loop μ-loop
-loop-less c = omega arith
+abbrev start : tie.At-loop Inv-loop μ-loop → tie.Start Inv-loop μ-loop
+start c = c .before .before .before
 
 loop-again : tie.Need-loop-again Inv-loop μ-loop
 unfolding function-row
 loop-again c =
-    let l = c .before .before .before .before .before .before .loop in
-    let a = c .before .before .before .before .before .before .before .before .before .args in
-    let row = c .before .before .before .before .row-at in
-    (omega arith, rows-turn function-row 16 length-function-row (a .out .now) (l .out) _ (a .at) (a .at + l .i * 16) (a .functions .now) (l .i) (row .result) (row .ensures) (omega arith) (l .inv .1) (c .before .before .write-function .ensures))
+    let x = c .before .before .before .before in
+    let row = x .before .row-at in
+    let l = turn x .loop in
+    let a = start (turn x) .args in
+    let to = a .at + l .i * 16 in
+    let stored = (c .before .before .write-function .ensures) ∙ ap (λ (y : Function). sets (l .out) to (functionBytes y)) (x .function-of-row .ensures) in
+    (omega arith, rows-turn function-row 16 length-function-row (a .out .now) (l .out) _ (a .at) to (a .functions .now) (l .i) (row .result) (row .ensures) (omega arith) (l .inv .1) stored)
 
 same-length : tie.Need-same-length Inv-loop μ-loop
 same-length c = ap length (c .before .loop .inv .1) ∙ simp length-sets
@@ -63,4 +54,12 @@ returns c =
 pub write-functions-spec : {M : Type 1} → statement M
 write-functions-spec =
     tie.close
-    (tie.spec Inv-loop μ-loop loop-holds row-at-requires cast-write-function mul-write-function add-write-function write-function-requires add-i loop-less loop-again same-length returns)
+    (tie.spec
+    Inv-loop
+    μ-loop
+    loop-holds
+    (λ c κs. search needs) (λ c κs. search needs) (λ c. omega arith) (λ c. omega arith) (λ c. omega arith) (λ c κs. search needs)
+    (λ c. omega arith) (λ c. omega arith)
+    loop-again
+    same-length
+    returns)

@@ -6,12 +6,6 @@ use Rattle.serialize.proofs.Rows.{padding-odd, padding-even}
 use Rattle.serialize.proofs.write_padding.Statement.{statement}
 use Rattle.serialize.proofs.write_padding.Tie as tie
 
-write-range-requires : tie.Need-write-range-requires
-write-range-requires c κs = search needs
-
-same-length : tie.Need-same-length
-same-length c = search needs
-
 returns : tie.Need-returns
 returns c =
     let a = c .before .before .before .before .before .before .args in
@@ -21,4 +15,4 @@ returns-2 : tie.Need-returns-2
 returns-2 c = let a = c .before .before .args in rw (padding-even (a .all) (omega arith))
 
 pub write-padding-spec : {M : Type 1} → statement M
-write-padding-spec = tie.close (tie.spec write-range-requires same-length returns returns-2)
+write-padding-spec = tie.close (tie.spec (λ c κs. search needs) (λ c. search needs) returns returns-2)

@@ -7,12 +7,6 @@ use Rattle.serialize.proofs.Whole.{files-fit, functions-fit, calls-fit,
 use Rattle.serialize.proofs.write_sections.Statement.{statement}
 use Rattle.serialize.proofs.write_sections.Tie as tie
 
-lay-out-requires : tie.Need-lay-out-requires
-lay-out-requires c κs = search needs
-
-write-head-requires : tie.Need-write-head-requires
-write-head-requires c κs = search needs
-
 write-files-requires : tie.Need-write-files-requires
 write-files-requires c κs =
     let a = c .before .before .before .before .before .before .before .before .before .before .before .before .before in
@@ -33,16 +27,10 @@ write-sorted-requires c κs =
     let a = c .before .before .before .before .before .before .before .before .before .before .before .before .before .before .before .before .before .before .before .before .before .before .before .before .before in
     (a .pre .size, ranges-fit (a .args .converter .state) (a .args .all) (c .before .before .before .before .before .before .before .before .before .before .before .before .before .before .before .before .before .lay-out .result) (c .before .before .before .before .before .before .before .before .before .before .before .before .before .before .before .before .before .lay-out .ensures) (c .before .before .before .write-call-locations .kept .0 ∙ c .before .before .before .before .before .before .before .write-functions .kept .0 ∙ c .before .before .before .before .before .before .before .before .before .before .before .write-files .kept .0 ∙ c .before .before .before .before .before .before .before .before .before .before .before .before .before .before .before .write-head .kept .0) (a .pre .room))
 
-write-padding-requires : tie.Need-write-padding-requires
-write-padding-requires c κs = search needs
-
 write-texts-requires : tie.Need-write-texts-requires
 write-texts-requires c κs =
     let a = c .before .before .before .before .before .before .before .before .before .before .before .before .before .before .before .before .before .before .before .before .before .before .before .before .before .before .before .before .before .before .before .before .before in
     (a .pre .texts-there, texts-fit (a .args .converter .state) (a .args .all) (c .before .before .before .before .before .before .before .before .before .before .before .before .before .before .before .before .before .before .before .before .before .before .before .before .before .lay-out .result) (c .before .before .before .before .before .before .before .before .before .before .before .before .before .before .before .before .before .before .before .before .before .before .before .before .before .lay-out .ensures) (c .before .before .before .write-padding .kept .0 ∙ c .before .before .before .before .before .before .before .write-sorted .kept .0 ∙ c .before .before .before .before .before .before .before .before .before .before .before .write-call-locations .kept .0 ∙ c .before .before .before .before .before .before .before .before .before .before .before .before .before .before .before .write-functions .kept .0 ∙ c .before .before .before .before .before .before .before .before .before .before .before .before .before .before .before .before .before .before .before .write-files .kept .0 ∙ c .before .before .before .before .before .before .before .before .before .before .before .before .before .before .before .before .before .before .before .before .before .before .before .write-head .kept .0) (a .pre .room))
-
-same-length : tie.Need-same-length
-same-length c = search needs
 
 returns : tie.Need-returns
 returns c =
@@ -70,13 +58,12 @@ pub write-sections-spec : {M : Type 1} → statement M
 write-sections-spec =
     tie.close
     (tie.spec
-    lay-out-requires
-    write-head-requires
+    (λ c κs. search needs) (λ c κs. search needs)
     write-files-requires
     write-functions-requires
     write-call-locations-requires
     write-sorted-requires
-    write-padding-requires
+    (λ c κs. search needs)
     write-texts-requires
-    same-length
+    (λ c. search needs)
     returns)

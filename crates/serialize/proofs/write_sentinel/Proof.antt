@@ -9,12 +9,6 @@ use Rattle.serialize.proofs.Sorted.{sentinel-none, sentinel-one}
 use Rattle.serialize.proofs.write_sentinel.Statement.{statement}
 use Rattle.serialize.proofs.write_sentinel.Tie as tie
 
-enum-told : tie.Need-enum-told
-enum-told c = search needs
-
-enum-known-end : tie.Need-enum-known-end
-enum-known-end c = search needs
-
 write-entry-requires : tie.Need-write-entry-requires
 write-entry-requires c κs =
     let a = c .before .before .before .before .before .args in
@@ -26,9 +20,6 @@ returns c =
     let a = c .before .before .before .args in
     sentinel-none (a .out .now) (a .at) (a .end) (a .count) (c .enum-told .given .1)
 
-same-length : tie.Need-same-length
-same-length c = search needs
-
 returns-2 : tie.Need-returns-2
 returns-2 c =
     let a = c .before .before .before .before .before .before .before .before .args in
@@ -39,4 +30,4 @@ returns-2 c =
 pub write-sentinel-spec : {M : Type 1} → statement M
 write-sentinel-spec =
     tie.close
-    (tie.spec enum-told enum-known-end write-entry-requires returns same-length returns-2)
+    (tie.spec (λ c. search needs) (λ c. search needs) write-entry-requires returns (λ c. search needs) returns-2)

@@ -6,48 +6,6 @@ use borrow.Author.Needs.{needs}
 use Rattle.serialize.proofs.write_sorted.Statement.{statement}
 use Rattle.serialize.proofs.write_sorted.Tie as tie
 
-mul-entries : tie.Need-mul-entries
-mul-entries c = search needs
-
-add-entries : tie.Need-add-entries
-add-entries c = search needs
-
-mul-starts : tie.Need-mul-starts
-mul-starts c = search needs
-
-add-starts : tie.Need-add-starts
-add-starts c = search needs
-
-write-entries-requires : tie.Need-write-entries-requires
-write-entries-requires c κs = search needs
-
-mul-write-sentinel : tie.Need-mul-write-sentinel
-mul-write-sentinel c = search needs
-
-add-write-sentinel : tie.Need-add-write-sentinel
-add-write-sentinel c = search needs
-
-write-sentinel-requires : tie.Need-write-sentinel-requires
-write-sentinel-requires c κs = search needs
-
-sub-sort-entries : tie.Need-sub-sort-entries
-sub-sort-entries c = search needs
-
-part-sort-entries-start : tie.Need-part-sort-entries-start
-part-sort-entries-start c = search needs
-
-part-sort-entries-end : tie.Need-part-sort-entries-end
-part-sort-entries-end c = search needs
-
-sort-entries-requires : tie.Need-sort-entries-requires
-sort-entries-requires c κs = search needs
-
-write-ranges-requires : tie.Need-write-ranges-requires
-write-ranges-requires c κs = search needs
-
-same-length : tie.Need-same-length
-same-length c = search needs
-
 returns : tie.Need-returns
 returns c =
     let a = c .before .before .before .before .before .before .before .before .before .before .before .before .before .before .before .before .before .before .args in
@@ -67,18 +25,7 @@ pub write-sorted-spec : {M : Type 1} → statement M
 write-sorted-spec =
     tie.close
     (tie.spec
-    mul-entries
-    add-entries
-    mul-starts
-    add-starts
-    write-entries-requires
-    mul-write-sentinel
-    add-write-sentinel
-    write-sentinel-requires
-    sub-sort-entries
-    part-sort-entries-start
-    part-sort-entries-end
-    sort-entries-requires
-    write-ranges-requires
-    same-length
+    (λ c. search needs) (λ c. search needs) (λ c. search needs) (λ c. search needs) (λ c κs. search needs)
+    (λ c. search needs) (λ c. search needs) (λ c κs. search needs) (λ c. search needs) (λ c. search needs)
+    (λ c. search needs) (λ c κs. search needs) (λ c κs. search needs) (λ c. search needs)
     returns)

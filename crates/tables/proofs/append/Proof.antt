@@ -12,33 +12,6 @@ append-law : (m : ℕ) (t : List ℕ) (n : ℕ) (q : Row) (l h : ℕ) {t1 t2 t3 
 unfolding appendOf
 append-law m t n q l h e1 e2 e3 = rw (e3, e2, e1)
 
-set-row-requires : tie.Need-set-row-requires
-set-row-requires c κs = search needs
-
-mul-set-word : tie.Need-mul-set-word
-mul-set-word c = search needs
-
-add-set-word : tie.Need-add-set-word
-add-set-word c = search needs
-
-set-word-requires : tie.Need-set-word-requires
-set-word-requires c κs = search needs
-
-mul-set-word-2 : tie.Need-mul-set-word-2
-mul-set-word-2 c = search needs
-
-add-set-word-2 : tie.Need-add-set-word-2
-add-set-word-2 c = search needs
-
-add-set-word-3 : tie.Need-add-set-word-3
-add-set-word-3 c = search needs
-
-set-word-requires-2 : tie.Need-set-word-requires-2
-set-word-requires-2 c κs = search needs
-
-same-length : tie.Need-same-length
-same-length c = search needs
-
 returns : tie.Need-returns
 returns c = let a = c .before .before .before .before .before .before .before .before .before .before .before .before .before .args in append-law (a .cap) (a .t .now) (a .n) (a .row) (a .link) (a .h) (c .before .before .before .before .before .before .before .before .before .before .set-row .ensures) (c .before .before .before .before .before .before .set-word .ensures) (c .before .before .set-word2 .ensures)
 
@@ -46,13 +19,6 @@ pub append-spec : {M : Type 1} → statement M
 append-spec =
     tie.close
     (tie.spec
-    set-row-requires
-    mul-set-word
-    add-set-word
-    set-word-requires
-    mul-set-word-2
-    add-set-word-2
-    add-set-word-3
-    set-word-requires-2
-    same-length
+    (λ c κs. search needs) (λ c. search needs) (λ c. search needs) (λ c κs. search needs) (λ c. search needs)
+    (λ c. search needs) (λ c. search needs) (λ c κs. search needs) (λ c. search needs)
     returns)

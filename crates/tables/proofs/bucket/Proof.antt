@@ -40,14 +40,8 @@ mul-at c = let p = product (c .before .args .hash) (c .before .args .cap) (omega
 add-at : tie.Need-add-at
 add-at c = let p = product (c .before .args .hash) (c .before .args .cap) (omega arith) (omega arith) in omega (arith, p)
 
-cast-result : tie.Need-cast-result
-cast-result c = search needs
-
 returns-2 : tie.Need-returns-2
 returns-2 c = below (c .before .before .args .hash) (c .before .before .args .cap) (c .before .if1 .left) (c .if2 .taken)
-
-rem-result : tie.Need-rem-result
-rem-result c = search needs
 
 cast-result-2 : tie.Need-cast-result-2
 cast-result-2 c = let p = less (c .before .before .args .hash) (c .before .before .args .cap) (c .before .if1 .left) in omega (arith, p)
@@ -56,4 +50,4 @@ returns-3 : tie.Need-returns-3
 returns-3 c = some (c .before .before .args .hash) (c .before .before .args .cap) (c .before .if1 .left)
 
 pub bucket-spec : {M : Type 1} → statement M
-bucket-spec = tie.close (tie.spec returns mul-at add-at cast-result returns-2 rem-result cast-result-2 returns-3)
+bucket-spec = tie.close (tie.spec returns mul-at add-at (λ c. search needs) returns-2 (λ c. search needs) cast-result-2 returns-3)

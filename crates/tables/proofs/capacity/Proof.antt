@@ -15,9 +15,6 @@ many : (n : ℕ) → 16777216 ≤ n / 8 → 16777216 ≡ capacityOf n
 unfolding capacityOf
 many n h = rw (le-ltb (n / 8) 16777216 h)
 
-cast-result : tie.Need-cast-result
-cast-result c = search needs
-
 returns : tie.Need-returns
 returns c = few (length (c .before .args .t .now)) (c .if1 .taken)
 
@@ -25,4 +22,4 @@ returns-2 : tie.Need-returns-2
 returns-2 c = many (length (c .before .args .t .now)) (c .if1 .left)
 
 pub capacity-spec : {M : Type 1} → statement M
-capacity-spec = tie.close (tie.spec cast-result returns returns-2)
+capacity-spec = tie.close (tie.spec (λ c. search needs) returns returns-2)

@@ -22,16 +22,10 @@ loop-holds c = refl
 sub-i : tie.Need-sub-i Inv-loop μ-loop
 sub-i c = c .before .loop-test .taken
 
-hit-requires : tie.Need-hit-requires Inv-loop μ-loop
-hit-requires c κs = tt
-
 returns : tie.Need-returns Inv-loop μ-loop
 returns c = let a = c .before .before .before .before .before .before .args in
     let l = c .before .before .before .before .loop in
     walk-found (linkAt (a .t .now)) (hitAt (a .t .now) (a .width) (a .k)) (a .n) (l .bound) (l .at) (l .inv) (c .before .before .before .loop-test .taken) (leb-true (l .at) (l .bound) (c .before .before .if1 .taken)) (c .before .hit .ensures) (c .if2 .taken)
-
-link-at-requires : tie.Need-link-at-requires Inv-loop μ-loop
-link-at-requires c κs = tt
 
 loop-less : tie.Need-loop-less Inv-loop μ-loop
 loop-less c = let l = c .before .before .before .before .before .loop in less (c .before .before .before .before .loop-test .taken) (leb-true (l .at) (l .bound) (c .before .before .before .if1 .taken))
@@ -59,9 +53,9 @@ find-spec =
     μ-loop
     loop-holds
     sub-i
-    hit-requires
+    (λ c κs. tt)
     returns
-    link-at-requires
+    (λ c κs. tt)
     loop-less
     loop-again
     returns-2

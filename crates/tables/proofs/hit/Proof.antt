@@ -35,21 +35,6 @@ miss-law : (t : List ℕ) (w : ℕ) (k : Row) (i : ℕ) {a : ℕ} → a ≡ getD
 unfolding hitAt
 miss-law t w k i e n = sym (same-not (keyOf w (rowAt t i)) k (rw (key-first w (rowAt t i), row-first t i, ← e) n))
 
-mul-word : tie.Need-mul-word
-mul-word c = search needs
-
-word-requires : tie.Need-word-requires
-word-requires c κs = search needs
-
-row-at-requires : tie.Need-row-at-requires
-row-at-requires c κs = search needs
-
-key-requires : tie.Need-key-requires
-key-requires c κs = search needs
-
-same-requires : tie.Need-same-requires
-same-requires c κs = search needs
-
 returns : tie.Need-returns
 returns c = let a = c .before .before .before .before .before .before .before .args in hit-law (a .t .now) (a .width) (a .k) (a .i) (c .before .before .row-at .ensures) (c .before .key .ensures) (c .same .ensures)
 
@@ -59,4 +44,4 @@ returns-2 c = let a = c .before .before .before .before .args in miss-law (a .t 
 pub hit-spec : {M : Type 1} → statement M
 hit-spec =
     tie.close
-    (tie.spec mul-word word-requires row-at-requires key-requires same-requires returns returns-2)
+    (tie.spec (λ c. search needs) (λ c κs. search needs) (λ c κs. search needs) (λ c κs. search needs) (λ c κs. search needs) returns returns-2)

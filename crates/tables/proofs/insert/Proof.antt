@@ -34,27 +34,6 @@ few t e = let m = cap-most (length t) in omega arith
 small : (t : List ℕ) {n cap : ℕ} → cap ≡ capacityOf (length t) → n < cap → n < 16777216
 small t e h = let m = cap-most (length t) in omega arith
 
-capacity-requires : tie.Need-capacity-requires
-capacity-requires c κs = search needs
-
-key-requires : tie.Need-key-requires
-key-requires c κs = search needs
-
-hash-requires : tie.Need-hash-requires
-hash-requires c κs = search needs
-
-bucket-requires : tie.Need-bucket-requires
-bucket-requires c κs = search needs
-
-head-at-requires : tie.Need-head-at-requires
-head-at-requires c κs = search needs
-
-find-requires : tie.Need-find-requires
-find-requires c κs = search needs
-
-same-length : tie.Need-same-length
-same-length c = search needs
-
 returns : tie.Need-returns
 returns c =
     let a = c .before .before .before .before .before .before .before .before .before .before .before .args in
@@ -64,12 +43,6 @@ returns c =
 append-requires : tie.Need-append-requires
 append-requires c κs = small (c .before .before .before .before .before .before .before .before .before .before .before .before .before .args .t .now) (c .before .before .before .before .before .before .before .before .before .before .capacity .ensures) (c .before .if2 .taken)
 
-add-t22 : tie.Need-add-t22
-add-t22 c = search needs
-
-same-length-2 : tie.Need-same-length-2
-same-length-2 c = search needs
-
 returns-2 : tie.Need-returns-2
 returns-2 c =
     let a = c .before .before .before .before .before .before .before .before .before .before .before .before .before .before .before .before .args in
@@ -78,9 +51,6 @@ returns-2 c =
 
 over-requires : tie.Need-over-requires
 over-requires c κs = few (c .before .before .before .before .before .before .before .before .before .before .before .before .args .t .now) (c .before .before .before .before .before .before .before .before .before .capacity .ensures)
-
-same-length-3 : tie.Need-same-length-3
-same-length-3 c = search needs
 
 returns-3 : tie.Need-returns-3
 returns-3 c =
@@ -92,18 +62,12 @@ pub insert-spec : {M : Type 1} → statement M
 insert-spec =
     tie.close
     (tie.spec
-    capacity-requires
-    key-requires
-    hash-requires
-    bucket-requires
-    head-at-requires
-    find-requires
-    same-length
+    (λ c κs. search needs) (λ c κs. search needs) (λ c κs. search needs) (λ c κs. search needs) (λ c κs. search needs)
+    (λ c κs. search needs) (λ c. search needs)
     returns
     append-requires
-    add-t22
-    same-length-2
+    (λ c. search needs) (λ c. search needs)
     returns-2
     over-requires
-    same-length-3
+    (λ c. search needs)
     returns-3)

@@ -11,19 +11,10 @@ law : (w : ℕ) (t : List ℕ) (n : ℕ) (q : Row) {k : Row} {l i : ℕ} → l �
 unfolding lookupOf
 law w t n q e1 e2 e3 = rw (e3, e2, e1)
 
-newest-requires : tie.Need-newest-requires
-newest-requires c κs = search needs
-
-key-requires : tie.Need-key-requires
-key-requires c κs = search needs
-
-find-requires : tie.Need-find-requires
-find-requires c κs = search needs
-
 returns : tie.Need-returns
 returns c =
     let a = c .before .before .before .before .args in
     law (a .width) (a .t .now) (a .n) (a .row) (c .before .before .newest .ensures) (c .before .key .ensures) (c .find .ensures)
 
 pub lookup-spec : {M : Type 1} → statement M
-lookup-spec = tie.close (tie.spec newest-requires key-requires find-requires returns)
+lookup-spec = tie.close (tie.spec (λ c κs. search needs) (λ c κs. search needs) (λ c κs. search needs) returns)

@@ -13,25 +13,10 @@ law : (w : ℕ) (t : List ℕ) (q : Row) {k : Row} {cap x h l : ℕ} → cap ≡
 unfolding newestOf
 law w t q e1 e2 e3 e4 e5 = rw (e5, e4, e3, e2, e1)
 
-capacity-requires : tie.Need-capacity-requires
-capacity-requires c κs = search needs
-
-key-requires : tie.Need-key-requires
-key-requires c κs = search needs
-
-hash-requires : tie.Need-hash-requires
-hash-requires c κs = search needs
-
-bucket-requires : tie.Need-bucket-requires
-bucket-requires c κs = search needs
-
-head-at-requires : tie.Need-head-at-requires
-head-at-requires c κs = search needs
-
 returns : tie.Need-returns
 returns c =
     let a = c .before .before .before .before .before .before .args in
     law (a .width) (a .t .now) (a .row) (c .before .before .before .before .capacity .ensures) (c .before .before .before .key .ensures) (c .before .before .hash .ensures) (c .before .bucket .ensures) (c .head-at .ensures)
 
 pub newest-spec : {M : Type 1} → statement M
-newest-spec = tie.close (tie.spec capacity-requires key-requires hash-requires bucket-requires head-at-requires returns)
+newest-spec = tie.close (tie.spec (λ c κs. search needs) (λ c κs. search needs) (λ c κs. search needs) (λ c κs. search needs) (λ c κs. search needs) returns)

@@ -17,11 +17,8 @@ next n cap h = rw (le-ltb cap n h)
 returns : tie.Need-returns
 returns c = above (c .before .args .n) (c .before .args .cap) (c .if1 .taken)
 
-add-result : tie.Need-add-result
-add-result c = search needs
-
 returns-2 : tie.Need-returns-2
 returns-2 c = next (c .before .args .n) (c .before .args .cap) (c .if1 .left)
 
 pub over-spec : {M : Type 1} → statement M
-over-spec = tie.close (tie.spec returns add-result returns-2)
+over-spec = tie.close (tie.spec returns (λ c. search needs) returns-2)

@@ -4,20 +4,8 @@ use borrow.Author.Needs.{needs}
 use Rattle.tables.proofs.set_word.Statement.{statement}
 use Rattle.tables.proofs.set_word.Tie as tie
 
-mul-t : tie.Need-mul-t
-mul-t c = search needs
-
-slice-write-t : tie.Need-slice-write-t
-slice-write-t c = search needs
-
-same-length : tie.Need-same-length
-same-length c = search needs
-
-returns : tie.Need-returns
-returns c = search needs
-
 returns-2 : tie.Need-returns-2
 returns-2 c = sym (set-out _ _ _ (c .if1 .left))
 
 pub set-word-spec : {M : Type 1} → statement M
-set-word-spec = tie.close (tie.spec mul-t slice-write-t same-length returns returns-2)
+set-word-spec = tie.close (tie.spec (λ c. search needs) (λ c. search needs) (λ c. search needs) (λ c. search needs) returns-2)

@@ -1,34 +1,47 @@
 use Prim.Native.Nat.{ℕ, _<_, _≤_}
-use mathlib.Core.Path.{_≡_}
+use mathlib.Core.Path.{_≡_, ap, _∙_}
 use mathlib.Core.List.{List}
 use borrow.Author.Needs.{needs}
 use borrow.Author.Tests.{lt-ltb, le-ltb}
+use Rattle.raw.specs.declared.SourceLocation.{SourceLocation}
 use Rattle.tables.specs.Table.{lookupOf, rowAt}
-use Rattle.tables.specs.Ranges.{getOf, startRow, locationOf}
+use Rattle.tables.specs.Kinds.{startRow, locationOf}
+use Rattle.tables.specs.Ranges.{getOf}
 use Rattle.tables.specs.declared.Row.{Row}
+use Rattle.tables.specs.declared.ranges.Found.{Found}
 use Rattle.tables.specs.declared.ranges.Found.the-variants.{Absent, At}
 use Rattle.tables.proofs.ranges.get.Statement.{statement}
 use Rattle.tables.proofs.ranges.get.Tie as tie
 
-found : (t : List ℕ) (n s : ℕ) {i : ℕ} {r : Row} → i ≡ lookupOf 1 t n (startRow s) → i < n → r ≡ rowAt t i → At (locationOf r) ≡ getOf t n s
-unfolding getOf
-found t n s {i} e h f = rw (← e, lt-ltb i n h, ← f)
+module _ (t : List ℕ) (n s : ℕ) {q : Row} {i : ℕ} (d : q ≡ startRow s) (e : i ≡ lookupOf 1 t n q) where
+  at : i ≡ lookupOf 1 t n (startRow s)
+  at = e ∙ ap (λ (k : Row). lookupOf 1 t n k) d
 
-none : (t : List ℕ) (n s : ℕ) {i : ℕ} → i ≡ lookupOf 1 t n (startRow s) → n ≤ i → Absent ≡ getOf t n s
-unfolding getOf
-none t n s {i} e h = rw (← e, le-ltb i n h)
+  found : i < n → {r : Row} {l : SourceLocation} → r ≡ rowAt t i → l ≡ locationOf r → At l ≡ getOf t n s
+  unfolding getOf
+  found h f g = rw (← at, lt-ltb i n h, ← f) (ap (λ (x : SourceLocation). At x) g)
 
-lookup-requires : tie.Need-lookup-requires
-lookup-requires c κs = search needs
+  none : n ≤ i → Absent ≡ getOf t n s
+  unfolding getOf
+  none h = rw (← at, le-ltb i n h)
 
-row-at-requires : tie.Need-row-at-requires
-row-at-requires c κs = search needs
+abbrev start : tie.After-lookup → tie.Start
+start c = c .before .before .before
 
 returns : tie.Need-returns
-returns c = let a = c .before .before .before .before .args in found (a .t .now) (a .count) (a .start) (c .before .before .lookup .ensures) (c .before .if1 .taken) (c .row-at .ensures)
+returns c =
+    let l = c .before .before .before in
+    let a = start l .args in
+    found (a .t .now) (a .count) (a .start) (l .before .row-of-start .ensures) (l .lookup .ensures)
+    (c .before .before .if1 .taken) (c .before .row-at .ensures) (c .location-of-row .ensures)
 
 returns-2 : tie.Need-returns-2
-returns-2 c = let a = c .before .before .before .args in none (a .t .now) (a .count) (a .start) (c .before .lookup .ensures) (c .if1 .left)
+returns-2 c =
+    let l = c .before in
+    let a = start l .args in
+    none (a .t .now) (a .count) (a .start) (l .before .row-of-start .ensures) (l .lookup .ensures) (c .if1 .left)
 
 pub get-spec : {M : Type 1} → statement M
-get-spec = tie.close (tie.spec lookup-requires row-at-requires returns returns-2)
+get-spec =
+    tie.close
+    (tie.spec (λ c κs. search needs) (λ c κs. search needs) (λ c κs. search needs) (λ c κs. search needs) returns returns-2)

@@ -19,23 +19,8 @@ module _ (t : List ℕ) (i : ℕ) (q : Row) {r : Row} {s : Bool} (e : r ≡ rowA
   unfolding replaceOf
   changed g u = rw (← e, ← f, g, u)
 
-row-at-requires : tie.Need-row-at-requires
-row-at-requires c κs = search needs
-
-same-requires : tie.Need-same-requires
-same-requires c κs = search needs
-
-same-length : tie.Need-same-length
-same-length c = search needs
-
 returns : tie.Need-returns
 returns c = let a = c .before .before .before .before .before .args in kept (a .t .now) (a .i) (a .row) (c .before .before .row-at .ensures) (c .before .same .ensures) (c .if1 .taken)
-
-set-row-requires : tie.Need-set-row-requires
-set-row-requires c κs = search needs
-
-same-length-2 : tie.Need-same-length-2
-same-length-2 c = search needs
 
 returns-2 : tie.Need-returns-2
 returns-2 c =
@@ -43,4 +28,10 @@ returns-2 c =
     changed (a .t .now) (a .i) (a .row) (c .before .before .before .before .before .before .row-at .ensures) (c .before .before .before .before .before .same .ensures) (c .before .before .before .before .if1 .left) (c .before .before .set-row .ensures)
 
 pub replace-spec : {M : Type 1} → statement M
-replace-spec = tie.close (tie.spec row-at-requires same-requires same-length returns set-row-requires same-length-2 returns-2)
+replace-spec =
+    tie.close
+    (tie.spec
+    (λ c κs. search needs) (λ c κs. search needs) (λ c. search needs)
+    returns
+    (λ c κs. search needs) (λ c. search needs)
+    returns-2)

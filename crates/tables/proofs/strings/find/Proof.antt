@@ -13,15 +13,6 @@ law : (text strings : List ℕ) (n : ℕ) (t : List ℕ) {hash cap h l i : ℕ} 
 unfolding findText newestText
 law text strings n t e1 e2 e3 e4 e5 = rw (e5, e4, e3, e2, e1)
 
-capacity-requires : tie.Need-capacity-requires
-capacity-requires c κs = search needs
-
-bucket-requires : tie.Need-bucket-requires
-bucket-requires c κs = search needs
-
-head-at-requires : tie.Need-head-at-requires
-head-at-requires c κs = search needs
-
 follow-requires : tie.Need-follow-requires
 follow-requires c κs = c .before .before .before .before .before .before .pre
 
@@ -31,4 +22,4 @@ returns c =
     law (a .text .now) (a .strings .now) (a .n) (a .t .now) (c .before .before .before .before .before .before .before .pre) (c .before .before .before .capacity .ensures) (c .before .before .bucket .ensures) (c .before .head-at .ensures) (c .follow .ensures)
 
 pub find-spec : {M : Type 1} → statement M
-find-spec = tie.close (tie.spec capacity-requires bucket-requires head-at-requires follow-requires returns)
+find-spec = tie.close (tie.spec (λ c κs. search needs) (λ c κs. search needs) (λ c κs. search needs) follow-requires returns)

@@ -10,9 +10,6 @@ both y e h = rw (← e, h)
 neither : {r x : Bool} (y : Bool) → r ≡ x → r ≡ false → false ≡ (x && y)
 neither y e h = rw (← e, h)
 
-room-requires : tie.Need-room-requires
-room-requires c κs = search needs
-
 returns : tie.Need-returns
 returns c = both _ (c .before .room .ensures) (c .if1 .taken)
 
@@ -20,4 +17,4 @@ returns-2 : tie.Need-returns-2
 returns-2 c = neither _ (c .before .room .ensures) (c .if1 .left)
 
 pub fits-spec : {M : Type 1} → statement M
-fits-spec = tie.close (tie.spec room-requires returns returns-2)
+fits-spec = tie.close (tie.spec (λ c κs. search needs) returns returns-2)

@@ -34,9 +34,6 @@ returns c =
     walk-found (linkAt (a .strings .now)) (textAt (a .text .now) (a .strings .now) (a .t .now)) (a .n) (l .bound) (l .at) (l .inv) (c .before .before .before .loop-test .taken)
     (leb-true (l .at) (l .bound) (c .before .before .if1 .taken)) (c .before .is-text .ensures) (c .if2 .taken)
 
-link-at-requires : tie.Need-link-at-requires Inv-loop μ-loop
-link-at-requires c κs = tt
-
 loop-less : tie.Need-loop-less Inv-loop μ-loop
 loop-less c = let l = c .before .before .before .before .before .loop in less (c .before .before .before .before .loop-test .taken) (leb-true (l .at) (l .bound) (c .before .before .before .if1 .taken))
 
@@ -60,4 +57,4 @@ returns-3 c =
     sym (l .inv ∙ walk-none (linkAt (a .strings .now)) (textAt (a .text .now) (a .strings .now) (a .t .now)) (a .n) (l .bound) (l .at) (c .loop-test .left))
 
 pub follow-spec : {M : Type 1} → statement M
-follow-spec = tie.close (tie.spec Inv-loop μ-loop loop-holds sub-i is-text-requires returns link-at-requires loop-less loop-again returns-2 returns-3)
+follow-spec = tie.close (tie.spec Inv-loop μ-loop loop-holds sub-i is-text-requires returns (λ c κs. tt) loop-less loop-again returns-2 returns-3)

@@ -17,20 +17,11 @@ module _ (bytes count size limit cap : ℕ) {r : Bool} (e : r ≡ leb (bytes + s
   unfolding fullOf
   no-bytes h f = rw (← e, h, f)
 
-room-requires : tie.Need-room-requires
-room-requires c κs = search needs
-
-over-requires : tie.Need-over-requires
-over-requires c κs = search needs
-
 returns : tie.Need-returns
 returns c = let a = c .before .before .before .args in no-row (a .bytes) (a .count) (a .prefix + a .len) (a .limit) (a .cap) (c .before .before .room .ensures) (c .before .if1 .taken) (c .over .ensures)
-
-over-requires-2 : tie.Need-over-requires-2
-over-requires-2 c κs = search needs
 
 returns-2 : tie.Need-returns-2
 returns-2 c = let a = c .before .before .before .args in no-bytes (a .bytes) (a .count) (a .prefix + a .len) (a .limit) (a .cap) (c .before .before .room .ensures) (c .before .if1 .left) (c .over2 .ensures)
 
 pub full-spec : {M : Type 1} → statement M
-full-spec = tie.close (tie.spec room-requires over-requires returns over-requires-2 returns-2)
+full-spec = tie.close (tie.spec (λ c κs. search needs) (λ c κs. search needs) returns (λ c κs. search needs) returns-2)

@@ -29,40 +29,16 @@ abbrev μ-loop : tie.MeasureT-loop
 loop-holds : tie.Need-loop-holds Inv-loop μ-loop
 loop-holds c = (omega arith, refl)
 
-sub-loop : tie.Need-sub-loop Inv-loop μ-loop
-sub-loop c = omega arith
-
-word-requires : tie.Need-word-requires Inv-loop μ-loop
-word-requires c κs = omega arith
-
 mix-requires : tie.Need-mix-requires Inv-loop μ-loop
 mix-requires c κs = c .word .ensures .1
-
-add-i : tie.Need-add-i Inv-loop μ-loop
-add-i c = omega arith
-
-loop-less : tie.Need-loop-less Inv-loop μ-loop
-loop-less c = omega arith
 
 loop-again : tie.Need-loop-again Inv-loop μ-loop
 loop-again c =
     let l = c .before .before .before .loop in
     (omega arith, l .inv .1 ∙ more (c .before .before .before .before .before .args .t .now) (l .x) (l .i) (c .before .before .loop-test .taken) (c .before .word .ensures .0) (c .mix .ensures))
 
-sub-hash-rest : tie.Need-sub-hash-rest Inv-loop μ-loop
-sub-hash-rest c = omega arith
-
-part-hash-rest-start : tie.Need-part-hash-rest-start Inv-loop μ-loop
-part-hash-rest-start c = omega arith
-
-part-hash-rest-end : tie.Need-part-hash-rest-end Inv-loop μ-loop
-part-hash-rest-end c = omega arith
-
 hash-rest-requires : tie.Need-hash-rest-requires Inv-loop μ-loop
 hash-rest-requires c κs = short (c .before .before .before .before .args .t .now) (c .before .before .loop .i) (c .before .loop-test .left)
-
-cast-result : tie.Need-cast-result Inv-loop μ-loop
-cast-result c = omega arith
 
 returns : tie.Need-returns Inv-loop μ-loop
 returns c = let l = c .before .before .before .loop in last (c .before .before .before .before .before .args .t .now) (l .x) (l .i) (l .inv .1) (c .hash-rest .ensures)
@@ -74,15 +50,11 @@ hash-spec =
     Inv-loop
     μ-loop
     loop-holds
-    sub-loop
-    word-requires
+    (λ c. omega arith) (λ c κs. omega arith)
     mix-requires
-    add-i
-    loop-less
+    (λ c. omega arith) (λ c. omega arith)
     loop-again
-    sub-hash-rest
-    part-hash-rest-start
-    part-hash-rest-end
+    (λ c. omega arith) (λ c. omega arith) (λ c. omega arith)
     hash-rest-requires
-    cast-result
+    (λ c. omega arith)
     returns)

@@ -3,31 +3,31 @@ use mathlib.Core.Path.{_≡_}
 use mathlib.Core.List.{List}
 use borrow.Author.Needs.{needs}
 use Rattle.tables.specs.Table.{headAt, bucketOf, appendOf}
+use Rattle.tables.specs.Kinds.{rowOfText}
 use Rattle.tables.specs.Strings.{indexOf}
 use Rattle.tables.specs.declared.Row.{Row}
+use Rattle.tables.specs.declared.kinds.IndexedText.{IndexedText}
 use Rattle.tables.proofs.strings.index.Statement.{statement}
 use Rattle.tables.proofs.strings.index.Tie as tie
 
-law : (cap : ℕ) (t : List ℕ) (n : ℕ) (q : Row) {h l : ℕ} {t₁ : List ℕ} → h ≡ bucketOf (q .d) cap → l ≡ headAt cap t h → t₁ ≡ appendOf cap t n q l h → t₁ ≡ indexOf cap t n q
+law : (cap : ℕ) (t : List ℕ) (n : ℕ) (x : IndexedText) {h l : ℕ} {q : Row} {t₁ : List ℕ}
+    → h ≡ bucketOf (x .hash) cap → l ≡ headAt cap t h → q ≡ rowOfText x → t₁ ≡ appendOf cap t n q l h → t₁ ≡ indexOf cap t n (rowOfText x)
 unfolding indexOf
-law cap t n q e f g = rw (g, f, e)
+law cap t n x e f d g = rw (g, d, f, e)
 
-bucket-requires : tie.Need-bucket-requires
-bucket-requires c κs = search needs
+abbrev headed : tie.After-append → tie.After-head-at
+headed c = c .before .before .before
 
-head-at-requires : tie.Need-head-at-requires
-head-at-requires c κs = search needs
-
-append-requires : tie.Need-append-requires
-append-requires c κs = search needs
-
-same-length : tie.Need-same-length
-same-length c = search needs
+abbrev start : tie.After-bucket → tie.Start
+start c = c .before .before
 
 returns : tie.Need-returns
 returns c =
-    let a = c .before .before .before .before .before .before .before .before .args in
-    law (a .cap) (a .strings .now) (a .n) (a .row) (c .before .before .before .before .before .before .bucket .ensures) (c .before .before .before .before .head-at .ensures) (c .before .before .append .ensures)
+    let added = c .before .before in
+    let head = headed added in
+    let bucket = head .before .before in
+    let a = start bucket .args in
+    law (a .cap) (a .strings .now) (a .n) (a .text) (bucket .bucket .ensures) (head .head-at .ensures) (added .before .row-of-text .ensures) (added .append .ensures)
 
 pub index-spec : {M : Type 1} → statement M
-index-spec = tie.close (tie.spec bucket-requires head-at-requires append-requires same-length returns)
+index-spec = tie.close (tie.spec (λ c κs. search needs) (λ c κs. search needs) (λ c κs. search needs) (λ c κs. search needs) (λ c. search needs) returns)

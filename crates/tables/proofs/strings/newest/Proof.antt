@@ -13,22 +13,10 @@ law : (strings t : List ℕ) {hash cap h l : ℕ} → hash ≡ textHash t → ca
 unfolding newestText
 law strings t e1 e2 e3 e4 = rw (e4, e3, e2, e1)
 
-capacity-requires : tie.Need-capacity-requires
-capacity-requires c κs = search needs
-
-hash-requires : tie.Need-hash-requires
-hash-requires c κs = search needs
-
-bucket-requires : tie.Need-bucket-requires
-bucket-requires c κs = search needs
-
-head-at-requires : tie.Need-head-at-requires
-head-at-requires c κs = search needs
-
 returns : tie.Need-returns
 returns c =
     let a = c .before .before .before .before .before .before .args in
     law (a .strings .now) (a .t .now) (c .before .before .hash .ensures) (c .before .before .before .capacity .ensures) (c .before .bucket .ensures) (c .head-at .ensures)
 
 pub newest-spec : {M : Type 1} → statement M
-newest-spec = tie.close (tie.spec capacity-requires hash-requires bucket-requires head-at-requires returns)
+newest-spec = tie.close (tie.spec (λ c κs. search needs) (λ c κs. search needs) (λ c κs. search needs) (λ c κs. search needs) returns)

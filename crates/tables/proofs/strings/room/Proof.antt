@@ -25,9 +25,6 @@ module _ (bytes prefix len limit : ℕ) where
 returns : tie.Need-returns
 returns c = let a = c .before .args in none (a .bytes) (a .prefix) (a .len) (a .limit) (c .if1 .taken)
 
-cast-left : tie.Need-cast-left
-cast-left c = search needs
-
 returns-2 : tie.Need-returns-2
 returns-2 c = let a = c .before .before .args in short (a .bytes) (a .prefix) (a .len) (a .limit) (c .before .if1 .left) (c .if2 .taken)
 
@@ -35,4 +32,4 @@ returns-3 : tie.Need-returns-3
 returns-3 c = let a = c .before .before .args in rest (a .bytes) (a .prefix) (a .len) (a .limit) (c .before .if1 .left) (c .if2 .left)
 
 pub room-spec : {M : Type 1} → statement M
-room-spec = tie.close (tie.spec returns cast-left returns-2 returns-3)
+room-spec = tie.close (tie.spec returns (λ c. search needs) returns-2 returns-3)

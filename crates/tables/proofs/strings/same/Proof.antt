@@ -22,50 +22,17 @@ abbrev μ-loop : tie.MeasureT-loop
 loop-holds : tie.Need-loop-holds Inv-loop μ-loop
 loop-holds c = (omega arith, refl)
 
-sub-loop : tie.Need-sub-loop Inv-loop μ-loop
-sub-loop c = omega arith
-
-word-requires : tie.Need-word-requires Inv-loop μ-loop
-word-requires c κs = omega arith
-
-word-requires-2 : tie.Need-word-requires-2 Inv-loop μ-loop
-word-requires-2 c κs = omega arith
-
 returns : tie.Need-returns Inv-loop μ-loop
 returns c =
     let a = c .before .before .before .before .before .before .before .args in
     let l = c .before .before .before .before .loop in
     sym (l .inv .1 ∙ fours-differ (a .x .now) (a .y .now) (l .i) (c .before .before .word .ensures) (c .before .word2 .ensures) (c .if1 .taken))
 
-add-i : tie.Need-add-i Inv-loop μ-loop
-add-i c = omega arith
-
-loop-less : tie.Need-loop-less Inv-loop μ-loop
-loop-less c = omega arith
-
 loop-again : tie.Need-loop-again Inv-loop μ-loop
 loop-again c =
     let a = c .before .before .before .before .before .before .before .args in
     let l = c .before .before .before .before .loop in
     (omega arith, l .inv .1 ∙ fours-same (a .x .now) (a .y .now) (l .i) (c .before .before .word .ensures) (c .before .word2 .ensures) (omega arith) (omega arith) (c .if1 .left))
-
-sub-same-rest : tie.Need-sub-same-rest Inv-loop μ-loop
-sub-same-rest c = omega arith
-
-part-same-rest-start : tie.Need-part-same-rest-start Inv-loop μ-loop
-part-same-rest-start c = omega arith
-
-part-same-rest-end : tie.Need-part-same-rest-end Inv-loop μ-loop
-part-same-rest-end c = omega arith
-
-sub-same-rest-2 : tie.Need-sub-same-rest-2 Inv-loop μ-loop
-sub-same-rest-2 c = omega arith
-
-part-same-rest-start-2 : tie.Need-part-same-rest-start-2 Inv-loop μ-loop
-part-same-rest-start-2 c = omega arith
-
-part-same-rest-end-2 : tie.Need-part-same-rest-end-2 Inv-loop μ-loop
-part-same-rest-end-2 c = omega arith
 
 same-rest-requires : tie.Need-same-rest-requires Inv-loop μ-loop
 same-rest-requires c κs =
@@ -86,18 +53,10 @@ same-spec =
     Inv-loop
     μ-loop
     loop-holds
-    sub-loop
-    word-requires
-    word-requires-2
+    (λ c. omega arith) (λ c κs. omega arith) (λ c κs. omega arith)
     returns
-    add-i
-    loop-less
+    (λ c. omega arith) (λ c. omega arith)
     loop-again
-    sub-same-rest
-    part-same-rest-start
-    part-same-rest-end
-    sub-same-rest-2
-    part-same-rest-start-2
-    part-same-rest-end-2
+    (λ c. omega arith) (λ c. omega arith) (λ c. omega arith) (λ c. omega arith) (λ c. omega arith) (λ c. omega arith)
     same-rest-requires
     returns-2)

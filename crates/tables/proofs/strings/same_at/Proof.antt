@@ -9,7 +9,7 @@ use lib.Dec.{eqb}
 use borrow.Author.Needs.{needs}
 use borrow.Author.Tests.{ne-eqb}
 use Rattle.tables.specs.Table.{sameWords}
-use Rattle.tables.proofs.Rows.{words-short}
+use Rattle.tables.proofs.Words.{words-short}
 use Rattle.tables.proofs.strings.same_at.Statement.{statement}
 use Rattle.tables.proofs.strings.same_at.Tie as tie
 
@@ -35,23 +35,8 @@ module _ (text : List ℕ) (start : ℕ) (t : List ℕ) where
 returns : tie.Need-returns
 returns c = let a = c .before .before .before .args in past (a .text .now) (a .start) (a .t .now) (c .if1 .taken)
 
-sub-if2 : tie.Need-sub-if2
-sub-if2 c = search needs
-
 returns-2 : tie.Need-returns-2
 returns-2 c = let a = c .before .before .before .before .args in cut (a .text .now) (a .start) (a .t .now) (c .if2 .taken)
-
-add-end : tie.Need-add-end
-add-end c = search needs
-
-sub-same : tie.Need-sub-same
-sub-same c = search needs
-
-part-same-start : tie.Need-part-same-start
-part-same-start c = search needs
-
-part-same-end : tie.Need-part-same-end
-part-same-end c = omega arith
 
 same-requires : tie.Need-same-requires
 same-requires c κs = let a = c .before .before .before .before .before .args in whole (a .text .now) (a .start) (a .t .now) (omega arith)
@@ -60,4 +45,12 @@ returns-3 : tie.Need-returns-3
 returns-3 c = let a = c .before .before .before .before .before .before .args in same-part (a .text .now) (a .start) (a .t .now) (c .same .ensures)
 
 pub same-at-spec : {M : Type 1} → statement M
-same-at-spec = tie.close (tie.spec returns sub-if2 returns-2 add-end sub-same part-same-start part-same-end same-requires returns-3)
+same-at-spec =
+    tie.close
+    (tie.spec
+    returns
+    (λ c. search needs)
+    returns-2
+    (λ c. search needs) (λ c. search needs) (λ c. search needs) (λ c. omega arith)
+    same-requires
+    returns-3)

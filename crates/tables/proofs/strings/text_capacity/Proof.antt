@@ -15,9 +15,6 @@ many : (n : ℕ) → 268435456 ≤ n → 268435456 ≡ textCapacityOf n
 unfolding textCapacityOf
 many n h = rw (le-ltb n 268435456 h)
 
-cast-result : tie.Need-cast-result
-cast-result c = search needs
-
 returns : tie.Need-returns
 returns c = few (length (c .before .args .text .now)) (c .if1 .taken)
 
@@ -25,4 +22,4 @@ returns-2 : tie.Need-returns-2
 returns-2 c = many (length (c .before .args .text .now)) (c .if1 .left)
 
 pub text-capacity-spec : {M : Type 1} → statement M
-text-capacity-spec = tie.close (tie.spec cast-result returns returns-2)
+text-capacity-spec = tie.close (tie.spec (λ c. search needs) returns returns-2)

@@ -28,17 +28,11 @@ module _ (text : List ℕ) (at start : ℕ) (t : List ℕ) {n : ℕ} {text₁ : 
   unfolding storedText
   both f = rw (f, prefixed) (sets-join (encoded (length t)) t text at start (p .0))
 
-write-leb128-requires : tie.Need-write-leb128-requires
-write-leb128-requires c κs = search needs
-
 copy-requires : tie.Need-copy-requires
 copy-requires c κs = let a = c .before .before .before .before .before .before .before .args in fits (a .text .now) (a .at) (a .start) (a .t .now) (c .before .before .before .before .before .before .before .pre) (c .before .before .before .write-leb128 .ensures)
-
-same-length : tie.Need-same-length
-same-length c = search needs
 
 returns : tie.Need-returns
 returns c = let a = c .before .before .before .before .before .before .before .before .before .before .args in both (a .text .now) (a .at) (a .start) (a .t .now) (c .before .before .before .before .before .before .before .before .before .before .pre) (c .before .before .before .before .before .before .write-leb128 .ensures) (c .before .before .copy .ensures)
 
 pub write-spec : {M : Type 1} → statement M
-write-spec = tie.close (tie.spec write-leb128-requires copy-requires same-length returns)
+write-spec = tie.close (tie.spec (λ c κs. search needs) copy-requires (λ c. search needs) returns)

@@ -8,12 +8,12 @@ use native.Mathlib.Nat.{add-zero, zero-add, add-assoc}
 use lib.ListN.{length, getD, take, drop, length-append, List·getD-append}
 use lib.Seq.{take-take, take-all, take-append-le}
 use Rattle.text.specs.Leb128.{encoded}
 use Rattle.tables.specs.Strings.{storedText, textSize, textRow}
 use Rattle.tables.specs.Table.{sameWords}
-use Rattle.tables.specs.Plain.{Interned, intern}
-use Rattle.tables.specs.PlainTexts.{textBytes, textOffset, section, textRows}
+use Rattle.table_laws.specs.Plain.{Interned, intern}
+use Rattle.table_laws.specs.PlainTexts.{textBytes, textOffset, section, textRows}
 use Rattle.tables.specs.declared.Row.{Row}
-use Rattle.tables.proofs.Rows.{words-eq}
+use Rattle.tables.proofs.Words.{words-eq}
 
 pub size-is : (t : List ℕ) → textSize t ≡ length (encoded (length t)) + length t
 unfolding textSize

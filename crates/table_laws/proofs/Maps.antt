@@ -11,19 +11,19 @@ use lib.Dec.{eqb, ltb}
 use lib.ListN.{length, getD, set, replicate, length-replicate}
 use lib.Seq.{set-getD}
 use borrow.Author.Tests.{eqb-true, eqb-false, lt-ltb, le-ltb, ltb-true, ltb-false}
-use Rattle.tables.specs.Table.{rowAt, hitAt, keyOf, sameRow, hashOf, capacityOf, lookupOf, overOf, insertAt, insertOf, setRow, left, inserted, Left}
+use Rattle.tables.specs.Table.{rowAt, rowsOf, hitAt, keyOf, sameRow, hashOf, capacityOf, lookupOf, overOf, insertAt, insertOf, setRow, left, inserted, Left}
 use Rattle.tables.specs.Ranges.{getOf, putOf, putAt, replaceOf, change, startRow, locationOf}
-use Rattle.tables.specs.Plain.{rowsOf, keyHash, putRows, wasIn, putAll, putAllRows, lastPut, Pair, pairRow, Holds}
+use Rattle.table_laws.specs.Plain.{keyHash, putRows, wasIn, putAll, putAllRows, lastPut, Pair, pairRow, Holds}
 use Rattle.tables.specs.declared.Row.{Row}
 use Rattle.tables.specs.declared.ranges.Found.{Found}
 use Rattle.tables.specs.declared.ranges.Found.the-variants.{Absent, At}
 use Rattle.tables.specs.declared.ranges.Was.the-variants.{Vacant, Same, Changed}
 use Rattle.tables.specs.declared.ranges.Change.{Change}
 use Rattle.tables.proofs.Room.{room-is}
-use Rattle.tables.proofs.Items.{one-more}
-use Rattle.tables.proofs.Rows.{same-eq, same-one, rows-set, set-row-same, set-row-other, length-setRow}
-use Rattle.tables.proofs.Steps.{Look, found, none, chained-over}
-use Rattle.tables.proofs.Sets.{begun, hit-is, looked, length-is, row-is, earlier, more, long-more, holds-more, over-most, Over}
+use Rattle.table_laws.proofs.Items.{one-more}
+use Rattle.table_laws.proofs.Rows.{same-eq, same-one, rows-set, set-row-same, set-row-other, length-setRow}
+use Rattle.table_laws.proofs.Steps.{Look, found, none, chained-over}
+use Rattle.table_laws.proofs.Sets.{begun, hit-is, looked, length-is, row-is, earlier, more, long-more, holds-more, over-most, Over}
 
 -- ---- the plain map
 put-none : (rows : List Row) (q d : Row) → ((i : ℕ) → i < length rows → eqb (getD rows i d .a) (q .a) ≡ false) → putRows rows q ≡ rows ++ (q ∷ [])
@@ -198,7 +198,7 @@ get-is t n rows s H = go (lookupOf 1 t n (startRow s)) (looked 1 t n rows (start
     go i (none e m) = rw (le-ltb i n (omega arith)) (sym (loc-none rows s (startRow s) (no-start t n rows (startRow s) H m)))
 
 -- ---- any list of puts
-all-length : (ps : List Pair) (rows : List Row) → length rows ≤ length (putAllRows rows ps)
+pub all-length : (ps : List Pair) (rows : List Row) → length rows ≤ length (putAllRows rows ps)
 unfolding putAllRows
 all-length [] rows = omega arith
 all-length (p ∷ ps) rows = let a = put-length rows (pairRow p) in let b = all-length ps (putRows rows (pairRow p)) in omega arith

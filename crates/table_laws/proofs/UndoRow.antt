@@ -10,20 +10,17 @@ use lib.Dec.{eqb, leb, ltb}
 use lib.ListN.{length, getD, set, replicate, length-set}
 use lib.Seq.{sets, length-sets, getD-set-same, getD-set-other, ext-getD}
 use borrow.Author.Tests.{eqb-true, eqb-false, leb-true, leb-false, ltb-true, ltb-false}
 use Rattle.tables.specs.Table.{rowWords, linkAt, headAt, setRow, appendOf}
+use Rattle.tables.specs.Undo.{undoOf}
 use Rattle.tables.specs.declared.Row.{Row}
-use Rattle.tables.proofs.Rows.{sets-low, sets-high, length-append, append-link-top}
+use Rattle.table_laws.proofs.Rows.{sets-low, sets-high, length-append, append-link-top}
 
--- row n is taken back from bucket h: its link is the head again, and its seven words are zero
-unfoldable pub undoOf : ℕ → List ℕ → ℕ → ℕ → List ℕ
-undoOf cap t n h = sets (set t (cap * 7 + h) (linkAt t n)) (n * 7) (replicate 7 0)
-
-sets-zero : (m : ℕ) (t : List ℕ) (k j : ℕ) → k ≤ j → j < k + m → k + m ≤ length t → getD (sets t k (replicate m 0)) j 0 ≡ 0
+pub sets-zero : (m : ℕ) (t : List ℕ) (k j : ℕ) → k ≤ j → j < k + m → j < length t → getD (sets t k (replicate m 0)) j 0 ≡ 0
 sets-zero zero t k j a b r = absurd (omega arith)
-sets-zero (suc m) t k j a b r = go (eqb j k) refl (λ c. sets-zero m (set t k 0) (suc k) j c (omega arith) (rw (length-set t k 0) (omega arith)))
+sets-zero (suc m) t k j a b r = go (eqb j k) refl (λ c. sets-zero m (set t k 0) (suc k) j c (omega arith) (rw (length-set t k 0) r))
   where
     go : (x : Bool) → eqb j k ≡ x → (suc k ≤ j → getD (sets (set t k 0) (suc k) (replicate m 0)) j 0 ≡ 0) → getD (sets (set t k 0) (suc k) (replicate m 0)) j 0 ≡ 0
-    go true e ih = rw (eqb-true j k e) (sets-low (replicate m 0) (set t k 0) (suc k) k (omega arith) ∙ getD-set-same t k 0 0 (omega arith))
+    go true e ih = let f : j ≡ k = eqb-true j k e in rw f (sets-low (replicate m 0) (set t k 0) (suc k) k (omega arith) ∙ getD-set-same t k 0 0 (omega arith))
     go false e ih = let g = eqb-false j k e in ih (omega arith)
 
 module _ (cap : ℕ) (t : List ℕ) (n : ℕ) (q : Row) (h : ℕ) (room : n < cap) (fits : cap * 8 ≤ length t) (bucket : h < cap) (clear : (j : ℕ) → n * 7 ≤ j → j < n * 7 + 7 → getD t j 0 ≡ 0) where
@@ -35,7 +32,7 @@ module _ (cap : ℕ) (t : List ℕ) (n : ℕ) (q : Row) (h : ℕ) (room : n < ca
   long = length-sets (set after (cap * 7 + h) (linkAt after n)) (n * 7) (replicate 7 0) ∙ length-set after (cap * 7 + h) (linkAt after n) ∙ length-append cap t n q (headAt cap t h) h
 
   -- outside the row, and outside the head, appending changed nothing
-  after-other : (j : ℕ) → (j < n * 7) ⊎ (n * 7 + 7 ≤ j) → (j ≡ cap * 7 + h → ⊥) → getD after j 0 ≡ getD t j 0
+  pub after-other : (j : ℕ) → (j < n * 7) ⊎ (n * 7 + 7 ≤ j) → (j ≡ cap * 7 + h → ⊥) → getD after j 0 ≡ getD t j 0
   unfolding appendOf setRow
   after-other j side d =
       getD-set-other (set (sets t (n * 7) (rowWords q)) (n * 7 + 6) (headAt cap t h)) (cap * 7 + h) j (n + 1) 0 d
@@ -60,6 +57,7 @@ module _ (cap : ℕ) (t : List ℕ) (n : ℕ) (q : Row) (h : ℕ) (room : n < ca
       go j true e y f = sets-low (replicate 7 0) (set after (cap * 7 + h) (linkAt after n)) (n * 7) j (ltb-true _ _ e) ∙ outside j (inl (ltb-true _ _ e))
       go j false e true f = sets-high (replicate 7 0) (set after (cap * 7 + h) (linkAt after n)) (n * 7) j (leb-true _ _ f) ∙ outside j (inr (leb-true _ _ f))
       go j false e false f =
+          let b : j < n * 7 + 7 = leb-false _ _ f in
           sets-zero 7 (set after (cap * 7 + h) (linkAt after n)) (n * 7) j (ltb-false _ _ e) (leb-false _ _ f)
           (rw (length-set after (cap * 7 + h) (linkAt after n), length-append cap t n q (headAt cap t h) h) (omega arith))
           ∙ sym (clear j (ltb-false _ _ e) (leb-false _ _ f))

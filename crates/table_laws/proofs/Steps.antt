@@ -10,13 +10,13 @@ use native.Mathlib.Numerals.{add-one}
 use lib.Dec.{eqb}
 use lib.ListN.{length, getD, replicate}
 use borrow.Author.Tests.{ne-eqb, eqb-true, eqb-false}
-use Rattle.tables.specs.Table.{rowAt, linkAt, headAt, bucketOf, walk, appendOf, setRow}
-use Rattle.tables.specs.Plain.{rowsOf, lastWith, bucketAt, Chained}
+use Rattle.tables.specs.Table.{rowAt, rowsOf, linkAt, headAt, bucketOf, walk, appendOf, setRow}
+use Rattle.table_laws.specs.Plain.{lastWith, bucketAt, Chained}
 use Rattle.tables.specs.declared.Row.{Row}
-use Rattle.tables.proofs.Chain.{lastHit, Miss, last-hit, last-miss, last-kept, walk-last, last-is}
-use Rattle.tables.proofs.Rows.{set-row-other, set-row-link, set-row-head, set-row-same, append-low, append-top, append-link, append-link-top, append-head, append-head-other, rows-more, rows-same}
+use Rattle.table_laws.proofs.Chain.{lastHit, Miss, last-hit, last-miss, last-kept, walk-last, last-is}
+use Rattle.table_laws.proofs.Rows.{set-row-other, set-row-link, set-row-head, set-row-same, append-low, append-top, append-link, append-link-top, append-head, append-head-other, rows-more, rows-same}
 
-bucket-lt : (k cap : ℕ) → 0 < cap → bucketOf k cap < cap
+pub bucket-lt : (k cap : ℕ) → 0 < cap → bucketOf k cap < cap
 unfolding bucketOf
 bucket-lt k cap h = rw (ne-eqb cap 0 (λ e. omega arith)) (mod-lt (k / 512 * cap / 8388608 + k % 512) h)
 
@@ -102,7 +102,7 @@ module _ (hash : Row → ℕ) (cap n : ℕ) (t : List ℕ) (q : Row) (ch : Chain
   }
 
 -- ---- a beginning: zeroed memory
-zeros : (k h : ℕ) → _≡_ {A = ℕ} (getD (replicate k 0) h 0) 0
+pub zeros : (k h : ℕ) → _≡_ {A = ℕ} (getD (replicate k 0) h 0) 0
 zeros zero h = refl
 zeros (suc k) zero = refl
 zeros (suc k) (suc h) = zeros k h

@@ -5,16 +5,16 @@ use mathlib.Core.List.{List, [], _∷_}
 use mathlib.Core.Bool.{Bool, false, cond}
 use lib.Dec.{eqb}
 use lib.ListN.{length}
-use Rattle.tables.specs.Table.{rowAt, linkAt, headAt, keyOf, sameRow, hashOf, bucketOf, capacityOf, Left, left, inserted, insertOf}
+use Rattle.tables.specs.Table.{rowAt, rowsOf, linkAt, headAt, keyOf, sameRow, hashOf, bucketOf, capacityOf, Left, left, inserted, insertOf}
 use Rattle.tables.specs.Ranges.{putOf, change, rangeRow}
 use Rattle.tables.specs.declared.Row.{Row}
 use Rattle.tables.specs.declared.Inserted.{Inserted}
 use Rattle.raw.specs.declared.SourceLocation.{SourceLocation}
 use Rattle.tables.specs.declared.ranges.Found.{Found}
 use Rattle.tables.specs.declared.ranges.Found.the-variants.{At}
 use Rattle.tables.specs.declared.ranges.Was.{Was}
 use Rattle.tables.specs.declared.ranges.Was.the-variants.{Vacant, Same, Changed}
 use Rattle.tables.specs.declared.ranges.Change.{Change}
 
 -- ── IndexSet ───────────────────────────────────────────────────────────────────────────────────────────────────────────
 
@@ -83,14 +83,6 @@ lastPut f [] s = f
 lastPut f (p ∷ ps) s = lastPut (cond (eqb (p .start) s) (At (p .loc)) f) ps s
 
 -- ── When a table is the plain list ─────────────────────────────────────────────────────────────────────────────────────
-
--- n rows of the table, from row k on; the first n rows
-unfoldable pub rowsFrom : List ℕ → ℕ → ℕ → List Row
-rowsFrom t k zero = []
-rowsFrom t k (suc n) = rowAt t k ∷ rowsFrom t (suc k) n
-
-abbrev pub rowsOf : List ℕ → ℕ → List Row
-rowsOf t n = rowsFrom t 0 n
 
 -- the number + 1 of the newest row below i whose bucket is h; 0 where there is none
 unfoldable pub lastWith : (ℕ → ℕ) → ℕ → ℕ → ℕ

@@ -10,25 +10,13 @@ use lib.Dec.{eqb, ltb}
 use lib.ListN.{length, getD, set, length-set}
 use lib.Seq.{sets, length-sets, getD-set-same, getD-set-other}
 use borrow.Author.Tests.{eq-eqb, eqb-true, ltb-true, ltb-false}
-use Rattle.tables.specs.Table.{wordsAt, rowWords, rowOf, rowAt, linkAt, headAt, setRow, appendOf, sameWords, sameRow, keyOf}
+use Rattle.tables.specs.Table.{wordsAt, rowWords, rowOf, rowAt, rowsFrom, linkAt, headAt, setRow, appendOf, sameWords, sameRow, keyOf}
 use Rattle.tables.specs.Ranges.{startRow}
-use Rattle.tables.specs.Plain.{rowsFrom, sameKey}
+use Rattle.table_laws.specs.Plain.{sameKey}
 use Rattle.tables.specs.declared.Row.{Row}
-
-pub no-ft : false ≡ true → ⊥
-no-ft e = let z : _≡_ {A = ℕ} 0 1 = cc in omega arith
+use Rattle.tables.proofs.Words.{words-eq}
 
 -- ---- sameRow is equality
-pub words-eq : (xs ys : List ℕ) → sameWords xs ys ≡ true → xs ≡ ys
-words-eq [] [] e = refl
-words-eq [] (y ∷ ys) e = absurd (no-ft e)
-words-eq (x ∷ xs) [] e = absurd (no-ft e)
-words-eq (x ∷ xs) (y ∷ ys) e = go (eqb x y) refl e (λ f. words-eq xs ys f)
-  where
-    go : (b : Bool) → eqb x y ≡ b → b && sameWords xs ys ≡ true → (sameWords xs ys ≡ true → xs ≡ ys) → x ∷ xs ≡ y ∷ ys
-    go true f e ih = ap₂ (λ (z : ℕ) (l : List ℕ). z ∷ l) (eqb-true x y f) (ih e)
-    go false f e ih = absurd (no-ft e)
-
 pub same-eq : (x y : Row) → sameRow x y ≡ true → x ≡ y
 unfolding sameRow
 same-eq x y e = ap rowOf (words-eq (rowWords x) (rowWords y) e)
@@ -36,16 +24,6 @@ same-eq x y e = ap rowOf (words-eq (rowWords x) (rowWords y) e)
 pub words-refl : (xs : List ℕ) → sameWords xs xs ≡ true
 words-refl [] = refl
 words-refl (x ∷ xs) = rw (eq-eqb x x refl) (words-refl xs)
-
-pub words-short : (xs ys : List ℕ) → length xs < length ys → sameWords xs ys ≡ false
-words-short [] [] h = absurd (omega arith)
-words-short [] (y ∷ ys) h = refl
-words-short (x ∷ xs) [] h = refl
-words-short (x ∷ xs) (y ∷ ys) h = go (eqb x y) (words-short xs ys (omega arith))
-  where
-    go : (b : Bool) → sameWords xs ys ≡ false → (b && sameWords xs ys) ≡ false
-    go true e = e
-    go false e = refl
 
 -- by the first word alone
 pub key-one : (x : Row) → keyOf 1 x ≡ startRow (x .a)
@@ -69,7 +47,7 @@ pub sets-high : (vs t : List ℕ) (k j : ℕ) → k + length vs ≤ j → getD (
 sets-high [] t k j h = refl
 sets-high (v ∷ vs) t k j h = sets-high vs (set t k v) (suc k) j (omega arith) ∙ getD-set-other t k j v 0 (omega arith)
 
-sets-at : (vs t : List ℕ) (k : ℕ) → k + length vs ≤ length t → wordsAt (sets t k vs) k (length vs) ≡ vs
+pub sets-at : (vs t : List ℕ) (k : ℕ) → k + length vs ≤ length t → wordsAt (sets t k vs) k (length vs) ≡ vs
 sets-at [] t k h = refl
 sets-at (v ∷ vs) t k h =
     ap₂ (λ (x : ℕ) (l : List ℕ). x ∷ l)

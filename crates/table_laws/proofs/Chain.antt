@@ -6,9 +6,9 @@ use mathlib.Core.Logic.{_⊎_, inl, inr}
 use native.Mathlib.Omega.{arith}
 use lib.Dec.{eqb}
 use borrow.Author.Tests.{eq-eqb, ne-eqb, eqb-true, eqb-false}
 use Rattle.tables.specs.Table.{walk}
-use Rattle.tables.specs.Plain.{lastWith}
+use Rattle.table_laws.specs.Plain.{lastWith}
 use Rattle.tables.proofs.Walk.{walk-pass, walk-at}
 
 -- the newest row below n that is hit; d where there is none
 unfoldable pub lastHit : (ℕ → Bool) → ℕ → ℕ → ℕ

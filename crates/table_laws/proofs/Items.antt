@@ -5,7 +5,7 @@ use mathlib.Core.List.{List, [], _∷_, _++_}
 use mathlib.Core.Bool.{Bool, true, false, cond}
 use native.Mathlib.Omega.{arith}
 use lib.ListN.{length, getD, length-append}
-use Rattle.tables.specs.Plain.{Interned, intern, internAll}
+use Rattle.table_laws.specs.Plain.{Interned, intern, internAll}
 
 module _ {A : Type 0} (eq : A → A → Bool) where
   -- x is passed

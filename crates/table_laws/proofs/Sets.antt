@@ -10,18 +10,18 @@ use native.Mathlib.Nat.{zero-add}
 use lib.Dec.{eqb, ltb}
 use lib.ListN.{length, getD, replicate, length-replicate}
 use borrow.Author.Tests.{eqb-true, eqb-false, lt-ltb, le-ltb, ltb-true, ltb-false}
-use Rattle.tables.specs.Table.{rowAt, hitAt, keyOf, hashOf, bucketIn, capacityOf, newestOf, lookupOf, appendOf, overOf, insertAt, insertOf, left, inserted, Left}
-use Rattle.tables.specs.Plain.{rowsOf, sameKey, keyHash, intern, internAll, indicesIn, insertAll, indicesOf, Holds}
+use Rattle.tables.specs.Table.{rowAt, rowsFrom, rowsOf, hitAt, keyOf, hashOf, bucketIn, capacityOf, newestOf, lookupOf, appendOf, overOf, insertAt, insertOf, left, inserted, Left}
+use Rattle.table_laws.specs.Plain.{sameKey, keyHash, intern, internAll, indicesIn, insertAll, indicesOf, Holds}
 use Rattle.tables.specs.declared.Row.{Row}
 use Rattle.tables.specs.declared.Inserted.{Inserted}
 use Rattle.tables.proofs.Room.{room-is}
-use Rattle.tables.proofs.Items.{intern-none, intern-found, all-length, one-more}
-use Rattle.tables.proofs.Rows.{same-eq, rows-length, rows-getD, length-append}
-use Rattle.tables.proofs.Steps.{Look, found, none, look, row-low, row-top, chained-more, rows-stored, chained-begun}
+use Rattle.table_laws.proofs.Items.{intern-none, intern-found, all-length, one-more}
+use Rattle.table_laws.proofs.Rows.{same-eq, rows-length, rows-getD, length-append}
+use Rattle.table_laws.proofs.Steps.{Look, found, none, look, row-low, row-top, chained-more, rows-stored, chained-begun}
 
 -- a table begins as the empty list
 pub begun : (w words : ℕ) → Holds w (replicate words 0) 0 []
-unfolding Rattle.tables.specs.Plain.rowsFrom
+unfolding rowsFrom
 begun w words = record {
   same = refl;
   room = omega arith;

@@ -17,17 +17,18 @@ use Rattle.text.specs.Utf8.{utf8}
 use Rattle.text.specs.Texts.{text-part}
 use Rattle.text.proofs.Leb128Laws.{decoded-past}
 use Rattle.text.proofs.TextLaws.{stored-bytes, part-stored, part-absent, absent-prefix}
-use Rattle.tables.specs.Table.{rowAt, capacityOf, overOf, sameWords}
+use Rattle.tables.specs.Table.{rowAt, rowsFrom, rowsOf, capacityOf, overOf, sameWords}
 use Rattle.tables.specs.Strings.{textCapacityOf, storedText, textSize, textHash, textRow, isText, textAt, newestText, findText, indexOf, fullOf, storeOf, insertTextAt, insertTextOf, StringsLeft, stringsLeft, stored}
-use Rattle.tables.specs.Plain.{intern, rowsOf, rowsFrom, Chained}
-use Rattle.tables.specs.PlainTexts.{textBytes, textOffset, section, withText, offsetIn, withTexts, offsetsIn, insertTexts, offsetsOf, textRows, rowHash, Texts}
+use Rattle.table_laws.specs.Plain.{intern, Chained}
+use Rattle.table_laws.specs.PlainTexts.{textBytes, textOffset, section, withText, offsetIn, withTexts, offsetsIn, insertTexts, offsetsOf, textRows, rowHash, Texts}
 use Rattle.tables.specs.declared.Row.{Row}
 use Rattle.tables.proofs.Room.{room-is, text-room}
-use Rattle.tables.proofs.Items.{intern-none, intern-found, one-more}
-use Rattle.tables.proofs.Rows.{no-ft, words-eq, words-refl, rows-length, rows-getD, length-append as append-length}
-use Rattle.tables.proofs.Steps.{Look, found, none, look, chained-more, rows-stored, chained-begun}
-use Rattle.tables.proofs.Sets.{over-above, over-most}
-use Rattle.tables.proofs.Sections.{size-is, stored-length, section-length, bytes-more, section-more, section-at, offset-within, offset-end, part-take, Grown, grown-then, grown-item, grown-offset, grown-bytes, grown-length, placed, rows-count, row-of, rows-more}
+use Rattle.table_laws.proofs.Items.{intern-none, intern-found, one-more}
+use Rattle.tables.proofs.Words.{no-ft, words-eq}
+use Rattle.table_laws.proofs.Rows.{words-refl, rows-length, rows-getD, length-append as append-length}
+use Rattle.table_laws.proofs.Steps.{Look, found, none, look, chained-more, rows-stored, chained-begun}
+use Rattle.table_laws.proofs.Sets.{over-above, over-most}
+use Rattle.table_laws.proofs.Sections.{size-is, stored-length, section-length, bytes-more, section-more, section-at, offset-within, offset-end, part-take, Grown, grown-then, grown-item, grown-offset, grown-bytes, grown-length, placed, rows-count, row-of, rows-more}
 
 abbrev Text : Type 0
 Text = List ℕ

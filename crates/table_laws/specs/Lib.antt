@@ -1,0 +1,3 @@
+pub mod Plain
+pub mod PlainTexts
+pub mod Marked
