@@ -23,31 +23,10 @@ returns c =
     let a = c .before .before .args in
     no-room (a .out .now) (noFrameLine (a .address)) (a .at) 26 (no-frame-length (a .address)) (omega arith)
 
-sub-if2 : tie.Need-sub-if2
-sub-if2 c = search needs
-
 returns-2 : tie.Need-returns-2
 returns-2 c =
     let a = c .before .before .before .args in
     no-room (a .out .now) (noFrameLine (a .address)) (a .at) 26 (no-frame-length (a .address)) (omega arith)
-
-put-hex-requires : tie.Need-put-hex-requires
-put-hex-requires c κs = search needs
-
-add-put-spaced : tie.Need-add-put-spaced
-add-put-spaced c = search needs
-
-put-spaced-requires : tie.Need-put-spaced-requires
-put-spaced-requires c κs = search needs
-
-add-out : tie.Need-add-out
-add-out c = search needs
-
-slice-write-out : tie.Need-slice-write-out
-slice-write-out c = search needs
-
-add-result : tie.Need-add-result
-add-result c = search needs
 
 same-length : tie.Need-same-length
 same-length c = kept (run c)
@@ -58,4 +37,13 @@ returns-3 c =
     printed (a .out .now) (a .at) (noFrameLine (a .address)) (omega arith) (run c)
 
 pub no-frame-line-spec : {M : Type 1} → statement M
-no-frame-line-spec = tie.close (tie.spec returns sub-if2 returns-2 put-hex-requires add-put-spaced put-spaced-requires add-out slice-write-out add-result same-length returns-3)
+no-frame-line-spec =
+    tie.close
+    (tie.spec
+    returns
+    (λ c. search needs)
+    returns-2
+    (λ c κs. search needs) (λ c. search needs) (λ c κs. search needs) (λ c. search needs) (λ c. search needs)
+    (λ c. search needs)
+    same-length
+    returns-3)

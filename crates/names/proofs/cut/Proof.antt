@@ -10,15 +10,6 @@ use borrow.Author.Needs.{needs}
 use Rattle.names.proofs.cut.Statement.{statement}
 use Rattle.names.proofs.cut.Tie as tie
 
-rfind-requires : tie.Need-rfind-requires
-rfind-requires c κs = search needs
-
-enum-known-n : tie.Need-enum-known-n
-enum-known-n c = search needs
-
-enum-told : tie.Need-enum-told
-enum-told c = search needs
-
 returns : tie.Need-returns
 returns c = sym (ap found (cut-none _ _ (found-none _ (sym (c .enum-told .given .1) ∙ c .before .before .rfind .ensures))))
 
@@ -32,12 +23,6 @@ sub-parses c = rfind-within _ _ _ (found-some _ _ (sym (c .before .n .given .1) 
 
 part-parses-start : tie.Need-part-parses-start
 part-parses-start c = rfind-within _ _ _ (found-some _ _ (sym (c .before .n .given .1) ∙ c .before .before .before .rfind .ensures))
-
-part-parses-end : tie.Need-part-parses-end
-part-parses-end c = search needs
-
-parses-requires : tie.Need-parses-requires
-parses-requires c κs = search needs
 
 returns-2 : tie.Need-returns-2
 returns-2 c =
@@ -57,14 +42,11 @@ pub cut-spec : {M : Type 1} → statement M
 cut-spec =
     tie.close
     (tie.spec
-    rfind-requires
-    enum-known-n
-    enum-told
+    (λ c κs. search needs) (λ c. search needs) (λ c. search needs)
     returns
     add-parses
     sub-parses
     part-parses-start
-    part-parses-end
-    parses-requires
+    (λ c. search needs) (λ c κs. search needs)
     returns-2
     returns-3)

@@ -17,26 +17,14 @@ returns : tie.Need-returns Inv-loop μ-loop
 unfolding ascending
 returns c = rw (c .if1 .taken)
 
-range-start-requires : tie.Need-range-start-requires Inv-loop μ-loop
-range-start-requires c κs = omega arith
-
 loop-holds : tie.Need-loop-holds Inv-loop μ-loop
 loop-holds c = let a = c .before .before .before .args in (omega arith, omega arith, rw (c .range-start .ensures) (ascending-begins (startAt (a .s .now) (a .ranges)) (a .n) (omega arith)))
-
-range-start-requires-2 : tie.Need-range-start-requires-2 Inv-loop μ-loop
-range-start-requires-2 c κs = omega arith
 
 returns-2 : tie.Need-returns-2 Inv-loop μ-loop
 returns-2 c =
     let a = c .before .before .before .before .before .before .before .args in
     let l = c .before .before .before .loop in
     sym (ascending-stops (startAt (a .s .now) (a .ranges)) (l .last) (l .i) (a .n) (omega arith) (rw (c .before .range-start2 .ensures) at (c .if2 .taken))) ∙ l .inv .2
-
-add-i : tie.Need-add-i Inv-loop μ-loop
-add-i c = omega arith
-
-loop-less : tie.Need-loop-less Inv-loop μ-loop
-loop-less c = omega arith
 
 loop-again : tie.Need-loop-again Inv-loop μ-loop
 loop-again c =
@@ -57,11 +45,10 @@ is-ascending-spec =
     Inv-loop
     μ-loop
     returns
-    range-start-requires
+    (λ c κs. omega arith)
     loop-holds
-    range-start-requires-2
+    (λ c κs. omega arith)
     returns-2
-    add-i
-    loop-less
+    (λ c. omega arith) (λ c. omega arith)
     loop-again
     returns-3)

@@ -6,23 +6,11 @@ use borrow.Author.Needs.{needs}
 use Rattle.symcache.proofs.open.Statement.{statement}
 use Rattle.symcache.proofs.open.Tie as tie
 
-parse-requires : tie.Need-parse-requires
-parse-requires c κs = search needs
-
-enum-known-parsed : tie.Need-enum-known-parsed
-enum-known-parsed c = search needs
-
-cast-n : tie.Need-cast-n
-cast-n c = search needs
-
 is-ascending-requires : tie.Need-is-ascending-requires
 is-ascending-requires c κs = parsed-within (c .before .before .before .before .before .before .args .s .now) (c .before .before .parsed .given .0 .0) (sym (c .before .before .before .before .parse .ensures) ∙ ap parseAnswer (c .before .before .parsed .given .1)) .1 .ranges
 
 returns : tie.Need-returns
 returns c = opened-accepted (c .before .before .before .before .before .before .before .before .args .s .now) (c .before .before .before .before .parsed .given .0 .0) (sym (c .before .before .before .before .before .before .parse .ensures) ∙ ap parseAnswer (c .before .before .before .before .parsed .given .1)) (sym (c .before .is-ascending .ensures) ∙ c .if1 .taken)
-
-enum-known-parsed-2 : tie.Need-enum-known-parsed-2
-enum-known-parsed-2 c = search needs
 
 returns-2 : tie.Need-returns-2
 returns-2 c = opened-unordered (c .before .before .before .before .before .before .before .before .args .s .now) (c .before .before .before .before .parsed .given .0 .0) (sym (c .before .before .before .before .before .before .parse .ensures) ∙ ap parseAnswer (c .before .before .before .before .parsed .given .1)) (sym (c .before .is-ascending .ensures) ∙ c .if1 .left)
@@ -34,11 +22,9 @@ pub open-spec : {M : Type 1} → statement M
 open-spec =
     tie.close
     (tie.spec
-    parse-requires
-    enum-known-parsed
-    cast-n
+    (λ c κs. search needs) (λ c. search needs) (λ c. search needs)
     is-ascending-requires
     returns
-    enum-known-parsed-2
+    (λ c. search needs)
     returns-2
     returns-3)

@@ -9,9 +9,6 @@ use Rattle.symcache.proofs.parse.Tie as tie
 returns : tie.Need-returns
 returns c = too-short (c .before .before .args .s .now) (versionInfoAt (c .before .before .args .s .now) 0) refl (c .if1 .taken)
 
-version-info-at-requires : tie.Need-version-info-at-requires
-version-info-at-requires c κs = search needs
-
 returns-2 : tie.Need-returns-2
 returns-2 c = wrong-endianness (c .before .before .before .before .before .args .s .now) (c .before .before .version-info-at .result) (c .before .before .version-info-at .ensures) (c .before .before .before .if1 .left) (c .if2 .taken)
 
@@ -24,15 +21,6 @@ returns-4 c = wrong-version (c .before .before .before .before .before .before .
 returns-5 : tie.Need-returns-5
 returns-5 c = invalid-header (c .before .before .before .before .before .before .before .before .before .before .args .s .now) (c .before .before .before .before .before .before .before .version-info-at .result) (c .before .before .before .before .before .before .before .version-info-at .ensures) (c .before .before .before .before .before .before .before .before .if1 .left) (c .before .before .before .before .before .if2 .left) (c .before .before .before .if3 .left) (c .before .if4 .left) (c .if5 .taken)
 
-header-at-requires : tie.Need-header-at-requires
-header-at-requires c κs = search needs
-
-layout-requires : tie.Need-layout-requires
-layout-requires c κs = search needs
-
-parse-tables-requires : tie.Need-parse-tables-requires
-parse-tables-requires c κs = search needs
-
 returns-6 : tie.Need-returns-6
 returns-6 c = c .parse-tables .ensures ∙ then-tables (c .before .before .before .before .before .before .before .before .before .before .before .before .before .args .s .now) (c .before .before .before .before .before .before .before .before .before .before .version-info-at .result) (c .before .before .before .before .before .before .before .before .before .before .version-info-at .ensures) (c .before .before .before .before .before .before .before .before .before .before .before .if1 .left) (c .before .before .before .before .before .before .before .before .if2 .left) (c .before .before .before .before .before .before .if3 .left) (c .before .before .before .before .if4 .left) (c .before .before .before .if5 .left) (c .before .before .header-at .result) (c .before .layout .result) (c .before .before .header-at .ensures) (c .before .layout .ensures .0)
 
@@ -41,12 +29,10 @@ parse-spec =
     tie.close
     (tie.spec
     returns
-    version-info-at-requires
+    (λ c κs. search needs)
     returns-2
     returns-3
     returns-4
     returns-5
-    header-at-requires
-    layout-requires
-    parse-tables-requires
+    (λ c κs. search needs) (λ c κs. search needs) (λ c κs. search needs)
     returns-6)

@@ -8,53 +8,17 @@ use borrow.Author.Needs.{needs}
 use Rattle.symcache.proofs.parse_tables.Statement.{statement}
 use Rattle.symcache.proofs.parse_tables.Tie as tie
 
-cast-if1 : tie.Need-cast-if1
-cast-if1 c = search needs
-
-mul-if1 : tie.Need-mul-if1
-mul-if1 c = search needs
-
-add-if1 : tie.Need-add-if1
-add-if1 c = search needs
-
 returns : tie.Need-returns
 unfolding tested refuseIf
 returns c = simp (lt-ltb _ _ (c .if1 .taken))
-
-cast-if2 : tie.Need-cast-if2
-cast-if2 c = search needs
-
-mul-if2 : tie.Need-mul-if2
-mul-if2 c = search needs
-
-add-if2 : tie.Need-add-if2
-add-if2 c = search needs
 
 returns-2 : tie.Need-returns-2
 unfolding tested refuseIf
 returns-2 c = simp (le-ltb _ _ (c .before .before .before .if1 .left), lt-ltb _ _ (c .if2 .taken))
 
-cast-if3 : tie.Need-cast-if3
-cast-if3 c = search needs
-
-mul-if3 : tie.Need-mul-if3
-mul-if3 c = search needs
-
-add-if3 : tie.Need-add-if3
-add-if3 c = search needs
-
 returns-3 : tie.Need-returns-3
 unfolding tested refuseIf
 returns-3 c = simp (le-ltb _ _ (c .before .before .before .before .before .before .if1 .left), le-ltb _ _ (c .before .before .before .if2 .left), lt-ltb _ _ (c .if3 .taken))
-
-cast-if4 : tie.Need-cast-if4
-cast-if4 c = search needs
-
-mul-if4 : tie.Need-mul-if4
-mul-if4 c = search needs
-
-add-if4 : tie.Need-add-if4
-add-if4 c = search needs
 
 returns-4 : tie.Need-returns-4
 unfolding tested refuseIf
@@ -64,17 +28,8 @@ returns-5 : tie.Need-returns-5
 unfolding tested refuseIf
 returns-5 c = simp (le-ltb _ _ (c .before .before .before .before .before .before .before .before .before .before .before .if1 .left), le-ltb _ _ (c .before .before .before .before .before .before .before .before .if2 .left), le-ltb _ _ (c .before .before .before .before .before .if3 .left), le-ltb _ _ (c .before .before .if4 .left), lt-ltb _ _ (c .if5 .taken))
 
-cast-if6 : tie.Need-cast-if6
-cast-if6 c = search needs
-
 add-if6 : tie.Need-add-if6
 add-if6 c = omega (arith, c .before .before .before .before .before .before .before .before .before .before .before .before .before .before .before .before .pre .strings)
-
-found-bytes-requires : tie.Need-found-bytes-requires
-found-bytes-requires c κs = search needs
-
-cast-t14 : tie.Need-cast-t14
-cast-t14 c = search needs
 
 returns-6 : tie.Need-returns-6
 returns-6 c =
@@ -93,27 +48,18 @@ pub parse-tables-spec : {M : Type 1} → statement M
 parse-tables-spec =
     tie.close
     (tie.spec
-    cast-if1
-    mul-if1
-    add-if1
+    (λ c. search needs) (λ c. search needs) (λ c. search needs)
     returns
-    cast-if2
-    mul-if2
-    add-if2
+    (λ c. search needs) (λ c. search needs) (λ c. search needs)
     returns-2
-    cast-if3
-    mul-if3
-    add-if3
+    (λ c. search needs) (λ c. search needs) (λ c. search needs)
     returns-3
-    cast-if4
-    mul-if4
-    add-if4
+    (λ c. search needs) (λ c. search needs) (λ c. search needs)
     returns-4
     returns-5
-    cast-if6
+    (λ c. search needs)
     add-if6
-    found-bytes-requires
-    cast-t14
+    (λ c κs. search needs) (λ c. search needs)
     returns-6
     returns-7
     returns-8)

@@ -20,24 +20,6 @@ abbrev μ-loop : tie.MeasureT-loop
 loop-holds : tie.Need-loop-holds Inv-loop μ-loop
 loop-holds c = let a = c .before .args in (omega arith, omega arith, count-begins (startAt (a .s .now) (a .ranges)) (a .addr) (a .from) (a .n) (a .from + 0) (a .n - 0) (omega arith) (omega arith))
 
-add-range-start : tie.Need-add-range-start Inv-loop μ-loop
-add-range-start c = omega arith
-
-range-start-requires : tie.Need-range-start-requires Inv-loop μ-loop
-range-start-requires c κs = omega arith
-
-at-most-requires : tie.Need-at-most-requires Inv-loop μ-loop
-at-most-requires c κs = search needs
-
-add-found : tie.Need-add-found Inv-loop μ-loop
-add-found c = omega arith
-
-add-i : tie.Need-add-i Inv-loop μ-loop
-add-i c = omega arith
-
-loop-less : tie.Need-loop-less Inv-loop μ-loop
-loop-less c = omega arith
-
 loop-again : tie.Need-loop-again Inv-loop μ-loop
 loop-again c =
     let a = c .before .before .before .before .before .args in
@@ -59,11 +41,7 @@ count-spec =
     Inv-loop
     μ-loop
     loop-holds
-    add-range-start
-    range-start-requires
-    at-most-requires
-    add-found
-    add-i
-    loop-less
+    (λ c. omega arith) (λ c κs. omega arith) (λ c κs. search needs) (λ c. omega arith) (λ c. omega arith)
+    (λ c. omega arith)
     loop-again
     returns)

@@ -17,12 +17,6 @@ returns-2 c =
     let a = c .before .before .before .args in
     found-empty (a .s .now) (a .source-locations) (a .num-source-locations) (a .ranges) (a .num-ranges) (a .addr) (c .if2 .taken)
 
-is-usable-requires : tie.Need-is-usable-requires
-is-usable-requires c κs = search needs
-
-cast-search : tie.Need-cast-search
-cast-search c = search needs
-
 search-requires : tie.Need-search-requires
 search-requires c κs =
     let a = c .before .before .before .before .before .args in
@@ -34,9 +28,6 @@ range-start-requires c κs =
     let a = c .before .before .before .before .before .before .args in
     let u = usable-has (length (a .s .now)) (a .source-locations) (a .num-source-locations) (a .ranges) (a .num-ranges) (sym (c .before .before .is-usable .ensures) ∙ c .before .if3 .taken) in
     omega (arith, u .starts, c .search .ensures .1)
-
-cast-if4 : tie.Need-cast-if4
-cast-if4 c = search needs
 
 sub-result : tie.Need-sub-result
 sub-result c =
@@ -74,11 +65,10 @@ find-in-spec =
     (tie.spec
     returns
     returns-2
-    is-usable-requires
-    cast-search
+    (λ c κs. search needs) (λ c. search needs)
     search-requires
     range-start-requires
-    cast-if4
+    (λ c. search needs)
     sub-result
     cast-result
     add-result

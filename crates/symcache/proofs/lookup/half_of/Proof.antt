@@ -19,15 +19,6 @@ tested : (f : ℕ → ℕ) (a b h : ℕ) {x t : ℕ} → x ≡ f (b + h) → t �
 unfolding halfIn
 tested f a b h d e = rw (e, d)
 
-add-range-start : tie.Need-add-range-start
-add-range-start c = search needs
-
-range-start-requires : tie.Need-range-start-requires
-range-start-requires c κs = search needs
-
-at-most-requires : tie.Need-at-most-requires
-at-most-requires c κs = search needs
-
 mul-result : tie.Need-mul-result
 mul-result c = omega (arith, times-one (c .before .before .before .args .half) (c .at-most .result) (c .at-most .ensures .1))
 
@@ -37,4 +28,4 @@ returns c =
     (tested (startAt (a .s .now) (a .ranges)) (a .addr) (a .base) (a .half) (c .before .range-start .ensures) (c .at-most .ensures .0), times-one (a .half) (c .at-most .result) (c .at-most .ensures .1))
 
 pub half-of-spec : {M : Type 1} → statement M
-half-of-spec = tie.close (tie.spec add-range-start range-start-requires at-most-requires mul-result returns)
+half-of-spec = tie.close (tie.spec (λ c. search needs) (λ c κs. search needs) (λ c κs. search needs) mul-result returns)

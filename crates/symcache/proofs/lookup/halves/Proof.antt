@@ -17,17 +17,8 @@ abbrev μ-loop : tie.MeasureT-loop
 loop-holds : tie.Need-loop-holds Inv-loop μ-loop
 loop-holds c = (omega arith, omega arith, refl)
 
-half-of-requires : tie.Need-half-of-requires Inv-loop μ-loop
-half-of-requires c κs = omega arith
-
 add-base : tie.Need-add-base Inv-loop μ-loop
 add-base c = omega (arith, c .half-of .ensures .1)
-
-sub-size : tie.Need-sub-size Inv-loop μ-loop
-sub-size c = omega arith
-
-loop-less : tie.Need-loop-less Inv-loop μ-loop
-loop-less c = omega arith
 
 loop-again : tie.Need-loop-again Inv-loop μ-loop
 loop-again c =
@@ -40,4 +31,4 @@ returns : tie.Need-returns Inv-loop μ-loop
 returns c = let l = c .before .loop in (l .inv .0, omega arith, l .inv .1, l .inv .2)
 
 pub halves-spec : {M : Type 1} → statement M
-halves-spec = tie.close (tie.spec Inv-loop μ-loop loop-holds half-of-requires add-base sub-size loop-less loop-again returns)
+halves-spec = tie.close (tie.spec Inv-loop μ-loop loop-holds (λ c κs. omega arith) add-base (λ c. omega arith) (λ c. omega arith) loop-again returns)

@@ -18,12 +18,9 @@ returns-3 : tie.Need-returns-3
 unfolding ended
 returns-3 c = rw (ne-eqb (c .before .before .before .before .before .before .before .before .before .args .walk .current) max32 (c .before .before .before .before .before .before .if1 .left), lt-leb (c .before .before .before .before .before .before .before .before .before .args .c .«num_source_locations») (c .before .before .before .before .before .before .before .before .before .args .walk .current) (c .before .before .before .if2 .left), le-leb (c .before .before .before .before .before .before .before .before .before .args .c .«num_source_locations») (c .before .before .before .before .before .before .before .before .before .args .walk .steps) (c .if3 .taken))
 
-is-met-requires : tie.Need-is-met-requires
-is-met-requires c κs = search needs
-
 returns-4 : tie.Need-returns-4
 unfolding ended
 returns-4 c = rw (ne-eqb (c .before .before .before .before .before .before .before .before .before .before .args .walk .current) max32 (c .before .before .before .before .before .before .before .if1 .left), lt-leb (c .before .before .before .before .before .before .before .before .before .before .args .c .«num_source_locations») (c .before .before .before .before .before .before .before .before .before .before .args .walk .current) (c .before .before .before .before .if2 .left), lt-leb (c .before .before .before .before .before .before .before .before .before .before .args .c .«num_source_locations») (c .before .before .before .before .before .before .before .before .before .before .args .walk .steps) (c .before .if3 .left)) (c .is-met .ensures)
 
 pub is-ended-spec : {M : Type 1} → statement M
-is-ended-spec = tie.close (tie.spec returns returns-2 returns-3 is-met-requires returns-4)
+is-ended-spec = tie.close (tie.spec returns returns-2 returns-3 (λ c κs. search needs) returns-4)

@@ -10,18 +10,6 @@ returns : tie.Need-returns
 unfolding usable
 returns c = rw (lt-leb (c .before .args .num-ranges) (c .before .args .num-source-locations) (c .if1 .taken))
 
-mul-lies-in : tie.Need-mul-lies-in
-mul-lies-in c = search needs
-
-lies-in-requires : tie.Need-lies-in-requires
-lies-in-requires c κs = search needs
-
-mul-lies-in-2 : tie.Need-mul-lies-in-2
-mul-lies-in-2 c = search needs
-
-lies-in-requires-2 : tie.Need-lies-in-requires-2
-lies-in-requires-2 c κs = search needs
-
 returns-2 : tie.Need-returns-2
 unfolding usable
 returns-2 c = rw (le-leb (c .before .before .before .before .args .num-ranges) (c .before .before .before .before .args .num-source-locations) (c .before .before .before .if1 .left), sym (c .before .before .lies-in .ensures) ∙ c .before .if2 .taken) (c .lies-in2 .ensures)
@@ -31,4 +19,4 @@ unfolding usable
 returns-3 c = rw (le-leb (c .before .before .before .args .num-ranges) (c .before .before .before .args .num-source-locations) (c .before .before .if1 .left), sym (c .before .lies-in .ensures) ∙ c .if2 .left)
 
 pub is-usable-spec : {M : Type 1} → statement M
-is-usable-spec = tie.close (tie.spec returns mul-lies-in lies-in-requires mul-lies-in-2 lies-in-requires-2 returns-2 returns-3)
+is-usable-spec = tie.close (tie.spec returns (λ c. search needs) (λ c κs. search needs) (λ c. search needs) (λ c κs. search needs) returns-2 returns-3)

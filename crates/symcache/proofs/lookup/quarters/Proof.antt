@@ -14,45 +14,6 @@ added : (f : ℕ → ℕ) (a b q : ℕ) {x y z l m h : ℕ} → x ≡ f (b + q) 
 unfolding quartersIn
 added f a b q d e g u v w = rw (u, v, w, d, e, g)
 
-add-range-start : tie.Need-add-range-start
-add-range-start c = omega arith
-
-range-start-requires : tie.Need-range-start-requires
-range-start-requires c κs = omega arith
-
-at-most-requires : tie.Need-at-most-requires
-at-most-requires c κs = search needs
-
-mul-range-start : tie.Need-mul-range-start
-mul-range-start c = omega arith
-
-add-range-start-2 : tie.Need-add-range-start-2
-add-range-start-2 c = omega arith
-
-range-start-requires-2 : tie.Need-range-start-requires-2
-range-start-requires-2 c κs = omega arith
-
-at-most-requires-2 : tie.Need-at-most-requires-2
-at-most-requires-2 c κs = search needs
-
-add-result : tie.Need-add-result
-add-result c = omega arith
-
-mul-range-start-2 : tie.Need-mul-range-start-2
-mul-range-start-2 c = omega arith
-
-add-range-start-3 : tie.Need-add-range-start-3
-add-range-start-3 c = omega arith
-
-range-start-requires-3 : tie.Need-range-start-requires-3
-range-start-requires-3 c κs = omega arith
-
-at-most-requires-3 : tie.Need-at-most-requires-3
-at-most-requires-3 c κs = search needs
-
-add-result-2 : tie.Need-add-result-2
-add-result-2 c = omega arith
-
 returns : tie.Need-returns
 returns c =
     let a = c .before .before .before .before .before .before .before .args in
@@ -66,17 +27,7 @@ pub quarters-spec : {M : Type 1} → statement M
 quarters-spec =
     tie.close
     (tie.spec
-    add-range-start
-    range-start-requires
-    at-most-requires
-    mul-range-start
-    add-range-start-2
-    range-start-requires-2
-    at-most-requires-2
-    add-result
-    mul-range-start-2
-    add-range-start-3
-    range-start-requires-3
-    at-most-requires-3
-    add-result-2
+    (λ c. omega arith) (λ c κs. omega arith) (λ c κs. search needs) (λ c. omega arith) (λ c. omega arith)
+    (λ c κs. omega arith) (λ c κs. search needs) (λ c. omega arith) (λ c. omega arith) (λ c. omega arith)
+    (λ c κs. omega arith) (λ c κs. search needs) (λ c. omega arith)
     returns)

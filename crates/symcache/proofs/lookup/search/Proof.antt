@@ -14,29 +14,14 @@ Inv-loop s ranges n addr base₀ size₀ base size = (1 ≤ size) × (size ≤ 1
 abbrev μ-loop : tie.MeasureT-loop
 μ-loop s ranges n addr base₀ size₀ base size = size
 
-halves-requires : tie.Need-halves-requires Inv-loop μ-loop
-halves-requires c κs = omega arith
-
 loop-holds : tie.Need-loop-holds Inv-loop μ-loop
 loop-holds c = c .halves .ensures
-
-quarters-requires : tie.Need-quarters-requires Inv-loop μ-loop
-quarters-requires c κs = omega arith
 
 mul-base : tie.Need-mul-base Inv-loop μ-loop
 mul-base c = omega (arith, times-three (c .before .before .loop .size / 4) (c .quarters .result) (c .quarters .ensures .1))
 
 add-base : tie.Need-add-base Inv-loop μ-loop
 add-base c = omega (arith, times-three (c .before .before .loop .size / 4) (c .quarters .result) (c .quarters .ensures .1))
-
-mul-size : tie.Need-mul-size Inv-loop μ-loop
-mul-size c = omega arith
-
-sub-size : tie.Need-sub-size Inv-loop μ-loop
-sub-size c = omega arith
-
-loop-less : tie.Need-loop-less Inv-loop μ-loop
-loop-less c = omega arith
 
 loop-again : tie.Need-loop-again Inv-loop μ-loop
 loop-again c =
@@ -45,15 +30,6 @@ loop-again c =
     let f = startAt (a .s .now) (a .ranges) in
     let t : l .size / 4 * c .quarters .result ≤ 3 * (l .size / 4) = times-three (l .size / 4) (c .quarters .result) (c .quarters .ensures .1) in
     (omega arith, omega arith, omega (arith, t), rw (c .quarters .ensures .0) (turn f (a .addr) (l .base) (l .size) (omega arith) (l .inv .1) ∙ l .inv .3))
-
-add-count : tie.Need-add-count Inv-loop μ-loop
-add-count c = omega arith
-
-sub-count : tie.Need-sub-count Inv-loop μ-loop
-sub-count c = omega arith
-
-count-requires : tie.Need-count-requires Inv-loop μ-loop
-count-requires c κs = omega arith
 
 add-result : tie.Need-add-result Inv-loop μ-loop
 add-result c = omega (arith, c .count .ensures .1)
@@ -72,17 +48,13 @@ search-spec =
     (tie.spec
     Inv-loop
     μ-loop
-    halves-requires
+    (λ c κs. omega arith)
     loop-holds
-    quarters-requires
+    (λ c κs. omega arith)
     mul-base
     add-base
-    mul-size
-    sub-size
-    loop-less
+    (λ c. omega arith) (λ c. omega arith) (λ c. omega arith)
     loop-again
-    add-count
-    sub-count
-    count-requires
+    (λ c. omega arith) (λ c. omega arith) (λ c κs. omega arith)
     add-result
     returns)

@@ -7,12 +7,6 @@ use borrow.Author.Needs.{needs}
 use Rattle.symcache.proofs.lookup.walk.Statement.{statement}
 use Rattle.symcache.proofs.lookup.walk.Tie as tie
 
-find-in-requires : tie.Need-find-in-requires
-find-in-requires c κs = search needs
-
-walk-from-requires : tie.Need-walk-from-requires
-walk-from-requires c κs = search needs
-
 returns : tie.Need-returns
 returns c = c .walk-from .ensures ∙ walk-nowhere (c .before .before .before .before .args .s .now) (c .before .before .before .before .args .cache) (c .before .before .before .before .args .addr) (c .before .before .find-in .result) (c .before .before .find-in .ensures) (c .before .if1 .taken)
 
@@ -22,15 +16,6 @@ location-in-requires c κs =
     let f = found-inside (c .before .before .before .args .s .now) (c .before .before .before .args .cache) (c .before .before .before .args .addr) (rw e at (c .if1 .left)) in
     omega (arith, e)
 
-is-no-source-location-requires : tie.Need-is-no-source-location-requires
-is-no-source-location-requires c κs = search needs
-
-unless-requires : tie.Need-unless-requires
-unless-requires c κs = search needs
-
-walk-from-requires-2 : tie.Need-walk-from-requires-2
-walk-from-requires-2 c κs = search needs
-
 returns-2 : tie.Need-returns-2
 returns-2 c = c .walk-from2 .ensures ∙ walk-tested (c .before .before .before .before .before .before .before .args .s .now) (c .before .before .before .before .before .before .before .args .cache) (c .before .before .before .before .before .before .before .args .addr) (c .before .before .before .before .before .find-in .result) (c .before .before .before .before .before .find-in .ensures) (c .before .before .before .before .if1 .left) (rw (c .before .before .before .location-in .ensures) at (c .before .before .is-no-source-location .ensures)) (c .before .unless .ensures)
 
@@ -38,11 +23,8 @@ pub walk-spec : {M : Type 1} → statement M
 walk-spec =
     tie.close
     (tie.spec
-    find-in-requires
-    walk-from-requires
+    (λ c κs. search needs) (λ c κs. search needs)
     returns
     location-in-requires
-    is-no-source-location-requires
-    unless-requires
-    walk-from-requires-2
+    (λ c κs. search needs) (λ c κs. search needs) (λ c κs. search needs)
     returns-2)

@@ -8,41 +8,14 @@ use borrow.Author.Needs.{needs}
 use Rattle.symcache.proofs.strings.read_string.Statement.{statement}
 use Rattle.symcache.proofs.strings.read_string.Tie as tie
 
-parse-requires : tie.Need-parse-requires
-parse-requires c κs = search needs
-
-enum-known-parsed : tie.Need-enum-known-parsed
-enum-known-parsed c = search needs
-
-cast-to : tie.Need-cast-to
-cast-to c = search needs
-
 add-to : tie.Need-add-to
 add-to c = let w = parsed-within (c .before .before .before .before .before .before .args .s .now) (c .before .before .parsed .given .0 .0) (sym (c .before .before .before .before .parse .ensures) ∙ ap parseAnswer (c .before .before .parsed .given .1)) .1 .strings in omega arith
-
-sub-read-text : tie.Need-sub-read-text
-sub-read-text c = search needs
-
-part-read-text-start : tie.Need-part-read-text-start
-part-read-text-start c = search needs
 
 part-read-text-end : tie.Need-part-read-text-end
 part-read-text-end c = parsed-within (c .before .before .before .before .before .before .args .s .now) (c .before .before .parsed .given .0 .0) (sym (c .before .before .before .before .parse .ensures) ∙ ap parseAnswer (c .before .before .parsed .given .1)) .1 .strings
 
-read-text-requires : tie.Need-read-text-requires
-read-text-requires c κs = search needs
-
-enum-known-read : tie.Need-enum-known-read
-enum-known-read c = search needs
-
 add-t17 : tie.Need-add-t17
 add-t17 c = let i = string-inside (c .before .before .before .before .before .before .before .before .before .before .before .args .s .now) (c .before .before .before .before .before .before .before .parsed .given .0 .0) (sym (c .before .before .before .before .before .before .before .before .before .parse .ensures) ∙ ap parseAnswer (c .before .before .before .before .before .before .before .parsed .given .1)) (c .before .before .before .before .before .before .before .before .before .before .before .args .offset) (c .before .read .given .0 .0) (c .before .read .given .0 .1 .0) (sym (c .before .before .before .read-text .ensures) ∙ c .before .read .given .1) in omega arith
-
-enum-told : tie.Need-enum-told
-enum-told c = search needs
-
-enum-known-parsed-2 : tie.Need-enum-known-parsed-2
-enum-known-parsed-2 c = search needs
 
 returns : tie.Need-returns
 returns c = string-there (c .before .before .before .before .before .before .before .before .before .before .before .args .s .now) (c .before .before .before .before .before .before .before .parsed .given .0 .0) (sym (c .before .before .before .before .before .before .before .before .before .parse .ensures) ∙ ap parseAnswer (c .before .before .before .before .before .before .before .parsed .given .1)) (c .before .before .before .before .before .before .before .before .before .before .before .args .offset) (c .before .read .given .0 .0) (c .before .read .given .0 .1 .0) (sym (c .before .before .before .read-text .ensures) ∙ c .before .read .given .1)
@@ -57,18 +30,13 @@ pub read-string-spec : {M : Type 1} → statement M
 read-string-spec =
     tie.close
     (tie.spec
-    parse-requires
-    enum-known-parsed
-    cast-to
+    (λ c κs. search needs) (λ c. search needs) (λ c. search needs)
     add-to
-    sub-read-text
-    part-read-text-start
+    (λ c. search needs) (λ c. search needs)
     part-read-text-end
-    read-text-requires
-    enum-known-read
+    (λ c κs. search needs) (λ c. search needs)
     add-t17
-    enum-told
-    enum-known-parsed-2
+    (λ c. search needs) (λ c. search needs)
     returns
     returns-2
     returns-3)

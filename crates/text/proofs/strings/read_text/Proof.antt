@@ -6,15 +6,6 @@ use borrow.Author.Needs.{needs}
 use Rattle.text.proofs.strings.read_text.Statement.{statement}
 use Rattle.text.proofs.strings.read_text.Tie as tie
 
-read-leb128-requires : tie.Need-read-leb128-requires
-read-leb128-requires c κs = search needs
-
-enum-known-value : tie.Need-enum-known-value
-enum-known-value c = search needs
-
-enum-told : tie.Need-enum-told
-enum-told c = search needs
-
 returns : tie.Need-returns
 returns c =
     let a = c .before .before .before .before .args in
@@ -48,21 +39,12 @@ add-end c =
     let e = c .before .before .before .before .read-leb128 .ensures in
     omega (arith, prefix-within (a .section .now) (a .offset) (g .0 .0) (g .0 .1 .0) (sym e ∙ g .1))
 
-sub-is-utf8 : tie.Need-sub-is-utf8
-sub-is-utf8 c = search needs
-
-part-is-utf8-start : tie.Need-part-is-utf8-start
-part-is-utf8-start c = search needs
-
 part-is-utf8-end : tie.Need-part-is-utf8-end
 part-is-utf8-end c =
     let a = c .before .before .before .before .before .before .args in
     let g = c .before .before .value .given in
     let e = c .before .before .before .before .read-leb128 .ensures in
     omega (arith, prefix-within (a .section .now) (a .offset) (g .0 .0) (g .0 .1 .0) (sym e ∙ g .1))
-
-is-utf8-requires : tie.Need-is-utf8-requires
-is-utf8-requires c κs = search needs
 
 returns-3 : tie.Need-returns-3
 returns-3 c =
@@ -82,17 +64,14 @@ pub read-text-spec : {M : Type 1} → statement M
 read-text-spec =
     tie.close
     (tie.spec
-    read-leb128-requires
-    enum-known-value
-    enum-told
+    (λ c κs. search needs) (λ c. search needs) (λ c. search needs)
     returns
     add-start
     sub-if1
     returns-2
     add-end
-    sub-is-utf8
-    part-is-utf8-start
+    (λ c. search needs) (λ c. search needs)
     part-is-utf8-end
-    is-utf8-requires
+    (λ c κs. search needs)
     returns-3
     returns-4)
