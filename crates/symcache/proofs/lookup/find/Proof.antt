@@ -4,7 +4,7 @@ use Rattle.symcache.proofs.lookup.find.Statement.{statement}
 use Rattle.symcache.proofs.lookup.find.Tie as tie
 
 returns : tie.Need-returns
-returns c = c .find-in .ensures
+returns c = c .find .ensures
 
 pub find-spec : {M : Type 1} → statement M
 find-spec = tie.close (tie.spec (λ c κs. search needs) returns)
