@@ -113,9 +113,9 @@ module _ (f : ℕ → ℕ) (a : ℕ) where
         inside = omega (arith, mul-le-mul-left q (C .most), A .inside);
         low = ⊎-elim (λ z. let e : b + q * c ≡ b = rw z (omega arith) in rw e (A .low)) (λ z. inl (C .low c z (omega arith))) (zero-or-more c);
         above = λ j x y. ⊎-elim
-          (λ z. let e : q * c ≡ q * k = rw z in A .above j (omega arith) y)
-          (λ z. later f a m climbs (b + q * suc c) j (C .above (suc c) (omega arith) (omega arith)) (omega (arith, mul-suc q c)) y)
-          (meets c k (C .most));
+            (λ z. let e : q * c ≡ q * k = rw z in A .above j (omega arith) y)
+            (λ z. later f a m climbs (b + q * suc c) j (C .above (suc c) (omega arith) (omega arith)) (omega (arith, mul-suc q c)) y)
+            (meets c k (C .most));
       }
 
       turn-leads : Among (led f a b q k) (n - q * k)

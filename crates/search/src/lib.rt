@@ -197,4 +197,3 @@ pub fn find(
     }
     u32::MAX
 }
-

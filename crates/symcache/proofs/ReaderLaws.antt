@@ -70,21 +70,20 @@ module _ (s : List ℕ) (v : VersionInfo) (e : v ≡ versionInfoAt s 0) where
           unfolding parsed refuseIf
           then-tables m h c i k = rw (le-ltb (length s) 8 h₁, ← e, ne-eqb (v .magic) reversedMagic h₂, eq-eqb (v .magic) magic h₃, eq-eqb (v .version) 9 h₄, le-ltb (length s) 80 m, ← i, k)
 
-pub unexpected-bytes : (n : ℕ) (c : SymCache) (v f : ℕ) → c .files + 24 * c .«num_files» ≤ n → c .functions + 16 * c .«num_functions» ≤ n
-    → c .«source_locations» + 16 * c .«num_source_locations» ≤ n → c .ranges + 4 * c .«num_ranges» ≤ n → c .«num_ranges» ≤ c .«num_source_locations»
-    → n < c .strings + c .«string_bytes» → f ≡ n - c .strings
-    → refuses (refusalOf (kind.UnexpectedStringBytes (c .«string_bytes») f)) ≡ tested n c v
-unfolding tested refuseIf
-unexpected-bytes n c v f h₁ h₂ h₃ h₄ h₅ h₆ e =
-    rw (
-      le-ltb n (c .files + 24 * c .«num_files») h₁,
-      le-ltb n (c .functions + 16 * c .«num_functions») h₂,
-      le-ltb n (c .«source_locations» + 16 * c .«num_source_locations») h₃,
-      le-ltb n (c .ranges + 4 * c .«num_ranges») h₄,
-      le-ltb (c .«num_source_locations») (c .«num_ranges») h₅,
-      lt-ltb n (c .strings + c .«string_bytes») h₆,
-      e,
-    )
+-- a test that refuses, and one that is passed
+pub refused-here : {A : Type 0} (b : Bool) (r : Refusal) (y : Answer A) → b ≡ true → refuses r ≡ refuseIf b r y
+unfolding refuseIf
+refused-here b r y e = rw e
+
+-- 10 tells what was found
+pub refused-found : {A : Type 0} (b : Bool) (e f n : ℕ) (y : Answer A) → f ≡ n → b ≡ true
+    → refuses (refusalOf (kind.UnexpectedStringBytes e f)) ≡ refuseIf b (refusalOf (kind.UnexpectedStringBytes e n)) y
+unfolding refuseIf
+refused-found b e f n y h t = rw (t, h)
+
+pub passed-on : {A : Type 0} (b : Bool) (r : Refusal) (x y : Answer A) → b ≡ false → x ≡ y → x ≡ refuseIf b r y
+unfolding refuseIf
+passed-on b r x y e h = rw e h
 
 -- ── What an accepted file has ──
 

@@ -9,17 +9,36 @@ use Rattle.listing.proofs.Whole.{frame-length, frame-run}
 use Rattle.listing.proofs.frame_line.Statement.{statement}
 use Rattle.listing.proofs.frame_line.Tie as tie
 
+-- from the end to each field's call, and to the start
+abbrev line-put : tie.After-slice-known7 → tie.After-put-spaced4
+line-put c = c .before .before .before .before .before .before
+
+abbrev function-put : tie.After-put-spaced4 → tie.After-put-spaced3
+function-put c = c .before .before .before .before
+
+abbrev location-put : tie.After-put-spaced3 → tie.After-put-spaced2
+location-put c = c .before .before .before .before
+
+abbrev number-put : tie.After-put-spaced2 → tie.After-put-spaced
+number-put c = c .before .before .before .before
+
+abbrev address-put : tie.After-put-spaced → tie.After-put-hex
+address-put c = c .before .before .before .before
+
+abbrev start : tie.After-slice-known7 → tie.Start
+start c = address-put (number-put (location-put (function-put (line-put c)))) .before .before .before .before .before
+
 run : (c : tie.After-slice-known7) →
-    let a = c .before .before .before .before .before .before .before .before .before .before .before .before .before .before .before .before .before .before .before .before .before .before .before .before .before .before .before .args in
+    let a = start c .args in
     Run (a .out .now) (a .at) (frameLine (a .address) (a .number) (a .location) (a .function) (a .line) (a .file)) (set (c .before .before .put-spaced5 .last .0) (a .at + 61) 10) (a .at + 62)
 run c =
-    let a = c .before .before .before .before .before .before .before .before .before .before .before .before .before .before .before .before .before .before .before .before .before .before .before .before .before .before .before .args in
+    let a = start c .args in
     frame-run (a .out .now) (a .at) (a .address) (a .number) (a .location) (a .function) (a .line) (a .file)
-    (c .before .before .before .before .before .before .before .before .before .before .before .before .before .before .before .before .before .before .before .before .before .before .put-hex .ensures)
-    (c .before .before .before .before .before .before .before .before .before .before .before .before .before .before .before .before .before .before .put-spaced .ensures)
-    (c .before .before .before .before .before .before .before .before .before .before .before .before .before .before .put-spaced2 .ensures)
-    (c .before .before .before .before .before .before .before .before .before .before .put-spaced3 .ensures)
-    (c .before .before .before .before .before .before .put-spaced4 .ensures)
+    (address-put (number-put (location-put (function-put (line-put c)))) .put-hex .ensures)
+    (number-put (location-put (function-put (line-put c))) .put-spaced .ensures)
+    (location-put (function-put (line-put c)) .put-spaced2 .ensures)
+    (function-put (line-put c) .put-spaced3 .ensures)
+    (line-put c .put-spaced4 .ensures)
     (c .before .before .put-spaced5 .ensures)
 
 returns : tie.Need-returns
@@ -37,7 +56,7 @@ same-length c = kept (run c)
 
 returns-3 : tie.Need-returns-3
 returns-3 c =
-    let a = c .before .before .before .before .before .before .before .before .before .before .before .before .before .before .before .before .before .before .before .before .before .before .before .before .before .before .before .args in
+    let a = start c .args in
     printed (a .out .now) (a .at) (frameLine (a .address) (a .number) (a .location) (a .function) (a .line) (a .file)) (omega arith) (run c)
 
 pub frame-line-spec : {M : Type 1} → statement M

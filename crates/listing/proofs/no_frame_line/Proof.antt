@@ -9,13 +9,20 @@ use Rattle.listing.proofs.Whole.{no-frame-length, no-frame-run}
 use Rattle.listing.proofs.no_frame_line.Statement.{statement}
 use Rattle.listing.proofs.no_frame_line.Tie as tie
 
+-- from the end to the address's call, and to the start
+abbrev address-put : tie.After-slice-known3 → tie.After-put-hex
+address-put c = c .before .before .before .before .before .before
+
+abbrev start : tie.After-slice-known3 → tie.Start
+start c = address-put c .before .before .before .before .before
+
 run : (c : tie.After-slice-known3) →
-    let a = c .before .before .before .before .before .before .before .before .before .before .before .args in
+    let a = start c .args in
     Run (a .out .now) (a .at) (noFrameLine (a .address)) (set (c .before .before .put-spaced .last .0) (a .at + 25) 10) (a .at + 26)
 run c =
-    let a = c .before .before .before .before .before .before .before .before .before .before .before .args in
+    let a = start c .args in
     no-frame-run (a .out .now) (a .at) (a .address)
-    (c .before .before .before .before .before .before .put-hex .ensures)
+    (address-put c .put-hex .ensures)
     (c .before .before .put-spaced .ensures)
 
 returns : tie.Need-returns
@@ -33,7 +40,7 @@ same-length c = kept (run c)
 
 returns-3 : tie.Need-returns-3
 returns-3 c =
-    let a = c .before .before .before .before .before .before .before .before .before .before .before .args in
+    let a = start c .args in
     printed (a .out .now) (a .at) (noFrameLine (a .address)) (omega arith) (run c)
 
 pub no-frame-line-spec : {M : Type 1} → statement M

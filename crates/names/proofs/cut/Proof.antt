@@ -10,6 +10,10 @@ use borrow.Author.Needs.{needs}
 use Rattle.names.proofs.cut.Statement.{statement}
 use Rattle.names.proofs.cut.Tie as tie
 
+-- from where the mark was found to the start
+abbrev start : tie.After-known-told → tie.Start
+start c = c .before .before .before .before .before .before
+
 returns : tie.Need-returns
 returns c = sym (ap found (cut-none _ _ (found-none _ (sym (c .enum-told .given .1) ∙ c .before .before .rfind .ensures))))
 
@@ -26,14 +30,14 @@ part-parses-start c = rfind-within _ _ _ (found-some _ _ (sym (c .before .n .giv
 
 returns-2 : tie.Need-returns-2
 returns-2 c =
-    let a = c .before .before .before .before .before .before .before .before .before .args in
+    let a = start (c .before .before .before) .args in
     let n = c .before .before .before .before .n .given .0 .0 in
     let e = rw (rest (n + length (a .pat .now)) (a .s .now)) at (sym (c .before .parses .ensures) ∙ c .if1 .taken) in
     sym (ap found (cut-some (a .pat .now) (a .s .now) n (found-some _ _ (sym (c .before .before .before .before .n .given .1) ∙ c .before .before .before .before .before .before .rfind .ensures)) e))
 
 returns-3 : tie.Need-returns-3
 returns-3 c =
-    let a = c .before .before .before .before .before .before .before .before .before .args in
+    let a = start (c .before .before .before) .args in
     let n = c .before .before .before .before .n .given .0 .0 in
     let e = rw (rest (n + length (a .pat .now)) (a .s .now)) at (sym (c .before .parses .ensures) ∙ c .if1 .left) in
     sym (ap found (cut-other (a .pat .now) (a .s .now) n (found-some _ _ (sym (c .before .before .before .before .n .given .1) ∙ c .before .before .before .before .before .before .rfind .ensures)) e))

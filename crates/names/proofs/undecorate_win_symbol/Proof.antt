@@ -10,6 +10,13 @@ use borrow.Author.Needs.{needs}
 use Rattle.names.proofs.undecorate_win_symbol.Statement.{statement}
 use Rattle.names.proofs.undecorate_win_symbol.Tie as tie
 
+-- from after `prefixed` to the start
+abbrev unfound : tie.Then3 → tie.Else2
+unfound c = c .before .before .before .before .before .before
+
+abbrev start : tie.Then3 → tie.Start
+start c = unfound c .before .before .before .before .before .before
+
 returns : tie.Need-returns
 returns c = sym (mangled _ (sym (c .before .starts-with .ensures) ∙ c .if1 .taken))
 
@@ -35,7 +42,7 @@ part-rest-start c = prefixed-within _ (sym (c .before .prefixed .ensures) ∙ c 
 
 slice-aggregate-result-2 : tie.Need-slice-aggregate-result-2
 slice-aggregate-result-2 c =
-    let s = c .before .before .before .before .before .before .before .before .before .before .before .before .before .before .before .before .before .before .before .args .name .now in
+    let s = start (c .before .before .before .before .before .before .before) .args .name .now in
     rw (rest 1 s) (sym (length-take-le _ _ (cut-within _ _ _ (found-some _ _ (sym (c .before .before .n2 .given .1) ∙ rw (rest 1 s) at (c .before .before .before .before .cut2 .ensures))))))
 
 returns-4 : tie.Need-returns-4

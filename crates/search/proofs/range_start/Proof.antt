@@ -7,9 +7,13 @@ use borrow.Author.Needs.{needs}
 use Rattle.search.proofs.range_start.Statement.{statement}
 use Rattle.search.proofs.range_start.Tie as tie
 
+-- from the third byte to the start
+abbrev start : tie.After-wide3 → tie.Start
+start c = c .before .before .before .before .before .before .before
+
 returns : tie.Need-returns
 unfolding rangeAt
-returns c = omega (arith, leAt-four (c .before .before .before .before .before .before .before .before .before .args .s .now) (c .before .before .before .before .before .before .before .before .before .args .ranges + 4 * c .before .before .before .before .before .before .before .before .before .args .i))
+returns c = let a = start (c .before .before) .args in omega (arith, leAt-four (a .s .now) (a .ranges + 4 * a .i))
 
 pub range-start-spec : {M : Type 1} → statement M
 range-start-spec =

@@ -6,6 +6,10 @@ use borrow.Author.Needs.{needs}
 use Rattle.text.proofs.strings.read_text.Statement.{statement}
 use Rattle.text.proofs.strings.read_text.Tie as tie
 
+-- from where the prefix lies in the section to the start
+abbrev start : tie.Else1 → tie.Start
+start c = c .before .before .before .before .before .before
+
 returns : tie.Need-returns
 returns c =
     let a = c .before .before .before .before .args in
@@ -48,14 +52,14 @@ part-is-utf8-end c =
 
 returns-3 : tie.Need-returns-3
 returns-3 c =
-    let a = c .before .before .before .before .before .before .before .before .before .args in
+    let a = start (c .before .before .before) .args in
     let g = c .before .before .before .before .before .value .given in
     let e = c .before .before .before .before .before .before .before .read-leb128 .ensures in
     present (a .section .now) (a .offset) (g .0 .0) (g .0 .1 .0) (sym (g .1) ∙ e) (c .before .before .before .if1 .left) (c .before .is-utf8 .ensures) (c .if2 .taken)
 
 returns-4 : tie.Need-returns-4
 returns-4 c =
-    let a = c .before .before .before .before .before .before .before .before .before .args in
+    let a = start (c .before .before .before) .args in
     let g = c .before .before .before .before .before .value .given in
     let e = c .before .before .before .before .before .before .before .read-leb128 .ensures in
     absent-bytes (a .section .now) (a .offset) (g .0 .0) (g .0 .1 .0) (sym (g .1) ∙ e) (c .before .before .before .if1 .left) (c .before .is-utf8 .ensures) (c .if2 .left)

@@ -12,11 +12,23 @@ use Rattle.text.proofs.Utf8Eights.{eight-sum, too-short}
 use Rattle.text.proofs.utf8.eight.Statement.{statement}
 use Rattle.text.proofs.utf8.eight.Tie as tie
 
+-- from the end to the fourth octet, and to where there are eight
+abbrev fourth : tie.After-above8 → tie.After-above4
+fourth c = c .before .before .before .before .before .before .before .before
+
+abbrev long : tie.After-above8 → tie.Else1
+long c = fourth c .before .before .before .before .before .before .before .before
+
 returns : tie.Need-returns
 returns c = too-short (c .before .before .args .s .now) (c .if1 .taken)
 
 returns-2 : tie.Need-returns-2
-returns-2 c = eight-sum (c .before .before .before .before .before .before .before .before .before .before .before .before .before .before .before .before .before .before .args .s .now) (c .before .before .before .before .before .before .before .before .before .before .before .before .before .before .before .before .if1 .left) (c .before .before .before .before .before .before .before .before .before .before .before .before .before .before .above .ensures .0) (c .before .before .before .before .before .before .before .before .before .before .before .before .above2 .ensures .0) (c .before .before .before .before .before .before .before .before .before .before .above3 .ensures .0) (c .before .before .before .before .before .before .before .before .above4 .ensures .0) (c .before .before .before .before .before .before .above5 .ensures .0) (c .before .before .before .before .above6 .ensures .0) (c .before .before .above7 .ensures .0) (c .above8 .ensures .0)
+returns-2 c =
+    eight-sum (long c .before .before .args .s .now) (long c .if1 .left)
+    (fourth c .before .before .before .before .before .before .above .ensures .0) (fourth c .before .before .before .before .above2 .ensures .0)
+    (fourth c .before .before .above3 .ensures .0) (fourth c .above4 .ensures .0)
+    (c .before .before .before .before .before .before .above5 .ensures .0) (c .before .before .before .before .above6 .ensures .0)
+    (c .before .before .above7 .ensures .0) (c .above8 .ensures .0)
 
 pub eight-spec : {M : Type 1} → statement M
 eight-spec =
