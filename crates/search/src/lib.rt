@@ -1,4 +1,5 @@
-// The search for an address among the starts of a file's ranges, read in place: the binary search of v9/lookup.rs. No number that a caller hands over is trusted.
+// The search for an address among the starts of a file's ranges, read in place: the binary search of v9/lookup.rs.
+// Where the tables are said to lie is not trusted.
 ghost use mathlib.Core.Path.{_≡_};
 ghost use Prim.Native.Nat.{_+_, _*_, _≤_, _<_};
 ghost use mathlib.Core.Bool.{cond};

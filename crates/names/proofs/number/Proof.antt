@@ -56,6 +56,7 @@ number-spec =
     sub-value
     cast-value
     add-value
+    (λ c. omega arith)
     returns-3
     (λ c. omega arith) (λ c. omega arith)
     loop-again
