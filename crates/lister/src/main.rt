@@ -9,25 +9,16 @@ use symcache::lookup::Frame;
 use symcache::lookup::SourceLocations;
 use symcache::lookup::Step;
 
-// The line that is being read, its number from 1 modulo 2^32, and whether no good line came before it.
+// The line that is being read, and its number from 1 modulo 2^32.
 struct Input {
     line: LineState,
     number: u32,
-    first: bool,
 }
 
 // What one read gives: whether there may be more, and the input after it.
 struct Chunk {
     more: bool,
     input: Input,
-}
-
-// The address that a good line looks up. The first good line is told from later ones here, and nowhere else: they look up the same.
-fn looked_up_address(address: u64, first: bool) -> u64 {
-    if first {
-        return address;
-    }
-    address
 }
 
 // The lines printed
@@ -81,8 +72,8 @@ fn print_frames(file: &[u8], address: u64, walk: SourceLocations) -> u32 {
 }
 
 // What a good line prints.
-fn print_address(file: &[u8], cache: SymCache, address: u64, first: bool) {
-    let walk = symcache::lookup::walk(file, cache, looked_up_address(address, first));
+fn print_address(file: &[u8], cache: SymCache, address: u64) {
+    let walk = symcache::lookup::walk(file, cache, address);
     if print_frames(file, address, walk) == 0 {
         print_no_frame(address);
     }
@@ -95,32 +86,20 @@ fn start() -> Input {
     Input {
         line: LineState::start(),
         number: 1,
-        first: true,
     }
 }
 
 // The line is at its end: what it prints, and the next line.
 fn finish(file: &[u8], cache: SymCache, input: Input) -> Input {
-    let next = std::num::wrapping_add_u32(input.number, 1);
     let line = input.line;
     let read = line.finish();
     match read {
-        LineRead::Address(address) => {
-            print_address(file, cache, address, input.first);
-            Input {
-                line: LineState::start(),
-                number: next,
-                first: false,
-            }
-        }
-        LineRead::Bad => {
-            print_bad(input.number);
-            Input {
-                line: LineState::start(),
-                number: next,
-                first: input.first,
-            }
-        }
+        LineRead::Address(address) => print_address(file, cache, address),
+        LineRead::Bad => print_bad(input.number),
+    }
+    Input {
+        line: LineState::start(),
+        number: std::num::wrapping_add_u32(input.number, 1),
     }
 }
 
@@ -132,7 +111,6 @@ fn feed(file: &[u8], cache: SymCache, input: Input, byte: u8) -> Input {
     Input {
         line: line.feed(byte),
         number: input.number,
-        first: input.first,
     }
 }
 

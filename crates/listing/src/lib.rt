@@ -177,7 +177,7 @@ pub fn no_frame_line(out: &mut [u8], at: usize, address: u64) -> usize
         return at;
     }
     put_hex(out, at, address, 16);
-    put_spaced(out, at + 16, 4294967295);
+    put_spaced(out, at + 16, u32::MAX);
     out[at + 25] = 10;
     at + 26
 }

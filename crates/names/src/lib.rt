@@ -95,7 +95,7 @@ fn number(s: &[u8]) -> bool
             return false;
         }
         value = value * 10 + (s[i] - b'0') as u64;
-        if 4294967295 < value {
+        if (u32::MAX as u64) < value {
             return false;
         }
         i += 1;

@@ -11,7 +11,7 @@ use Rattle.text.specs.Utf8.{utf8, chars, charLen, UTF8-char, fits, within}
 use Rattle.slices.specs.Bytes.{le, words, tableBytes}
 use Rattle.raw.specs.Rows.{versionInfoBytes, headerBytes}
 use Rattle.raw.specs.Head.{padding}
-use Rattle.symcache.proofs.Worked as original
+use Rattle.read_back.proofs.WorkedBytes as original
 use Rattle.model.specs.Basics.{_∈_}
 use Rattle.model.specs.Rows.{MAX, Text, Given}
 use Rattle.model.specs.Converter.{Tables, converted}

@@ -1,47 +1,24 @@
 -- Laws of the reader.
-use Prim.Native.Nat.{ℕ, zero, suc, _+_, _*_, _-_, _≤_, _<_}
+use Prim.Native.Nat.{ℕ, _+_, _*_, _-_, _≤_, _<_}
 use mathlib.Core.Path.{_≡_, refl, sym, _∙_}
 use mathlib.Core.List.{List}
 use mathlib.Core.Bool.{Bool, true, false, not}
 use native.Mathlib.Omega.{arith}
-use native.Mathlib.Numerals.{add-one}
 use lib.ListN.{length}
-use borrow.Author.Tests.{lt-ltb, le-ltb, ltb-false, eq-eqb, ne-eqb, not-false}
+use borrow.Author.Tests.{lt-ltb, le-ltb, le-leb, ltb-false, eq-eqb, ne-eqb, not-false}
 use Rattle.raw.specs.declared.VersionInfo.{VersionInfo}
 use Rattle.raw.specs.declared.Header.{Header}
 use Rattle.raw.specs.Rows.{versionInfoAt, headerAt}
+use Rattle.search.specs.Search.{ordered}
+use Rattle.symcache.specs.declared.ErrorKind.the-variants as kind
 use Rattle.symcache.specs.declared.SymCache.{SymCache}
 use Rattle.symcache.specs.declared.Parsed.{Parsed}
-use Rattle.symcache.specs.Answers.{Refusal, Answer, gives, refuses, only, refuseIf, andThen, parseAnswer}
-use Rattle.symcache.specs.Reader.{magic, reversedMagic, aligned, layoutOf, tested, parsed, startAt, ascendingFrom, ascending, opened, Within}
+use Rattle.symcache.specs.Answers.{Refusal, Answer, gives, refuses, refusalOf, refuseIf, andThen, parseAnswer}
+use Rattle.symcache.specs.Reader.{magic, reversedMagic, aligned, layoutOf, tested, parsed, startAt, ascending, opened, Within}
 
 pub aligned-up : (n : ℕ) → aligned n ≤ n + 7
 unfolding aligned
 aligned-up n = omega arith
-
--- ── Starts that ascend ──
-
--- one turn of the test
-pub ascending-more : (f : ℕ → ℕ) (last i n : ℕ) → i < n → last < f i → ascendingFrom f (f i) (i + 1) (n - (i + 1)) ≡ ascendingFrom f last i (n - i)
-unfolding ascendingFrom
-ascending-more f last i n h l =
-    let e : n - i ≡ suc (n - (i + 1)) = omega arith in
-    rw (e, lt-ltb last (f i) l, add-one i)
-
-pub ascending-stops : (f : ℕ → ℕ) (last i n : ℕ) → i < n → f i ≤ last → ascendingFrom f last i (n - i) ≡ false
-unfolding ascendingFrom
-ascending-stops f last i n h l =
-    let e : n - i ≡ suc (n - (i + 1)) = omega arith in
-    rw (e, le-ltb last (f i) l)
-
-pub ascending-ends : (f : ℕ → ℕ) (last i n : ℕ) → n ≤ i → true ≡ ascendingFrom f last i (n - i)
-unfolding ascendingFrom
-ascending-ends f last i n h = let e : n - i ≡ zero = omega arith in rw e
-
-pub ascending-begins : (f : ℕ → ℕ) (n : ℕ) → 0 < n → ascendingFrom f (f 0) 1 (n - 1) ≡ ascending f n
-unfolding ascending
-ascending-begins f zero h = absurd (omega arith)
-ascending-begins f (suc n) h = let e : suc n - 1 ≡ n = omega arith in rw e
 
 -- ── The tables of a header ──
 
@@ -65,27 +42,27 @@ layout-made h a b c d e ha hb hc hd he = rw (he, hd, hc, hb, ha)
 -- ── The numbers 1 to 5, and what follows them ──
 
 module _ (s : List ℕ) (v : VersionInfo) (e : v ≡ versionInfoAt s 0) where
-  pub too-short : length s < 8 → refuses (only 1) ≡ parsed s
+  pub too-short : length s < 8 → refuses (refusalOf kind.TooShort) ≡ parsed s
   unfolding parsed refuseIf
   too-short h = rw (lt-ltb (length s) 8 h)
 
   module _ (h₁ : 8 ≤ length s) where
-    pub wrong-endianness : v .magic ≡ reversedMagic → refuses (only 2) ≡ parsed s
+    pub wrong-endianness : v .magic ≡ reversedMagic → refuses (refusalOf kind.WrongEndianness) ≡ parsed s
     unfolding parsed refuseIf
     wrong-endianness m = rw (le-ltb (length s) 8 h₁, ← e, eq-eqb (v .magic) reversedMagic m)
 
     module _ (h₂ : v .magic ≡ reversedMagic → ⊥) where
-      pub wrong-format : (v .magic ≡ magic → ⊥) → refuses (only 3) ≡ parsed s
+      pub wrong-format : (v .magic ≡ magic → ⊥) → refuses (refusalOf kind.WrongFormat) ≡ parsed s
       unfolding parsed refuseIf
       wrong-format m = rw (le-ltb (length s) 8 h₁, ← e, ne-eqb (v .magic) reversedMagic h₂, ne-eqb (v .magic) magic m)
 
       module _ (h₃ : v .magic ≡ magic) where
-        pub wrong-version : (v .version ≡ 9 → ⊥) → refuses (only 4) ≡ parsed s
+        pub wrong-version : (v .version ≡ 9 → ⊥) → refuses (refusalOf kind.WrongVersion) ≡ parsed s
         unfolding parsed refuseIf
         wrong-version m = rw (le-ltb (length s) 8 h₁, ← e, ne-eqb (v .magic) reversedMagic h₂, eq-eqb (v .magic) magic h₃, ne-eqb (v .version) 9 m)
 
         module _ (h₄ : v .version ≡ 9) where
-          pub invalid-header : length s < 80 → refuses (only 5) ≡ parsed s
+          pub invalid-header : length s < 80 → refuses (refusalOf kind.InvalidHeader) ≡ parsed s
           unfolding parsed refuseIf
           invalid-header m = rw (le-ltb (length s) 8 h₁, ← e, ne-eqb (v .magic) reversedMagic h₂, eq-eqb (v .magic) magic h₃, eq-eqb (v .version) 9 h₄, lt-ltb (length s) 80 m)
 
@@ -93,21 +70,20 @@ module _ (s : List ℕ) (v : VersionInfo) (e : v ≡ versionInfoAt s 0) where
           unfolding parsed refuseIf
           then-tables m h c i k = rw (le-ltb (length s) 8 h₁, ← e, ne-eqb (v .magic) reversedMagic h₂, eq-eqb (v .magic) magic h₃, eq-eqb (v .version) 9 h₄, le-ltb (length s) 80 m, ← i, k)
 
-pub unexpected-bytes : (n : ℕ) (c : SymCache) (v f : ℕ) → c .files + 24 * c .«num_files» ≤ n → c .functions + 16 * c .«num_functions» ≤ n
-    → c .«source_locations» + 16 * c .«num_source_locations» ≤ n → c .ranges + 4 * c .«num_ranges» ≤ n → c .«num_ranges» ≤ c .«num_source_locations»
-    → n < c .strings + c .«string_bytes» → f ≡ n - c .strings
-    → refuses (record { number = 10; expected = c .«string_bytes»; found = f }) ≡ tested n c v
-unfolding tested refuseIf
-unexpected-bytes n c v f h₁ h₂ h₃ h₄ h₅ h₆ e =
-    rw (
-      le-ltb n (c .files + 24 * c .«num_files») h₁,
-      le-ltb n (c .functions + 16 * c .«num_functions») h₂,
-      le-ltb n (c .«source_locations» + 16 * c .«num_source_locations») h₃,
-      le-ltb n (c .ranges + 4 * c .«num_ranges») h₄,
-      le-ltb (c .«num_source_locations») (c .«num_ranges») h₅,
-      lt-ltb n (c .strings + c .«string_bytes») h₆,
-      e,
-    )
+-- a test that refuses, and one that is passed
+pub refused-here : {A : Type 0} (b : Bool) (r : Refusal) (y : Answer A) → b ≡ true → refuses r ≡ refuseIf b r y
+unfolding refuseIf
+refused-here b r y e = rw e
+
+-- 10 tells what was found
+pub refused-found : {A : Type 0} (b : Bool) (e f n : ℕ) (y : Answer A) → f ≡ n → b ≡ true
+    → refuses (refusalOf (kind.UnexpectedStringBytes e f)) ≡ refuseIf b (refusalOf (kind.UnexpectedStringBytes e n)) y
+unfolding refuseIf
+refused-found b e f n y h t = rw (t, h)
+
+pub passed-on : {A : Type 0} (b : Bool) (r : Refusal) (x y : Answer A) → b ≡ false → x ≡ y → x ≡ refuseIf b r y
+unfolding refuseIf
+passed-on b r x y e h = rw e h
 
 -- ── What an accepted file has ──
 
@@ -153,11 +129,16 @@ parsed-within s c e =
 pub accepted : (p : Parsed) (s : List ℕ) (c : SymCache) → parseAnswer p ≡ parsed s → parseAnswer p ≡ gives c → Within (length s) c
 accepted p s c e g = parsed-within s c (sym e ∙ g) .1
 
+-- the starts of a file that was read lie in it
+pub read-ordered : (s : List ℕ) (c : SymCache) → parsed s ≡ gives c → ordered s (c .ranges) (c .«num_ranges») ≡ ascending (startAt s (c .ranges)) (c .«num_ranges»)
+unfolding ordered
+read-ordered s c e = rw (le-leb (c .ranges + 4 * c .«num_ranges») (length s) (parsed-within s c e .1 .ranges))
+
 pub opened-accepted : (s : List ℕ) (c : SymCache) → parsed s ≡ gives c → ascending (startAt s (c .ranges)) (c .«num_ranges») ≡ true → gives c ≡ opened s
 unfolding opened andThen refuseIf
 opened-accepted s c e a = rw (e, andThen, a)
 
-pub opened-unordered : (s : List ℕ) (c : SymCache) → parsed s ≡ gives c → ascending (startAt s (c .ranges)) (c .«num_ranges») ≡ false → refuses (only 12) ≡ opened s
+pub opened-unordered : (s : List ℕ) (c : SymCache) → parsed s ≡ gives c → ascending (startAt s (c .ranges)) (c .«num_ranges») ≡ false → refuses (refusalOf kind.UnorderedRanges) ≡ opened s
 unfolding opened andThen refuseIf
 opened-unordered s c e a = rw (e, andThen, a)
 
@@ -171,10 +152,10 @@ unfolding opened andThen
 opened-has s c e = go (parsed s) refl e
   where
     go : (p : Answer SymCache) → parsed s ≡ p
-        → andThen p (λ d. refuseIf (not (ascending (startAt s (d .ranges)) (d .«num_ranges»))) (only 12) (gives d)) ≡ gives c
+        → andThen p (λ d. refuseIf (not (ascending (startAt s (d .ranges)) (d .«num_ranges»))) (refusalOf kind.UnorderedRanges) (gives d)) ≡ gives c
         → Within (length s) c × (ascending (startAt s (c .ranges)) (c .«num_ranges») ≡ true)
     go (gives d) g h =
-        let (t, u) = passed (not (ascending (startAt s (d .ranges)) (d .«num_ranges»))) (only 12) (gives d) c h in
+        let (t, u) = passed (not (ascending (startAt s (d .ranges)) (d .«num_ranges»))) (refusalOf kind.UnorderedRanges) (gives d) c h in
         let same : d ≡ c = cc in
         (parsed-within s c (rw same at g) .1, rw same at (not-false (ascending (startAt s (d .ranges)) (d .«num_ranges»)) t))
     go (refuses r) g h = let z : _≡_ {A = ℕ} 0 1 = cc in absurd (omega arith)

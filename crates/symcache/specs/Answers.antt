@@ -1,4 +1,5 @@
--- What the calls answer, in document 01's terms ("Who causes which number"): what was asked for, with number 0, or the number of a refusal with the counts of 10.
+-- What the calls answer, in document 01's terms ("Who causes which number"):
+-- what was asked for, with number 0, or the number of a refusal with the counts of 10.
 use Prim.Native.Nat.{ℕ}
 use mathlib.Core.Bool.{Bool, cond}
 use mathlib.Core.Option.{Option, none, some}

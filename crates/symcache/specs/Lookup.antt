@@ -1,10 +1,9 @@
 -- The lookup: document 01 "Lookup"; v9/lookup.rs.
-use Prim.Native.Nat.{ℕ, zero, suc, _+_, _*_, _/_, _-_}
+use Prim.Native.Nat.{ℕ, zero, suc, _+_, _*_, _-_}
 use mathlib.Core.List.{List, [], _∷_}
 use mathlib.Core.Option.{Option, none, some}
 use mathlib.Core.Bool.{Bool, false, cond, _&&_, _||_}
 use lib.Dec.{eqb, ltb, leb}
-use lib.ListN.{length}
 use Rattle.raw.specs.declared.File.{File}
 use Rattle.raw.specs.declared.Function.{Function}
 use Rattle.raw.specs.declared.SourceLocation.{SourceLocation}
@@ -17,46 +16,11 @@ use Rattle.symcache.specs.declared.lookup.FrameFile.the-variants as fram
 use Rattle.symcache.specs.declared.lookup.Functions.{Functions}
 use Rattle.symcache.specs.declared.lookup.Files.{Files}
 use Rattle.symcache.specs.Answers.{Answer, gives, andThen, Framed, NextFunction, NextFile}
-use Rattle.symcache.specs.Reader.{parsed, opened, startAt}
+use Rattle.symcache.specs.Reader.{parsed, opened}
+-- the search
+unfoldable pub use Rattle.search.specs.Search.{countIn, halfIn, quartersIn, searchIn, foundAmong, usable, foundIn}
 
--- ── The search ──
-
--- how many of the n starts from index i on are at most the address
-unfoldable pub countIn : (ℕ → ℕ) → ℕ → ℕ → ℕ → ℕ
-countIn f a i zero = 0
-countIn f a i (suc n) = cond (leb (f i) a) 1 0 + countIn f a (suc i) n
-
--- how many starts to pass over: `h` where the start that many after index `b` is at most the address, else none
-unfoldable pub halfIn : (ℕ → ℕ) → ℕ → ℕ → ℕ → ℕ
-halfIn f a b h = h * cond (leb (f (b + h)) a) 1 0
-
--- how many of the three starts between the quarters, of `q` starts each, from index `b` on are at most the address
-unfoldable pub quartersIn : (ℕ → ℕ) → ℕ → ℕ → ℕ → ℕ
-quartersIn f a b q = cond (leb (f (b + q)) a) 1 0 + cond (leb (f (b + 2 * q)) a) 1 0 + cond (leb (f (b + 3 * q)) a) 1 0
-
--- a search for `a` among `n` starts from index `b` on: halved as long as more than 1,024 are left, quartered as long as more than 8 are, which are counted; `k` bounds the number of turns
-unfoldable pub searchIn : (ℕ → ℕ) → ℕ → ℕ → ℕ → ℕ → ℕ
-searchIn f a zero b n = b + countIn f a (b + 1) (n - 1)
-searchIn f a (suc k) b n =
-    cond (leb n 8) (b + countIn f a (b + 1) (n - 1))
-    (cond (leb n 1024) (searchIn f a k (b + n / 4 * quartersIn f a b (n / 4)) (n - 3 * (n / 4))) (searchIn f a k (b + halfIn f a b (n / 2)) (n - n / 2)))
-
--- the location of the start that the search ends at, among `n` starts that belong to the last `n` of `m` locations; MAX where that start lies above the address
-unfoldable pub foundAmong : (ℕ → ℕ) → ℕ → ℕ → ℕ → ℕ
-foundAmong f m n a =
-    cond (eqb n 0) max32
-    (cond (leb (f (searchIn f a n 0 n)) a) ((m - n) + searchIn f a n 0 n) max32)
-
--- whether `n` ranges and `m` locations, of which there are no fewer, lie in so many bytes from where they are said to begin
-unfoldable pub usable : ℕ → ℕ → ℕ → ℕ → ℕ → Bool
-usable bytes locations m ranges n = leb n m && (leb (ranges + 4 * n) bytes && leb (locations + 16 * m) bytes)
-
--- the index of the location that an address belongs to, or MAX
-unfoldable pub foundIn : List ℕ → ℕ → ℕ → ℕ → ℕ → ℕ → ℕ
-foundIn s locations m ranges n a =
-    cond (usable (length s) locations m ranges n && leb a max32) (foundAmong (startAt s ranges) m n a) max32
-
--- the same in an opened file
+-- the index of the location that an address belongs to, or MAX, in an opened file
 abbrev pub foundAt : List ℕ → SymCache → ℕ → ℕ
 foundAt s c a = foundIn s (c .«source_locations») (c .«num_source_locations») (c .ranges) (c .«num_ranges») a
 

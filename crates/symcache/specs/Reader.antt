@@ -1,13 +1,17 @@
 -- The reader: document 01 "Reader" and numbers 1 to 12; `SymCache::parse` of v9/mod.rs over what follows the first eight bytes.
-use Prim.Native.Nat.{ℕ, zero, suc, _+_, _*_, _/_, _-_, _≤_, _<_, _^_}
+use Prim.Native.Nat.{ℕ, _+_, _*_, _/_, _-_, _≤_, _<_, _^_}
 use mathlib.Core.List.{List}
-use mathlib.Core.Bool.{Bool, true, not, _&&_}
+use mathlib.Core.Bool.{not}
 use lib.Dec.{eqb, ltb}
 use lib.ListN.{length}
 use Rattle.raw.specs.declared.Header.{Header}
-use Rattle.raw.specs.Rows.{versionInfoAt, headerAt, rangeAt}
+use Rattle.raw.specs.Rows.{versionInfoAt, headerAt}
+use Rattle.symcache.specs.declared.ErrorKind.the-variants as kind
 use Rattle.symcache.specs.declared.SymCache.{SymCache}
-use Rattle.symcache.specs.Answers.{Answer, gives, only, refuseIf, andThen}
+use Rattle.symcache.specs.Answers.{Answer, gives, refusalOf, refuseIf, andThen}
+-- the starts of the ranges
+pub use Rattle.search.specs.Search.{startAt}
+unfoldable pub use Rattle.search.specs.Search.{ascendingFrom, ascending}
 
 -- the magic bytes 53 59 4D 43 as a little-endian number, and reversed
 abbrev pub magic : ℕ
@@ -58,22 +62,22 @@ pub record Low (c : SymCache) : Type 0 where
 -- 6 to 11, of a file of `n` bytes. Where the padding before the texts is short, what is found of the texts is 0, and so is the difference
 unfoldable pub tested : ℕ → SymCache → ℕ → Answer SymCache
 tested n c variables =
-    refuseIf (ltb n (c .files + 24 * c .«num_files»)) (only 6)
-    (refuseIf (ltb n (c .functions + 16 * c .«num_functions»)) (only 7)
-    (refuseIf (ltb n (c .«source_locations» + 16 * c .«num_source_locations»)) (only 8)
-    (refuseIf (ltb n (c .ranges + 4 * c .«num_ranges»)) (only 9)
-    (refuseIf (ltb (c .«num_source_locations») (c .«num_ranges»)) (only 9)
-    (refuseIf (ltb n (c .strings + c .«string_bytes»)) (record { number = 10; expected = c .«string_bytes»; found = n - c .strings })
-    (refuseIf (eqb variables 1) (only 11) (gives c)))))))
+    refuseIf (ltb n (c .files + 24 * c .«num_files»)) (refusalOf kind.InvalidFiles)
+    (refuseIf (ltb n (c .functions + 16 * c .«num_functions»)) (refusalOf kind.InvalidFunctions)
+    (refuseIf (ltb n (c .«source_locations» + 16 * c .«num_source_locations»)) (refusalOf kind.InvalidSourceLocations)
+    (refuseIf (ltb n (c .ranges + 4 * c .«num_ranges»)) (refusalOf kind.InvalidRanges)
+    (refuseIf (ltb (c .«num_source_locations») (c .«num_ranges»)) (refusalOf kind.InvalidRanges)
+    (refuseIf (ltb n (c .strings + c .«string_bytes»)) (refusalOf (kind.UnexpectedStringBytes (c .«string_bytes») (n - c .strings)))
+    (refuseIf (eqb variables 1) (refusalOf kind.InvalidVariableHeader) (gives c)))))))
 
 -- 1 to 11
 unfoldable pub parsed : List ℕ → Answer SymCache
 parsed s =
-    refuseIf (ltb (length s) 8) (only 1)
-    (refuseIf (eqb (versionInfoAt s 0 .magic) reversedMagic) (only 2)
-    (refuseIf (not (eqb (versionInfoAt s 0 .magic) magic)) (only 3)
-    (refuseIf (not (eqb (versionInfoAt s 0 .version) 9)) (only 4)
-    (refuseIf (ltb (length s) 80) (only 5)
+    refuseIf (ltb (length s) 8) (refusalOf kind.TooShort)
+    (refuseIf (eqb (versionInfoAt s 0 .magic) reversedMagic) (refusalOf kind.WrongEndianness)
+    (refuseIf (not (eqb (versionInfoAt s 0 .magic) magic)) (refusalOf kind.WrongFormat)
+    (refuseIf (not (eqb (versionInfoAt s 0 .version) 9)) (refusalOf kind.WrongVersion)
+    (refuseIf (ltb (length s) 80) (refusalOf kind.InvalidHeader)
     (tested (length s) (layoutOf (headerAt s 8)) (headerAt s 8 .«variable_header»))))))
 
 -- what an accepted file has: its tables lie in its `n` bytes
@@ -85,20 +89,7 @@ pub record Within (n : ℕ) (c : SymCache) : Type 0 where
   pub fewer : c .«num_ranges» ≤ c .«num_source_locations»
   pub strings : c .strings + c .«string_bytes» ≤ n
 
--- the start of range i
-abbrev pub startAt : List ℕ → ℕ → ℕ → ℕ
-startAt s ranges i = rangeAt s (ranges + 4 * i) .0
-
--- each of the n numbers from index i on lies above the one before it, the first above `last`
-unfoldable pub ascendingFrom : (ℕ → ℕ) → ℕ → ℕ → ℕ → Bool
-ascendingFrom f last i zero = true
-ascendingFrom f last i (suc n) = ltb last (f i) && ascendingFrom f (f i) (suc i) n
-
-unfoldable pub ascending : (ℕ → ℕ) → ℕ → Bool
-ascending f zero = true
-ascending f (suc n) = ascendingFrom f (f 0) 1 n
-
 -- 1 to 12: "starts not strictly ascending, from lookup only"
 unfoldable pub opened : List ℕ → Answer SymCache
 opened s =
-    andThen (parsed s) (λ c. refuseIf (not (ascending (startAt s (c .ranges)) (c .«num_ranges»))) (only 12) (gives c))
+    andThen (parsed s) (λ c. refuseIf (not (ascending (startAt s (c .ranges)) (c .«num_ranges»))) (refusalOf kind.UnorderedRanges) (gives c))

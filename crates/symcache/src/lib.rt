@@ -1,9 +1,8 @@
 // A SymCache v9 file, read in place: v9/mod.rs. The bytes are lent anew at each call; between calls there are offsets and counts, by value.
 ghost use mathlib.Core.Path.{_≡_};
-ghost use Prim.Native.Nat.{_+_, _*_, _-_, _≤_, _<_, _^_};
-ghost use lib.ListN.{length};
+ghost use Prim.Native.Nat.{_+_, _-_, _≤_, _<_, _^_};
 ghost use Rattle.symcache.specs.Answers.{refusalOf, parseAnswer};
-ghost use Rattle.symcache.specs.Reader.{aligned, layoutOf, tested, Low, parsed, startAt, ascending, opened};
+ghost use Rattle.symcache.specs.Reader.{aligned, layoutOf, tested, Low, parsed, opened};
 use raw::Header;
 
 pub mod lookup;
@@ -178,42 +177,6 @@ pub fn parse(s: &[u8]) -> Parsed
     parse_tables(s.len(), cache, header.variable_header)
 }
 
-fn wide(x: u8) -> u32
-    ensures { λ r. ⌜ (r ≡ x) × (x ≤ 255) ⌝ }
-{
-    x as u32
-}
-
-// The start of range `i`: as `raw::range_at` reads it, with no test, for the search.
-fn range_start(s: &[u8], ranges: usize, i: usize) -> u32
-    requires { ⌜ ranges + (4 * i + 4) ≤ length (now s) ⌝ }
-    ensures { λ r. ⌜ r ≡ startAt (now (s .entry)) ranges i ⌝ }
-{
-    let at = ranges + 4 * i;
-    wide(s[at]) + 256 * (wide(s[at + 1]) + 256 * (wide(s[at + 2]) + 256 * wide(s[at + 3])))
-}
-
-// Whether the starts of `n` ranges ascend strictly.
-fn is_ascending(s: &[u8], ranges: usize, n: usize) -> bool
-    requires { ⌜ ranges + 4 * n ≤ length (now s) ⌝ }
-    ensures { λ r. ⌜ r ≡ ascending (startAt (now (s .entry)) ranges) n ⌝ }
-{
-    if n == 0 {
-        return true;
-    }
-    let mut last = range_start(s, ranges, 0);
-    let mut i: usize = 1;
-    while i < n {
-        let start = range_start(s, ranges, i);
-        if start <= last {
-            return false;
-        }
-        last = start;
-        i += 1;
-    }
-    true
-}
-
 // Reads a file to look addresses up in it: 1 to 11, then 12, or where its tables lie.
 pub fn open(s: &[u8]) -> Parsed
     ensures { λ r. ⌜ parseAnswer r ≡ opened (now (s .entry)) ⌝ }
@@ -221,8 +184,7 @@ pub fn open(s: &[u8]) -> Parsed
     let parsed = parse(s);
     match parsed {
         Parsed::Cache(c) => {
-            let n = c.num_ranges as usize;
-            if is_ascending(s, c.ranges, n) {
+            if search::is_ascending(s, c.ranges, c.num_ranges) {
                 return Parsed::Cache(c);
             }
             Parsed::Refused(ErrorKind::UnorderedRanges)

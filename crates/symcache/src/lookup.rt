@@ -1,12 +1,13 @@
 // Looking addresses up: v9/lookup.rs.
 ghost use mathlib.Core.Path.{_≡_};
-ghost use Prim.Native.Nat.{_+_, _*_, _-_, _≤_, _<_, _^_};
+ghost use Prim.Native.Nat.{_+_, _*_, _-_, _<_, _^_};
 ghost use mathlib.Core.Bool.{cond};
-ghost use lib.Dec.{leb};
 ghost use lib.ListN.{length};
+ghost use Rattle.raw.specs.Rows.{max32};
 ghost use Rattle.symcache.specs.Answers.{gives, lookupAnswer, stepAnswer, fileAnswer, functionAnswer, functionsAnswer, filesAnswer};
-ghost use Rattle.symcache.specs.Reader.{startAt, Within};
-ghost use Rattle.symcache.specs.Lookup.{countIn, halfIn, quartersIn, searchIn, usable, foundIn, foundAt, locationIn, functionIn, fileIn, walkFrom, walkAt, lookedUp, met, entryOf, languageOf, fileOf, frameIn, ended, stepIn, stepped, gotFile, gotFunction, nextFunction, functionsNext, nextFile, filesNext};
+ghost use Rattle.symcache.specs.Reader.{Within};
+ghost use Rattle.symcache.specs.Lookup.{foundAt, locationIn, functionIn, fileIn, walkFrom, walkAt, lookedUp, met, entryOf, languageOf, fileOf};
+ghost use Rattle.symcache.specs.Lookup.{frameIn, ended, stepIn, stepped, gotFile, gotFunction, nextFunction, functionsNext, nextFile, filesNext};
 use super::ErrorKind;
 use super::Parsed;
 use super::SymCache;
@@ -88,154 +89,11 @@ pub enum FileStep {
     Refused(ErrorKind),
 }
 
-// The search
-
-fn at_most(start: u32, addr: u32) -> usize
-    ensures { λ r. ⌜ (r ≡ cond (leb start addr) 1 0) × (r ≤ 1) ⌝ }
-{
-    if start <= addr {
-        return 1;
-    }
-    0
-}
-
-// How many of the `n` starts from index `from` on are at most `addr`.
-fn count(s: &[u8], ranges: usize, from: usize, n: usize, addr: u32) -> usize
-    requires { ⌜ ranges + 4 * (from + n) ≤ length (now s) ⌝ }
-    ensures { λ r. ⌜ (r ≡ countIn (startAt (now (s .entry)) ranges) addr from n) × (r ≤ n) ⌝ }
-{
-    let mut found: usize = 0;
-    let mut i: usize = 0;
-    while i < n {
-        found += at_most(super::range_start(s, ranges, from + i), addr);
-        i += 1;
-    }
-    found
-}
-
-// How many of the three starts between the quarters, of `quarter` starts each, from index `base` on are at most `addr`.
-fn quarters(s: &[u8], ranges: usize, base: usize, quarter: usize, addr: u32) -> usize
-    requires { ⌜ ranges + 4 * (base + 3 * quarter + 1) ≤ length (now s) ⌝ }
-    ensures { λ r. ⌜ (r ≡ quartersIn (startAt (now (s .entry)) ranges) addr base quarter) × (r ≤ 3) ⌝ }
-{
-    at_most(super::range_start(s, ranges, base + quarter), addr)
-        + at_most(super::range_start(s, ranges, base + 2 * quarter), addr)
-        + at_most(super::range_start(s, ranges, base + 3 * quarter), addr)
-}
-
-// How many starts to pass over: `half` where the start that many after index `base` is at most `addr`, else none.
-fn half_of(s: &[u8], ranges: usize, base: usize, half: usize, addr: u32) -> usize
-    requires { ⌜ ranges + 4 * (base + half + 1) ≤ length (now s) ⌝ }
-    ensures { λ r. ⌜ (r ≡ halfIn (startAt (now (s .entry)) ranges) addr base half) × (r ≤ half) ⌝ }
-{
-    half * at_most(super::range_start(s, ranges, base + half), addr)
-}
-
-// The starts that are left of a search: `size` of them from index `base` on.
-struct Left {
-    base: usize,
-    size: usize,
-}
-
-// Halves `n` starts until at most 1,024 are left. These are looked at again and again, so they are at hand.
-fn halves(s: &[u8], ranges: usize, n: usize, addr: u32) -> Left
-    requires { ⌜ (0 < n) × (ranges + 4 * n ≤ length (now s)) ⌝ }
-    ensures { λ r. ⌜ (1 ≤ r .size) × (r .size ≤ 1024) × (r .base + r .size ≤ n) × (searchIn (startAt (now (s .entry)) ranges) addr (r .size) (r .base) (r .size) ≡ searchIn (startAt (now (s .entry)) ranges) addr n 0 n) ⌝ }
-{
-    let mut base: usize = 0;
-    let mut size = n;
-    while 1024 < size {
-        let half = size / 2;
-        base += half_of(s, ranges, base, half, addr);
-        size -= half;
-    }
-    Left { base, size }
-}
-
-// The index at which a search for `addr` among `n` starts ends: the last of those at most `addr`, or 0.
-// The last 1,024 are quartered: three starts are fetched at once, and no jump depends on them, which could not be foreseen. The last few are counted.
-fn search(s: &[u8], ranges: usize, n: usize, addr: u32) -> usize
-    requires { ⌜ (0 < n) × (ranges + 4 * n ≤ length (now s)) ⌝ }
-    ensures { λ r. ⌜ (r ≡ searchIn (startAt (now (s .entry)) ranges) addr n 0 n) × (r < n) ⌝ }
-{
-    let left = halves(s, ranges, n, addr);
-    let mut base = left.base;
-    let mut size = left.size;
-    while 8 < size {
-        let quarter = size / 4;
-        let low = quarters(s, ranges, base, quarter, addr);
-        base += quarter * low;
-        size -= 3 * quarter;
-    }
-    base + count(s, ranges, base + 1, size - 1, addr)
-}
-
-// Whether `n` bytes from `at` on lie in `len`.
-fn lies_in(len: usize, at: usize, n: usize) -> bool
-    ensures { λ r. ⌜ r ≡ leb (at + n) len ⌝ }
-{
-    if len < n {
-        return false;
-    }
-    at <= len - n
-}
-
-// Whether the ranges and the source locations lie in `len` bytes. So they do where `open` gave the cache.
-fn is_usable(
-    len: usize,
-    source_locations: usize,
-    num_source_locations: u32,
-    ranges: usize,
-    num_ranges: u32,
-) -> bool
-    ensures { λ r. ⌜ r ≡ usable len «source_locations» «num_source_locations» ranges «num_ranges» ⌝ }
-{
-    if num_source_locations < num_ranges {
-        return false;
-    }
-    if lies_in(len, ranges, 4 * (num_ranges as usize)) {
-        return lies_in(len, source_locations, 16 * (num_source_locations as usize));
-    }
-    false
-}
-
-// The index of the source location that an address belongs to, or MAX: that of the last start at most the address.
-fn find_in(
-    s: &[u8],
-    source_locations: usize,
-    num_source_locations: u32,
-    ranges: usize,
-    num_ranges: u32,
-    addr: u64,
-) -> u32
-    ensures { λ r. ⌜ r ≡ foundIn (now (s .entry)) «source_locations» «num_source_locations» ranges «num_ranges» addr ⌝ }
-{
-    if 4294967295 < addr {
-        return 4294967295;
-    }
-    if num_ranges == 0 {
-        return 4294967295;
-    }
-    if is_usable(
-        s.len(),
-        source_locations,
-        num_source_locations,
-        ranges,
-        num_ranges,
-    ) {
-        let i = search(s, ranges, num_ranges as usize, addr as u32);
-        if super::range_start(s, ranges, i) <= (addr as u32) {
-            return (num_source_locations - num_ranges) + (i as u32);
-        }
-    }
-    4294967295
-}
-
-// The same in a file that was opened: `cache` is what `open` gave for these bytes.
+// The index of the source location that an address belongs to, or MAX. `cache` is what `open` gave for these bytes.
 pub fn find(s: &[u8], cache: SymCache, addr: u64) -> u32
     ensures { λ r. ⌜ r ≡ foundAt (now (s .entry)) cache addr ⌝ }
 {
-    find_in(
+    search::find(
         s,
         cache.source_locations,
         cache.num_source_locations,
@@ -268,10 +126,10 @@ fn walk_from(i: u32) -> SourceLocations
 
 // MAX where there is no location, else its index.
 fn unless(i: u32, none: bool) -> u32
-    ensures { λ r. ⌜ r ≡ cond none 4294967295 i ⌝ }
+    ensures { λ r. ⌜ r ≡ cond none max32 i ⌝ }
 {
     if none {
-        return 4294967295;
+        return u32::MAX;
     }
     i
 }
@@ -280,7 +138,7 @@ fn unless(i: u32, none: bool) -> u32
 pub fn walk(s: &[u8], cache: SymCache, addr: u64) -> SourceLocations
     ensures { λ r. ⌜ r ≡ walkAt (now (s .entry)) cache addr ⌝ }
 {
-    let i = find_in(
+    let i = search::find(
         s,
         cache.source_locations,
         cache.num_source_locations,
@@ -288,8 +146,8 @@ pub fn walk(s: &[u8], cache: SymCache, addr: u64) -> SourceLocations
         cache.num_ranges,
         addr,
     );
-    if i == 4294967295 {
-        return walk_from(4294967295);
+    if i == u32::MAX {
+        return walk_from(u32::MAX);
     }
     let location = location_in(s, cache, i);
     walk_from(unless(i, location.is_no_source_location()))
@@ -338,10 +196,10 @@ fn function_or_missing(s: &[u8], c: SymCache, i: u32) -> Function
         return raw::function_at(s, c.functions + 16 * (i as usize));
     }
     Function {
-        name_offset: 4294967295,
-        comp_dir_offset: 4294967295,
-        entry_pc: 4294967295,
-        lang: 4294967295,
+        name_offset: u32::MAX,
+        comp_dir_offset: u32::MAX,
+        entry_pc: u32::MAX,
+        lang: u32::MAX,
     }
 }
 
@@ -378,7 +236,7 @@ fn is_ended(s: &[u8], c: SymCache, walk: SourceLocations) -> bool
     requires { ⌜ c .«source_locations» + 16 * c .«num_source_locations» < 2 ^ 64 ⌝ }
     ensures { λ r. ⌜ r ≡ ended (now (s .entry)) c walk ⌝ }
 {
-    if walk.current == 4294967295 {
+    if walk.current == u32::MAX {
         return true;
     }
     if c.num_source_locations <= walk.current {
@@ -472,7 +330,7 @@ fn next_function(s: &[u8], c: SymCache, from: u32) -> FunctionStep
     let mut i = from;
     while i < c.num_functions {
         let function = raw::function_at(s, c.functions + 16 * (i as usize));
-        if function.entry_pc != 4294967295 {
+        if function.entry_pc != u32::MAX {
             return FunctionStep::Function {
                 index: i,
                 function,

@@ -20,7 +20,8 @@ well-formed [] = false
 well-formed (b ∷ []) = ltb b 128
 well-formed (b ∷ (c ∷ s)) = leb 128 b && well-formed (c ∷ s)
 
--- DWARF 5, appendix C, the algorithm that encodes an unsigned number, in our words: emit the low seven bits, with the high bit set as long as more come; here at most n + 1 bytes
+-- DWARF 5, appendix C, the algorithm that encodes an unsigned number, in our words: emit the low seven bits, with the high bit set as long as more come;
+-- here at most n + 1 bytes
 unfoldable pub encoded-in : ℕ → ℕ → List ℕ
 encoded-in zero v = v ∷ []
 encoded-in (suc n) v = cond (ltb v 128) (v ∷ []) ((v % 128 + 128) ∷ encoded-in n (v / 128))

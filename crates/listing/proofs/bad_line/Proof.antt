@@ -22,31 +22,16 @@ returns c =
     let a = c .before .before .args in
     no-room (a .out .now) (badLine (a .number)) (a .at) 11 (bad-length (a .number)) (omega arith)
 
-sub-if2 : tie.Need-sub-if2
-sub-if2 c = search needs
-
 returns-2 : tie.Need-returns-2
 returns-2 c =
     let a = c .before .before .before .args in
     no-room (a .out .now) (badLine (a .number)) (a .at) 11 (bad-length (a .number)) (omega arith)
 
-slice-write-out : tie.Need-slice-write-out
-slice-write-out c = search needs
-
-add-put-spaced : tie.Need-add-put-spaced
-add-put-spaced c = search needs
-
 put-spaced-requires : tie.Need-put-spaced-requires
 put-spaced-requires c κs = simp length-set (omega arith)
 
-add-out : tie.Need-add-out
-add-out c = search needs
-
 slice-write-out-2 : tie.Need-slice-write-out-2
 slice-write-out-2 c = let h = simp length-set at (c .before .before .put-spaced .kept .0) in omega (arith, h)
-
-add-result : tie.Need-add-result
-add-result c = search needs
 
 same-length : tie.Need-same-length
 same-length c = kept (run c)
@@ -57,4 +42,16 @@ returns-3 c =
     printed (a .out .now) (a .at) (badLine (a .number)) (omega arith) (run c)
 
 pub bad-line-spec : {M : Type 1} → statement M
-bad-line-spec = tie.close (tie.spec returns sub-if2 returns-2 slice-write-out add-put-spaced put-spaced-requires add-out slice-write-out-2 add-result same-length returns-3)
+bad-line-spec =
+    tie.close
+    (tie.spec
+    returns
+    (λ c. search needs)
+    returns-2
+    (λ c. search needs) (λ c. search needs)
+    put-spaced-requires
+    (λ c. search needs)
+    slice-write-out-2
+    (λ c. search needs)
+    same-length
+    returns-3)

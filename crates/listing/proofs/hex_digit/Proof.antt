@@ -4,21 +4,9 @@ use Rattle.listing.specs.Printed.{hexDigit}
 use Rattle.listing.proofs.hex_digit.Statement.{statement}
 use Rattle.listing.proofs.hex_digit.Tie as tie
 
-add-result : tie.Need-add-result
-add-result c = search needs
-
-cast-result : tie.Need-cast-result
-cast-result c = search needs
-
 returns : tie.Need-returns
 unfolding hexDigit
 returns c = rw (lt-ltb (c .before .args .d) 10 (c .if1 .taken))
-
-add-result-2 : tie.Need-add-result-2
-add-result-2 c = search needs
-
-cast-result-2 : tie.Need-cast-result-2
-cast-result-2 c = search needs
 
 returns-2 : tie.Need-returns-2
 unfolding hexDigit
@@ -26,4 +14,4 @@ returns-2 c = rw (le-ltb (c .before .args .d) 10 (c .if1 .left))
 
 pub hex-digit-spec : {M : Type 1} → statement M
 hex-digit-spec =
-    tie.close (tie.spec add-result cast-result returns add-result-2 cast-result-2 returns-2)
+    tie.close (tie.spec (λ c. search needs) (λ c. search needs) returns (λ c. search needs) (λ c. search needs) returns-2)

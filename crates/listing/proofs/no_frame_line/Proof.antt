@@ -9,13 +9,20 @@ use Rattle.listing.proofs.Whole.{no-frame-length, no-frame-run}
 use Rattle.listing.proofs.no_frame_line.Statement.{statement}
 use Rattle.listing.proofs.no_frame_line.Tie as tie
 
+-- from the end to the address's call, and to the start
+abbrev address-put : tie.After-slice-known3 → tie.After-put-hex
+address-put c = c .before .before .before .before .before .before
+
+abbrev start : tie.After-slice-known3 → tie.Start
+start c = address-put c .before .before .before .before .before
+
 run : (c : tie.After-slice-known3) →
-    let a = c .before .before .before .before .before .before .before .before .before .before .before .args in
+    let a = start c .args in
     Run (a .out .now) (a .at) (noFrameLine (a .address)) (set (c .before .before .put-spaced .last .0) (a .at + 25) 10) (a .at + 26)
 run c =
-    let a = c .before .before .before .before .before .before .before .before .before .before .before .args in
+    let a = start c .args in
     no-frame-run (a .out .now) (a .at) (a .address)
-    (c .before .before .before .before .before .before .put-hex .ensures)
+    (address-put c .put-hex .ensures)
     (c .before .before .put-spaced .ensures)
 
 returns : tie.Need-returns
@@ -23,39 +30,27 @@ returns c =
     let a = c .before .before .args in
     no-room (a .out .now) (noFrameLine (a .address)) (a .at) 26 (no-frame-length (a .address)) (omega arith)
 
-sub-if2 : tie.Need-sub-if2
-sub-if2 c = search needs
-
 returns-2 : tie.Need-returns-2
 returns-2 c =
     let a = c .before .before .before .args in
     no-room (a .out .now) (noFrameLine (a .address)) (a .at) 26 (no-frame-length (a .address)) (omega arith)
-
-put-hex-requires : tie.Need-put-hex-requires
-put-hex-requires c κs = search needs
-
-add-put-spaced : tie.Need-add-put-spaced
-add-put-spaced c = search needs
-
-put-spaced-requires : tie.Need-put-spaced-requires
-put-spaced-requires c κs = search needs
-
-add-out : tie.Need-add-out
-add-out c = search needs
-
-slice-write-out : tie.Need-slice-write-out
-slice-write-out c = search needs
-
-add-result : tie.Need-add-result
-add-result c = search needs
 
 same-length : tie.Need-same-length
 same-length c = kept (run c)
 
 returns-3 : tie.Need-returns-3
 returns-3 c =
-    let a = c .before .before .before .before .before .before .before .before .before .before .before .args in
+    let a = start c .args in
     printed (a .out .now) (a .at) (noFrameLine (a .address)) (omega arith) (run c)
 
 pub no-frame-line-spec : {M : Type 1} → statement M
-no-frame-line-spec = tie.close (tie.spec returns sub-if2 returns-2 put-hex-requires add-put-spaced put-spaced-requires add-out slice-write-out add-result same-length returns-3)
+no-frame-line-spec =
+    tie.close
+    (tie.spec
+    returns
+    (λ c. search needs)
+    returns-2
+    (λ c κs. search needs) (λ c. search needs) (λ c κs. search needs) (λ c. search needs) (λ c. search needs)
+    (λ c. search needs)
+    same-length
+    returns-3)

@@ -14,12 +14,6 @@ spaced-law : (s : List ℕ) (at v : ℕ) {s′ : List ℕ} → s′ ≡ sets (se
 unfolding spaced
 spaced-law s at v e = rw (add-one at) at e
 
-slice-write-out : tie.Need-slice-write-out
-slice-write-out c = search needs
-
-add-put-hex : tie.Need-add-put-hex
-add-put-hex c = search needs
-
 put-hex-requires : tie.Need-put-hex-requires
 put-hex-requires c κs = simp length-set (omega arith)
 
@@ -32,4 +26,4 @@ returns c =
     spaced-law (a .out .now) (a .at) (a .value) (c .before .before .put-hex .ensures)
 
 pub put-spaced-spec : {M : Type 1} → statement M
-put-spaced-spec = tie.close (tie.spec slice-write-out add-put-hex put-hex-requires same-length returns)
+put-spaced-spec = tie.close (tie.spec (λ c. search needs) (λ c. search needs) put-hex-requires same-length returns)

@@ -21,52 +21,16 @@ returns c =
     let a = c .before .before .args in
     no-room (a .out .now) (refusedLine (a .number)) (a .at) 11 (refused-length (a .number)) (omega arith)
 
-sub-if2 : tie.Need-sub-if2
-sub-if2 c = search needs
-
 returns-2 : tie.Need-returns-2
 returns-2 c =
     let a = c .before .before .before .args in
     no-room (a .out .now) (refusedLine (a .number)) (a .at) 11 (refused-length (a .number)) (omega arith)
 
-slice-aggregate-put-bytes : tie.Need-slice-aggregate-put-bytes
-slice-aggregate-put-bytes c = search needs
-
-put-bytes-requires : tie.Need-put-bytes-requires
-put-bytes-requires c κs = search needs
-
-add-out : tie.Need-add-out
-add-out c = search needs
-
-cast-out : tie.Need-cast-out
-cast-out c = search needs
-
-add-out-2 : tie.Need-add-out-2
-add-out-2 c = search needs
-
-slice-write-out : tie.Need-slice-write-out
-slice-write-out c = search needs
-
-add-out-3 : tie.Need-add-out-3
-add-out-3 c = search needs
-
-cast-out-2 : tie.Need-cast-out-2
-cast-out-2 c = search needs
-
-add-out-4 : tie.Need-add-out-4
-add-out-4 c = search needs
-
 slice-write-out-2 : tie.Need-slice-write-out-2
 slice-write-out-2 c = simp length-set (omega arith)
 
-add-out-5 : tie.Need-add-out-5
-add-out-5 c = search needs
-
 slice-write-out-3 : tie.Need-slice-write-out-3
 slice-write-out-3 c = simp length-set (omega arith)
-
-add-result : tie.Need-add-result
-add-result c = search needs
 
 same-length : tie.Need-same-length
 same-length c = kept (run c)
@@ -81,20 +45,13 @@ refused-line-spec =
     tie.close
     (tie.spec
     returns
-    sub-if2
+    (λ c. search needs)
     returns-2
-    slice-aggregate-put-bytes
-    put-bytes-requires
-    add-out
-    cast-out
-    add-out-2
-    slice-write-out
-    add-out-3
-    cast-out-2
-    add-out-4
+    (λ c. search needs) (λ c κs. search needs) (λ c. search needs) (λ c. search needs) (λ c. search needs)
+    (λ c. search needs) (λ c. search needs) (λ c. search needs) (λ c. search needs)
     slice-write-out-2
-    add-out-5
+    (λ c. search needs)
     slice-write-out-3
-    add-result
+    (λ c. search needs)
     same-length
     returns-3)

@@ -17,20 +17,8 @@ abbrev μ-loop : tie.MeasureT-loop
 loop-holds : tie.Need-loop-holds Inv-loop μ-loop
 loop-holds c = (omega arith, refl)
 
-shared-slice-read-special : tie.Need-shared-slice-read-special Inv-loop μ-loop
-shared-slice-read-special c = omega arith
-
-special-requires : tie.Need-special-requires Inv-loop μ-loop
-special-requires c κs = tt
-
 returns : tie.Need-returns Inv-loop μ-loop
 returns c = sym (contains-here _ _ (c .before .before .before .loop-test .taken) (sym (c .before .special .ensures) ∙ c .if1 .taken)) ∙ c .before .before .before .before .loop .inv .1
-
-add-i : tie.Need-add-i Inv-loop μ-loop
-add-i c = omega arith
-
-loop-less : tie.Need-loop-less Inv-loop μ-loop
-loop-less c = omega arith
 
 loop-again : tie.Need-loop-again Inv-loop μ-loop
 loop-again c = (omega arith, sym (contains-later _ _ (c .before .before .before .loop-test .taken) (sym (c .before .special .ensures) ∙ c .if1 .left)) ∙ c .before .before .before .before .loop .inv .1)
@@ -45,10 +33,8 @@ contains-spec =
     Inv-loop
     μ-loop
     loop-holds
-    shared-slice-read-special
-    special-requires
+    (λ c. omega arith) (λ c κs. tt)
     returns
-    add-i
-    loop-less
+    (λ c. omega arith) (λ c. omega arith)
     loop-again
     returns-2)

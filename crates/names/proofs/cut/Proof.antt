@@ -10,14 +10,9 @@ use borrow.Author.Needs.{needs}
 use Rattle.names.proofs.cut.Statement.{statement}
 use Rattle.names.proofs.cut.Tie as tie
 
-rfind-requires : tie.Need-rfind-requires
-rfind-requires c κs = search needs
-
-enum-known-n : tie.Need-enum-known-n
-enum-known-n c = search needs
-
-enum-told : tie.Need-enum-told
-enum-told c = search needs
+-- from where the mark was found to the start
+abbrev start : tie.After-known-told → tie.Start
+start c = c .before .before .before .before .before .before
 
 returns : tie.Need-returns
 returns c = sym (ap found (cut-none _ _ (found-none _ (sym (c .enum-told .given .1) ∙ c .before .before .rfind .ensures))))
@@ -33,22 +28,16 @@ sub-parses c = rfind-within _ _ _ (found-some _ _ (sym (c .before .n .given .1) 
 part-parses-start : tie.Need-part-parses-start
 part-parses-start c = rfind-within _ _ _ (found-some _ _ (sym (c .before .n .given .1) ∙ c .before .before .before .rfind .ensures))
 
-part-parses-end : tie.Need-part-parses-end
-part-parses-end c = search needs
-
-parses-requires : tie.Need-parses-requires
-parses-requires c κs = search needs
-
 returns-2 : tie.Need-returns-2
 returns-2 c =
-    let a = c .before .before .before .before .before .before .before .before .before .args in
+    let a = start (c .before .before .before) .args in
     let n = c .before .before .before .before .n .given .0 .0 in
     let e = rw (rest (n + length (a .pat .now)) (a .s .now)) at (sym (c .before .parses .ensures) ∙ c .if1 .taken) in
     sym (ap found (cut-some (a .pat .now) (a .s .now) n (found-some _ _ (sym (c .before .before .before .before .n .given .1) ∙ c .before .before .before .before .before .before .rfind .ensures)) e))
 
 returns-3 : tie.Need-returns-3
 returns-3 c =
-    let a = c .before .before .before .before .before .before .before .before .before .args in
+    let a = start (c .before .before .before) .args in
     let n = c .before .before .before .before .n .given .0 .0 in
     let e = rw (rest (n + length (a .pat .now)) (a .s .now)) at (sym (c .before .parses .ensures) ∙ c .if1 .left) in
     sym (ap found (cut-other (a .pat .now) (a .s .now) n (found-some _ _ (sym (c .before .before .before .before .n .given .1) ∙ c .before .before .before .before .before .before .rfind .ensures)) e))
@@ -57,14 +46,11 @@ pub cut-spec : {M : Type 1} → statement M
 cut-spec =
     tie.close
     (tie.spec
-    rfind-requires
-    enum-known-n
-    enum-told
+    (λ c κs. search needs) (λ c. search needs) (λ c. search needs)
     returns
     add-parses
     sub-parses
     part-parses-start
-    part-parses-end
-    parses-requires
+    (λ c. search needs) (λ c κs. search needs)
     returns-2
     returns-3)

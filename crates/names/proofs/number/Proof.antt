@@ -21,20 +21,8 @@ returns c = sym (number-empty _ (c .if1 .taken))
 loop-holds : tie.Need-loop-holds Inv-loop μ-loop
 loop-holds c = (omega arith, omega arith, number-some _ (c .if1 .left))
 
-shared-slice-read-digit : tie.Need-shared-slice-read-digit Inv-loop μ-loop
-shared-slice-read-digit c = omega arith
-
-digit-requires : tie.Need-digit-requires Inv-loop μ-loop
-digit-requires c κs = tt
-
 returns-2 : tie.Need-returns-2 Inv-loop μ-loop
 returns-2 c = let l = c .before .before .before .before .loop in sym (fits-other _ (l .i) (l .value) (c .before .before .before .loop-test .taken) (sym (c .before .digit .ensures) ∙ not-true _ (c .if2 .taken))) ∙ l .inv .2
-
-mul-value : tie.Need-mul-value Inv-loop μ-loop
-mul-value c = omega arith
-
-shared-slice-read-value : tie.Need-shared-slice-read-value Inv-loop μ-loop
-shared-slice-read-value c = omega arith
 
 sub-value : tie.Need-sub-value Inv-loop μ-loop
 sub-value c = digit-low _ (sym (c .before .before .digit .ensures) ∙ not-false _ (c .before .if2 .left))
@@ -47,12 +35,6 @@ add-value c = omega (arith, c .shared-slice-known3 .given (c .before .before .be
 
 returns-3 : tie.Need-returns-3 Inv-loop μ-loop
 returns-3 c = let l = c .before .before .before .before .before .before .loop in sym (fits-more _ (l .i) (l .value) (c .before .before .before .before .before .loop-test .taken) (sym (c .before .before .before .digit .ensures) ∙ not-false _ (c .before .before .if2 .left)) ∙ fits-over _ _ (c .if3 .taken)) ∙ l .inv .2
-
-add-i : tie.Need-add-i Inv-loop μ-loop
-add-i c = omega arith
-
-loop-less : tie.Need-loop-less Inv-loop μ-loop
-loop-less c = omega arith
 
 loop-again : tie.Need-loop-again Inv-loop μ-loop
 loop-again c = let l = c .before .before .before .before .before .before .loop in (omega arith, omega arith, sym (fits-more _ (l .i) (l .value) (c .before .before .before .before .before .loop-test .taken) (sym (c .before .before .before .digit .ensures) ∙ not-false _ (c .before .before .if2 .left))) ∙ l .inv .2)
@@ -68,16 +50,14 @@ number-spec =
     μ-loop
     returns
     loop-holds
-    shared-slice-read-digit
-    digit-requires
+    (λ c. omega arith) (λ c κs. tt)
     returns-2
-    mul-value
-    shared-slice-read-value
+    (λ c. omega arith) (λ c. omega arith)
     sub-value
     cast-value
     add-value
+    (λ c. omega arith)
     returns-3
-    add-i
-    loop-less
+    (λ c. omega arith) (λ c. omega arith)
     loop-again
     returns-4)

@@ -5,21 +5,9 @@ use Rattle.names.specs.Names.{prefixed}
 use Rattle.names.proofs.prefixed.Statement.{statement}
 use Rattle.names.proofs.prefixed.Tie as tie
 
-slice-aggregate-starts-with : tie.Need-slice-aggregate-starts-with
-slice-aggregate-starts-with c = search needs
-
-starts-with-requires : tie.Need-starts-with-requires
-starts-with-requires c κs = search needs
-
 returns : tie.Need-returns
 unfolding prefixed
 returns c = rw (sym (c .before .starts-with .ensures) ∙ c .if1 .taken)
-
-slice-aggregate-starts-with-2 : tie.Need-slice-aggregate-starts-with-2
-slice-aggregate-starts-with-2 c = search needs
-
-starts-with-requires-2 : tie.Need-starts-with-requires-2
-starts-with-requires-2 c κs = search needs
 
 returns-2 : tie.Need-returns-2
 unfolding prefixed
@@ -29,9 +17,7 @@ pub prefixed-spec : {M : Type 1} → statement M
 prefixed-spec =
     tie.close
     (tie.spec
-    slice-aggregate-starts-with
-    starts-with-requires
+    (λ c. search needs) (λ c κs. search needs)
     returns
-    slice-aggregate-starts-with-2
-    starts-with-requires-2
+    (λ c. search needs) (λ c κs. search needs)
     returns-2)

@@ -10,31 +10,20 @@ use borrow.Author.Needs.{needs}
 use Rattle.names.proofs.undecorate_win_symbol.Statement.{statement}
 use Rattle.names.proofs.undecorate_win_symbol.Tie as tie
 
-slice-aggregate-starts-with : tie.Need-slice-aggregate-starts-with
-slice-aggregate-starts-with c = search needs
+-- from after `prefixed` to the start
+abbrev unfound : tie.Then3 → tie.Else2
+unfound c = c .before .before .before .before .before .before
 
-starts-with-requires : tie.Need-starts-with-requires
-starts-with-requires c κs = search needs
+abbrev start : tie.Then3 → tie.Start
+start c = unfound c .before .before .before .before .before .before
 
 returns : tie.Need-returns
 returns c = sym (mangled _ (sym (c .before .starts-with .ensures) ∙ c .if1 .taken))
-
-contains-requires : tie.Need-contains-requires
-contains-requires c κs = search needs
 
 returns-2 : tie.Need-returns-2
 returns-2 c =
     let a = c .before .before in
     sym (qualified _ (sym (a .before .starts-with .ensures) ∙ a .if1 .left) (sym (c .before .contains .ensures) ∙ c .if2 .taken))
-
-slice-aggregate-cut : tie.Need-slice-aggregate-cut
-slice-aggregate-cut c = search needs
-
-cut-requires : tie.Need-cut-requires
-cut-requires c κs = search needs
-
-enum-known-n : tie.Need-enum-known-n
-enum-known-n c = search needs
 
 slice-aggregate-result : tie.Need-slice-aggregate-result
 slice-aggregate-result c = sym (length-take-le _ _ (cut-within _ _ _ (found-some _ _ (sym (c .before .before .n .given .1) ∙ c .before .before .before .before .cut .ensures))))
@@ -45,33 +34,15 @@ returns-3 c =
     let a = b .before .before in
     sym (vectorcall _ (sym (a .before .starts-with .ensures) ∙ a .if1 .left) (sym (b .before .contains .ensures) ∙ b .if2 .left) _ (found-some _ _ (sym (c .before .before .n .given .1) ∙ c .before .before .before .before .cut .ensures)))
 
-enum-told : tie.Need-enum-told
-enum-told c = search needs
-
-prefixed-requires : tie.Need-prefixed-requires
-prefixed-requires c κs = search needs
-
 sub-rest : tie.Need-sub-rest
 sub-rest c = prefixed-within _ (sym (c .before .prefixed .ensures) ∙ c .if3 .taken)
 
 part-rest-start : tie.Need-part-rest-start
 part-rest-start c = prefixed-within _ (sym (c .before .prefixed .ensures) ∙ c .if3 .taken)
 
-part-rest-end : tie.Need-part-rest-end
-part-rest-end c = search needs
-
-slice-aggregate-cut-2 : tie.Need-slice-aggregate-cut-2
-slice-aggregate-cut-2 c = search needs
-
-cut-requires-2 : tie.Need-cut-requires-2
-cut-requires-2 c κs = search needs
-
-enum-known-n-2 : tie.Need-enum-known-n-2
-enum-known-n-2 c = search needs
-
 slice-aggregate-result-2 : tie.Need-slice-aggregate-result-2
 slice-aggregate-result-2 c =
-    let s = c .before .before .before .before .before .before .before .before .before .before .before .before .before .before .before .before .before .before .before .args .name .now in
+    let s = start (c .before .before .before .before .before .before .before) .args .name .now in
     rw (rest 1 s) (sym (length-take-le _ _ (cut-within _ _ _ (found-some _ _ (sym (c .before .before .n2 .given .1) ∙ rw (rest 1 s) at (c .before .before .before .before .cut2 .ensures))))))
 
 returns-4 : tie.Need-returns-4
@@ -82,15 +53,6 @@ returns-4 c =
     let a = b .before .before in
     let s = a .before .before .before .before .args .name .now in
     rw (rest 1 s) (sym (stdcall _ (sym (a .before .starts-with .ensures) ∙ a .if1 .left) (sym (b .before .contains .ensures) ∙ b .if2 .left) (found-none _ (sym (v .enum-told .given .1) ∙ v .before .before .cut .ensures)) (sym (f .before .prefixed .ensures) ∙ f .if3 .taken) _ (found-some _ _ (sym (c .before .before .n2 .given .1) ∙ rw (rest 1 s) at (c .before .before .before .before .cut2 .ensures)))))
-
-enum-told-2 : tie.Need-enum-told-2
-enum-told-2 c = search needs
-
-slice-aggregate-starts-with-2 : tie.Need-slice-aggregate-starts-with-2
-slice-aggregate-starts-with-2 c = search needs
-
-starts-with-requires-2 : tie.Need-starts-with-requires-2
-starts-with-requires-2 c κs = search needs
 
 returns-5 : tie.Need-returns-5
 returns-5 c =
@@ -123,29 +85,20 @@ pub undecorate-win-symbol-spec : {M : Type 1} → statement M
 undecorate-win-symbol-spec =
     tie.close
     (tie.spec
-    slice-aggregate-starts-with
-    starts-with-requires
+    (λ c. search needs) (λ c κs. search needs)
     returns
-    contains-requires
+    (λ c κs. search needs)
     returns-2
-    slice-aggregate-cut
-    cut-requires
-    enum-known-n
+    (λ c. search needs) (λ c κs. search needs) (λ c. search needs)
     slice-aggregate-result
     returns-3
-    enum-told
-    prefixed-requires
+    (λ c. search needs) (λ c κs. search needs)
     sub-rest
     part-rest-start
-    part-rest-end
-    slice-aggregate-cut-2
-    cut-requires-2
-    enum-known-n-2
+    (λ c. search needs) (λ c. search needs) (λ c κs. search needs) (λ c. search needs)
     slice-aggregate-result-2
     returns-4
-    enum-told-2
-    slice-aggregate-starts-with-2
-    starts-with-requires-2
+    (λ c. search needs) (λ c. search needs) (λ c κs. search needs)
     returns-5
     returns-6
     returns-7)

@@ -6,15 +6,9 @@ use borrow.Author.Needs.{needs}
 use Rattle.symcache.proofs.align_to_8.Statement.{statement}
 use Rattle.symcache.proofs.align_to_8.Tie as tie
 
-add-result : tie.Need-add-result
-add-result c = search needs
-
-mul-result : tie.Need-mul-result
-mul-result c = search needs
-
 returns : tie.Need-returns
 unfolding aligned
 returns c = (refl, aligned-up (c .args .n))
 
 pub align-to-8-spec : {M : Type 1} → statement M
-align-to-8-spec = tie.close (tie.spec add-result mul-result returns)
+align-to-8-spec = tie.close (tie.spec (λ c. search needs) (λ c. search needs) returns)

@@ -1,119 +1,117 @@
 -- `parse_tables` meets its contract: the tests, in order.
-use Rattle.symcache.proofs.ReaderLaws.{unexpected-bytes}
-use Rattle.symcache.specs.Answers.{refuseIf}
+use Prim.Native.Nat.{ℕ, _+_, _-_}
+use mathlib.Core.Path.{_≡_, refl}
 use native.Mathlib.Omega.{arith}
+use lib.Dec.{eqb, ltb}
 use borrow.Author.Tests.{lt-ltb, le-ltb, eq-eqb, ne-eqb}
-use Rattle.symcache.specs.Reader.{tested}
 use borrow.Author.Needs.{needs}
+use Rattle.symcache.specs.declared.ErrorKind.the-variants as kind
+use Rattle.symcache.specs.declared.SymCache.{SymCache}
+use Rattle.symcache.specs.Answers.{Answer, gives, refusalOf, refuseIf}
+use Rattle.symcache.specs.Reader.{tested}
+use Rattle.symcache.proofs.ReaderLaws.{refused-here, refused-found, passed-on}
 use Rattle.symcache.proofs.parse_tables.Statement.{statement}
 use Rattle.symcache.proofs.parse_tables.Tie as tie
 
-cast-if1 : tie.Need-cast-if1
-cast-if1 c = search needs
+-- from where a test is passed to where the one before it was
+abbrev files-passed : tie.Else2 → tie.Else1
+files-passed c = c .before .before .before
 
-mul-if1 : tie.Need-mul-if1
-mul-if1 c = search needs
+abbrev functions-passed : tie.Else3 → tie.Else2
+functions-passed c = c .before .before .before
 
-add-if1 : tie.Need-add-if1
-add-if1 c = search needs
+abbrev locations-passed : tie.Else4 → tie.Else3
+locations-passed c = c .before .before .before
+
+abbrev ranges-passed : tie.Else5 → tie.Else4
+ranges-passed c = c .before .before
+
+abbrev start : tie.Else5 → tie.Start
+start c = files-passed (functions-passed (locations-passed (ranges-passed c))) .before .before .before
+
+-- what is left to test where the tables lie in the file
+abbrev left : ℕ → SymCache → ℕ → Answer SymCache
+left n c v =
+    refuseIf (ltb n (c .strings + c .«string_bytes»)) (refusalOf (kind.UnexpectedStringBytes (c .«string_bytes») (n - c .strings)))
+    (refuseIf (eqb v 1) (refusalOf kind.InvalidVariableHeader) (gives c))
+
+tables-passed : (c : tie.Else5) (x : Answer SymCache) → let a = start c .args in x ≡ left (a .len) (a .c) (a .variable-header) → x ≡ tested (a .len) (a .c) (a .variable-header)
+unfolding tested
+tables-passed c x e =
+    passed-on _ _ _ _ (le-ltb _ _ (files-passed (functions-passed (locations-passed (ranges-passed c))) .if1 .left))
+    (passed-on _ _ _ _ (le-ltb _ _ (functions-passed (locations-passed (ranges-passed c)) .if2 .left))
+    (passed-on _ _ _ _ (le-ltb _ _ (locations-passed (ranges-passed c) .if3 .left))
+    (passed-on _ _ _ _ (le-ltb _ _ (ranges-passed c .if4 .left))
+    (passed-on _ _ _ _ (le-ltb _ _ (c .if5 .left)) e))))
 
 returns : tie.Need-returns
-unfolding tested refuseIf
-returns c = simp (lt-ltb _ _ (c .if1 .taken))
-
-cast-if2 : tie.Need-cast-if2
-cast-if2 c = search needs
-
-mul-if2 : tie.Need-mul-if2
-mul-if2 c = search needs
-
-add-if2 : tie.Need-add-if2
-add-if2 c = search needs
+unfolding tested
+returns c = refused-here _ _ _ (lt-ltb _ _ (c .if1 .taken))
 
 returns-2 : tie.Need-returns-2
-unfolding tested refuseIf
-returns-2 c = simp (le-ltb _ _ (c .before .before .before .if1 .left), lt-ltb _ _ (c .if2 .taken))
-
-cast-if3 : tie.Need-cast-if3
-cast-if3 c = search needs
-
-mul-if3 : tie.Need-mul-if3
-mul-if3 c = search needs
-
-add-if3 : tie.Need-add-if3
-add-if3 c = search needs
+unfolding tested
+returns-2 c =
+    passed-on _ _ _ _ (le-ltb _ _ (c .before .before .before .if1 .left))
+    (refused-here _ _ _ (lt-ltb _ _ (c .if2 .taken)))
 
 returns-3 : tie.Need-returns-3
-unfolding tested refuseIf
-returns-3 c = simp (le-ltb _ _ (c .before .before .before .before .before .before .if1 .left), le-ltb _ _ (c .before .before .before .if2 .left), lt-ltb _ _ (c .if3 .taken))
-
-cast-if4 : tie.Need-cast-if4
-cast-if4 c = search needs
-
-mul-if4 : tie.Need-mul-if4
-mul-if4 c = search needs
-
-add-if4 : tie.Need-add-if4
-add-if4 c = search needs
+unfolding tested
+returns-3 c =
+    passed-on _ _ _ _ (le-ltb _ _ (files-passed (c .before .before .before) .if1 .left))
+    (passed-on _ _ _ _ (le-ltb _ _ (c .before .before .before .if2 .left))
+    (refused-here _ _ _ (lt-ltb _ _ (c .if3 .taken))))
 
 returns-4 : tie.Need-returns-4
-unfolding tested refuseIf
-returns-4 c = simp (le-ltb _ _ (c .before .before .before .before .before .before .before .before .before .if1 .left), le-ltb _ _ (c .before .before .before .before .before .before .if2 .left), le-ltb _ _ (c .before .before .before .if3 .left), lt-ltb _ _ (c .if4 .taken))
+unfolding tested
+returns-4 c =
+    passed-on _ _ _ _ (le-ltb _ _ (files-passed (functions-passed (c .before .before .before)) .if1 .left))
+    (passed-on _ _ _ _ (le-ltb _ _ (functions-passed (c .before .before .before) .if2 .left))
+    (passed-on _ _ _ _ (le-ltb _ _ (c .before .before .before .if3 .left))
+    (refused-here _ _ _ (lt-ltb _ _ (c .if4 .taken)))))
 
 returns-5 : tie.Need-returns-5
-unfolding tested refuseIf
-returns-5 c = simp (le-ltb _ _ (c .before .before .before .before .before .before .before .before .before .before .before .if1 .left), le-ltb _ _ (c .before .before .before .before .before .before .before .before .if2 .left), le-ltb _ _ (c .before .before .before .before .before .if3 .left), le-ltb _ _ (c .before .before .if4 .left), lt-ltb _ _ (c .if5 .taken))
-
-cast-if6 : tie.Need-cast-if6
-cast-if6 c = search needs
+unfolding tested
+returns-5 c =
+    passed-on _ _ _ _ (le-ltb _ _ (files-passed (functions-passed (locations-passed (c .before .before))) .if1 .left))
+    (passed-on _ _ _ _ (le-ltb _ _ (functions-passed (locations-passed (c .before .before)) .if2 .left))
+    (passed-on _ _ _ _ (le-ltb _ _ (locations-passed (c .before .before) .if3 .left))
+    (passed-on _ _ _ _ (le-ltb _ _ (c .before .before .if4 .left))
+    (refused-here _ _ _ (lt-ltb _ _ (c .if5 .taken))))))
 
 add-if6 : tie.Need-add-if6
-add-if6 c = omega (arith, c .before .before .before .before .before .before .before .before .before .before .before .before .before .before .before .before .pre .strings)
-
-found-bytes-requires : tie.Need-found-bytes-requires
-found-bytes-requires c κs = search needs
-
-cast-t14 : tie.Need-cast-t14
-cast-t14 c = search needs
+add-if6 c = omega (arith, start (c .before .before) .pre .strings)
 
 returns-6 : tie.Need-returns-6
 returns-6 c =
-    let a = c .before .before .before .before .before .before .before .before .before .before .before .before .before .before .before .before .before .before .before .args in
-    unexpected-bytes (a .len) (a .c) (a .variable-header) (c .before .found-bytes .result) (c .before .before .before .before .before .before .before .before .before .before .before .before .before .before .before .before .if1 .left) (c .before .before .before .before .before .before .before .before .before .before .before .before .before .if2 .left) (c .before .before .before .before .before .before .before .before .before .before .if3 .left) (c .before .before .before .before .before .before .before .if4 .left) (c .before .before .before .before .before .if5 .left) (c .before .before .if6 .taken) (c .before .found-bytes .ensures)
+    tables-passed (c .before .before .before .before .before) _
+    (refused-found _ _ _ _ _ (c .before .found-bytes .ensures) (lt-ltb _ _ (c .before .before .if6 .taken)))
 
 returns-7 : tie.Need-returns-7
-unfolding tested refuseIf
-returns-7 c = simp (le-ltb _ _ (c .before .before .before .before .before .before .before .before .before .before .before .before .before .before .before .if1 .left), le-ltb _ _ (c .before .before .before .before .before .before .before .before .before .before .before .before .if2 .left), le-ltb _ _ (c .before .before .before .before .before .before .before .before .before .if3 .left), le-ltb _ _ (c .before .before .before .before .before .before .if4 .left), le-ltb _ _ (c .before .before .before .before .if5 .left), le-ltb _ _ (c .before .if6 .left), eq-eqb _ _ (c .if7 .taken))
+returns-7 c =
+    tables-passed (c .before .before .before .before) _
+    (passed-on _ _ _ _ (le-ltb _ _ (c .before .if6 .left)) (refused-here _ _ _ (eq-eqb _ _ (c .if7 .taken))))
 
 returns-8 : tie.Need-returns-8
-unfolding tested refuseIf
-returns-8 c = simp (le-ltb _ _ (c .before .before .before .before .before .before .before .before .before .before .before .before .before .before .before .if1 .left), le-ltb _ _ (c .before .before .before .before .before .before .before .before .before .before .before .before .if2 .left), le-ltb _ _ (c .before .before .before .before .before .before .before .before .before .if3 .left), le-ltb _ _ (c .before .before .before .before .before .before .if4 .left), le-ltb _ _ (c .before .before .before .before .if5 .left), le-ltb _ _ (c .before .if6 .left), ne-eqb _ _ (c .if7 .left))
+returns-8 c =
+    tables-passed (c .before .before .before .before) _
+    (passed-on _ _ _ _ (le-ltb _ _ (c .before .if6 .left)) (passed-on _ _ _ _ (ne-eqb _ _ (c .if7 .left)) refl))
 
 pub parse-tables-spec : {M : Type 1} → statement M
 parse-tables-spec =
     tie.close
     (tie.spec
-    cast-if1
-    mul-if1
-    add-if1
+    (λ c. search needs) (λ c. search needs) (λ c. search needs)
     returns
-    cast-if2
-    mul-if2
-    add-if2
+    (λ c. search needs) (λ c. search needs) (λ c. search needs)
     returns-2
-    cast-if3
-    mul-if3
-    add-if3
+    (λ c. search needs) (λ c. search needs) (λ c. search needs)
     returns-3
-    cast-if4
-    mul-if4
-    add-if4
+    (λ c. search needs) (λ c. search needs) (λ c. search needs)
     returns-4
     returns-5
-    cast-if6
+    (λ c. search needs)
     add-if6
-    found-bytes-requires
-    cast-t14
+    (λ c κs. search needs) (λ c. search needs)
     returns-6
     returns-7
     returns-8)

@@ -22,18 +22,6 @@ feed-good : (s : LineState) (b : ℕ) {n d : ℕ} → n ≡ cond (ltb (s .digits
 unfolding feedOf
 feed-good s b e f g = rw (e, f, g)
 
-digit-requires : tie.Need-digit-requires
-digit-requires c κs = search needs
-
-one-more-requires : tie.Need-one-more-requires
-one-more-requires c κs = search needs
-
-mul-value : tie.Need-mul-value
-mul-value c = search needs
-
-add-value : tie.Need-add-value
-add-value c = search needs
-
 returns : tie.Need-returns
 returns c =
     let a = c .before .before .before .before .args in
@@ -46,4 +34,4 @@ returns-2 c =
 
 pub feed-spec : {M : Type 1} → statement M
 feed-spec =
-    tie.close (tie.spec digit-requires one-more-requires mul-value add-value returns returns-2)
+    tie.close (tie.spec (λ c κs. search needs) (λ c κs. search needs) (λ c. search needs) (λ c. search needs) returns returns-2)

@@ -3,11 +3,8 @@ use borrow.Author.Needs.{needs}
 use Rattle.symcache.proofs.lookup.find.Statement.{statement}
 use Rattle.symcache.proofs.lookup.find.Tie as tie
 
-find-in-requires : tie.Need-find-in-requires
-find-in-requires c κs = search needs
-
 returns : tie.Need-returns
-returns c = c .find-in .ensures
+returns c = c .find .ensures
 
 pub find-spec : {M : Type 1} → statement M
-find-spec = tie.close (tie.spec find-in-requires returns)
+find-spec = tie.close (tie.spec (λ c κs. search needs) returns)

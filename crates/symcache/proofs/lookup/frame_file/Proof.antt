@@ -5,15 +5,6 @@ use borrow.Author.Needs.{needs}
 use Rattle.symcache.proofs.lookup.frame_file.Statement.{statement}
 use Rattle.symcache.proofs.lookup.frame_file.Tie as tie
 
-mul-file-at : tie.Need-mul-file-at
-mul-file-at c = search needs
-
-add-file-at : tie.Need-add-file-at
-add-file-at c = search needs
-
-file-at-requires : tie.Need-file-at-requires
-file-at-requires c κs = search needs
-
 returns : tie.Need-returns
 unfolding fileIn
 returns c = rw (lt-ltb (c .before .before .before .before .before .args .i) (c .before .before .before .before .before .args .c .«num_files») (c .before .before .if1 .taken), c .file-at .ensures)
@@ -23,4 +14,4 @@ unfolding fileIn
 returns-2 c = rw (le-ltb (c .before .before .before .args .i) (c .before .before .before .args .c .«num_files») (c .if1 .left))
 
 pub frame-file-spec : {M : Type 1} → statement M
-frame-file-spec = tie.close (tie.spec mul-file-at add-file-at file-at-requires returns returns-2)
+frame-file-spec = tie.close (tie.spec (λ c. search needs) (λ c. search needs) (λ c κs. search needs) returns returns-2)

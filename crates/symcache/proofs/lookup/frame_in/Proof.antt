@@ -4,15 +4,6 @@ use borrow.Author.Needs.{needs}
 use Rattle.symcache.proofs.lookup.frame_in.Statement.{statement}
 use Rattle.symcache.proofs.lookup.frame_in.Tie as tie
 
-location-in-requires : tie.Need-location-in-requires
-location-in-requires c κs = search needs
-
-function-or-missing-requires : tie.Need-function-or-missing-requires
-function-or-missing-requires c κs = search needs
-
-frame-file-requires : tie.Need-frame-file-requires
-frame-file-requires c κs = search needs
-
 returns : tie.Need-returns
 returns c =
     let a = c .before .before .before .before .args in
@@ -21,4 +12,4 @@ returns c =
 pub frame-in-spec : {M : Type 1} → statement M
 frame-in-spec =
     tie.close
-    (tie.spec location-in-requires function-or-missing-requires frame-file-requires returns)
+    (tie.spec (λ c κs. search needs) (λ c κs. search needs) (λ c κs. search needs) returns)

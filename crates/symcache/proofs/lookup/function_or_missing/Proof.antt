@@ -6,15 +6,6 @@ use borrow.Author.Needs.{needs}
 use Rattle.symcache.proofs.lookup.function_or_missing.Statement.{statement}
 use Rattle.symcache.proofs.lookup.function_or_missing.Tie as tie
 
-mul-function-at : tie.Need-mul-function-at
-mul-function-at c = search needs
-
-add-function-at : tie.Need-add-function-at
-add-function-at c = search needs
-
-function-at-requires : tie.Need-function-at-requires
-function-at-requires c κs = search needs
-
 returns : tie.Need-returns
 unfolding functionIn
 returns c = rw (lt-ltb (c .before .before .before .before .before .args .i) (c .before .before .before .before .before .args .c .«num_functions») (c .before .before .if1 .taken), c .function-at .ensures) (refl, refl)
@@ -25,4 +16,4 @@ returns-2 c = rw (le-ltb (c .before .before .before .args .i) (c .before .before
 
 pub function-or-missing-spec : {M : Type 1} → statement M
 function-or-missing-spec =
-    tie.close (tie.spec mul-function-at add-function-at function-at-requires returns returns-2)
+    tie.close (tie.spec (λ c. search needs) (λ c. search needs) (λ c κs. search needs) returns returns-2)

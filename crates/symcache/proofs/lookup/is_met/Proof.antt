@@ -21,15 +21,6 @@ returns c = sym (met-here (c .before .before .before .before .args .s .now) (c .
 returns-2 : tie.Need-returns-2 Inv-loop μ-loop
 returns-2 c = sym (met-outside (c .before .before .before .before .before .before .args .s .now) (c .before .before .before .before .before .before .args .c) (c .before .before .before .before .before .before .args .i) (c .before .before .before .before .loop .at) (c .before .before .before .before .loop .left) (c .before .before .before .loop-test .taken) (c .before .before .if1 .left) (c .if2 .taken)) ∙ c .before .before .before .before .loop .inv
 
-location-in-requires : tie.Need-location-in-requires Inv-loop μ-loop
-location-in-requires c κs = omega arith
-
-sub-left : tie.Need-sub-left Inv-loop μ-loop
-sub-left c = omega arith
-
-loop-less : tie.Need-loop-less Inv-loop μ-loop
-loop-less c = omega arith
-
 loop-again : tie.Need-loop-again Inv-loop μ-loop
 loop-again c = let a = c .before .before .before .before .before .before .before .args in let l = c .before .before .before .before .before .loop in rw (c .location-in .ensures) (met-further (a .s .now) (a .c) (a .i) (l .at) (l .left) (c .before .before .before .before .loop-test .taken) (c .before .before .before .if1 .left) (c .before .if2 .left) ∙ l .inv)
 
@@ -45,8 +36,6 @@ is-met-spec =
     loop-holds
     returns
     returns-2
-    location-in-requires
-    sub-left
-    loop-less
+    (λ c κs. omega arith) (λ c. omega arith) (λ c. omega arith)
     loop-again
     returns-3)

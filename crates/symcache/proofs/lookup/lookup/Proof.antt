@@ -8,18 +8,6 @@ use borrow.Author.Needs.{needs}
 use Rattle.symcache.proofs.lookup.lookup.Statement.{statement}
 use Rattle.symcache.proofs.lookup.lookup.Tie as tie
 
-open-requires : tie.Need-open-requires
-open-requires c κs = search needs
-
-enum-known-opened : tie.Need-enum-known-opened
-enum-known-opened c = search needs
-
-walk-requires : tie.Need-walk-requires
-walk-requires c κs = search needs
-
-enum-known-opened-2 : tie.Need-enum-known-opened-2
-enum-known-opened-2 c = search needs
-
 returns : tie.Need-returns
 unfolding lookedUp
 returns c = then-gives (opened (c .before .before .before .before .before .before .args .s .now)) (c .before .before .opened .given .0 .0) _ _ (sym (c .before .before .before .before .«open» .ensures) ∙ ap parseAnswer (c .before .before .opened .given .1)) (ap gives (c .walk .ensures))
@@ -31,4 +19,4 @@ returns-2 c = then-refuses (opened (c .before .before .before .before .before .a
 pub lookup-spec : {M : Type 1} → statement M
 lookup-spec =
     tie.close
-    (tie.spec open-requires enum-known-opened walk-requires enum-known-opened-2 returns returns-2)
+    (tie.spec (λ c κs. search needs) (λ c. search needs) (λ c κs. search needs) (λ c. search needs) returns returns-2)

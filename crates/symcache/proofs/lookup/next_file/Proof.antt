@@ -5,18 +5,6 @@ use borrow.Author.Needs.{needs}
 use Rattle.symcache.proofs.lookup.next_file.Statement.{statement}
 use Rattle.symcache.proofs.lookup.next_file.Tie as tie
 
-mul-file-at : tie.Need-mul-file-at
-mul-file-at c = search needs
-
-add-file-at : tie.Need-add-file-at
-add-file-at c = search needs
-
-file-at-requires : tie.Need-file-at-requires
-file-at-requires c κs = search needs
-
-add-t9 : tie.Need-add-t9
-add-t9 c = search needs
-
 returns : tie.Need-returns
 unfolding nextFile
 returns c = rw (lt-ltb (c .before .before .before .before .before .args .i) (c .before .before .before .before .before .args .c .«num_files») (c .before .before .if1 .taken), c .file-at .ensures)
@@ -27,4 +15,4 @@ returns-2 c = rw (le-ltb (c .before .before .before .args .i) (c .before .before
 
 pub next-file-spec : {M : Type 1} → statement M
 next-file-spec =
-    tie.close (tie.spec mul-file-at add-file-at file-at-requires add-t9 returns returns-2)
+    tie.close (tie.spec (λ c. search needs) (λ c. search needs) (λ c κs. search needs) (λ c. search needs) returns returns-2)

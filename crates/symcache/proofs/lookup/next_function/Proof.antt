@@ -18,33 +18,12 @@ abbrev μ-loop : tie.MeasureT-loop
 loop-holds : tie.Need-loop-holds Inv-loop μ-loop
 loop-holds c = refl
 
-cast-function-at : tie.Need-cast-function-at Inv-loop μ-loop
-cast-function-at c = search needs
-
-mul-function-at : tie.Need-mul-function-at Inv-loop μ-loop
-mul-function-at c = search needs
-
-add-function-at : tie.Need-add-function-at Inv-loop μ-loop
-add-function-at c = omega arith
-
-function-at-requires : tie.Need-function-at-requires Inv-loop μ-loop
-function-at-requires c κs = search needs
-
-add-t10 : tie.Need-add-t10 Inv-loop μ-loop
-add-t10 c = omega arith
-
 returns : tie.Need-returns Inv-loop μ-loop
 returns c =
     let a = c .before .before .before .before .before .before .before .before .args in
     let i = c .before .before .before .before .before .before .loop .i in
     let e = c .before .before .function-at .ensures in
     ap gives (rw e (function-given (a .s .now) (a .c) i (a .c .«num_functions») (c .before .before .before .before .if1 .taken) (rw e at (c .if2 .taken))) ∙ c .before .before .before .before .before .before .loop .inv)
-
-add-i : tie.Need-add-i Inv-loop μ-loop
-add-i c = omega arith
-
-loop-less : tie.Need-loop-less Inv-loop μ-loop
-loop-less c = omega arith
 
 loop-again : tie.Need-loop-again Inv-loop μ-loop
 loop-again c =
@@ -61,13 +40,8 @@ next-function-spec =
     Inv-loop
     μ-loop
     loop-holds
-    cast-function-at
-    mul-function-at
-    add-function-at
-    function-at-requires
-    add-t10
+    (λ c. search needs) (λ c. search needs) (λ c. omega arith) (λ c κs. search needs) (λ c. omega arith)
     returns
-    add-i
-    loop-less
+    (λ c. omega arith) (λ c. omega arith)
     loop-again
     returns-2)

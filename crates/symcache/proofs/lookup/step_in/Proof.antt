@@ -7,15 +7,9 @@ use borrow.Author.Needs.{needs}
 use Rattle.symcache.proofs.lookup.step_in.Statement.{statement}
 use Rattle.symcache.proofs.lookup.step_in.Tie as tie
 
-is-ended-requires : tie.Need-is-ended-requires
-is-ended-requires c κs = search needs
-
 returns : tie.Need-returns
 unfolding stepIn
 returns c = rw (sym (c .before .is-ended .ensures) ∙ c .if1 .taken)
-
-location-in-requires : tie.Need-location-in-requires
-location-in-requires c κs = search needs
 
 frame-in-requires : tie.Need-frame-in-requires
 frame-in-requires c κs = (c .before .before .before .before .pre, goes-on (c .before .before .before .before .args .s .now) (c .before .before .before .before .args .c) (c .before .before .before .before .args .walk) (sym (c .before .before .is-ended .ensures) ∙ c .before .if1 .left) .0)
@@ -29,4 +23,4 @@ returns-2 c = step-made (c .before .before .before .before .before .before .args
 pub step-in-spec : {M : Type 1} → statement M
 step-in-spec =
     tie.close
-    (tie.spec is-ended-requires returns location-in-requires frame-in-requires add-t7 returns-2)
+    (tie.spec (λ c κs. search needs) returns (λ c κs. search needs) frame-in-requires add-t7 returns-2)

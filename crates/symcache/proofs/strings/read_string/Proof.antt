@@ -1,54 +1,59 @@
 -- `read_string` meets its contract.
 use native.Mathlib.Omega.{arith}
-use mathlib.Core.Path.{ap, sym, _∙_}
-use Rattle.symcache.specs.Answers.{parseAnswer}
+use mathlib.Core.Path.{_≡_, ap, sym, _∙_}
+use lib.ListN.{length}
+use Rattle.symcache.specs.declared.SymCache.{SymCache}
+use Rattle.symcache.specs.Answers.{gives, parseAnswer}
+use Rattle.symcache.specs.Reader.{parsed, Within}
 use Rattle.symcache.proofs.ReaderLaws.{parsed-within}
 use Rattle.symcache.proofs.StringLaws.{string-inside, string-there, string-absent, string-refused}
 use borrow.Author.Needs.{needs}
 use Rattle.symcache.proofs.strings.read_string.Statement.{statement}
 use Rattle.symcache.proofs.strings.read_string.Tie as tie
 
-parse-requires : tie.Need-parse-requires
-parse-requires c κs = search needs
+-- where the file was read
+abbrev start : tie.After-parsed → tie.Start
+start c = c .before .before .before .before
 
-enum-known-parsed : tie.Need-enum-known-parsed
-enum-known-parsed c = search needs
+abbrev cache : tie.After-parsed → SymCache
+cache c = c .parsed .given .0 .0
 
-cast-to : tie.Need-cast-to
-cast-to c = search needs
+is-read : (c : tie.After-parsed) → parsed (start c .args .s .now) ≡ gives (cache c)
+is-read c = sym (c .before .before .parse .ensures) ∙ ap parseAnswer (c .parsed .given .1)
+
+within : (c : tie.After-parsed) → Within (length (start c .args .s .now)) (cache c)
+within c = parsed-within (start c .args .s .now) (cache c) (is-read c) .1
+
+-- from where the text was read
+abbrev read : tie.After-read-text → tie.After-parsed
+read c = c .before .before .before .before
 
 add-to : tie.Need-add-to
-add-to c = let w = parsed-within (c .before .before .before .before .before .before .args .s .now) (c .before .before .parsed .given .0 .0) (sym (c .before .before .before .before .parse .ensures) ∙ ap parseAnswer (c .before .before .parsed .given .1)) .1 .strings in omega arith
-
-sub-read-text : tie.Need-sub-read-text
-sub-read-text c = search needs
-
-part-read-text-start : tie.Need-part-read-text-start
-part-read-text-start c = search needs
+add-to c = let w = within (c .before .before) .strings in omega arith
 
 part-read-text-end : tie.Need-part-read-text-end
-part-read-text-end c = parsed-within (c .before .before .before .before .before .before .args .s .now) (c .before .before .parsed .given .0 .0) (sym (c .before .before .before .before .parse .ensures) ∙ ap parseAnswer (c .before .before .parsed .given .1)) .1 .strings
-
-read-text-requires : tie.Need-read-text-requires
-read-text-requires c κs = search needs
-
-enum-known-read : tie.Need-enum-known-read
-enum-known-read c = search needs
+part-read-text-end c = within (c .before .before) .strings
 
 add-t17 : tie.Need-add-t17
-add-t17 c = let i = string-inside (c .before .before .before .before .before .before .before .before .before .before .before .args .s .now) (c .before .before .before .before .before .before .before .parsed .given .0 .0) (sym (c .before .before .before .before .before .before .before .before .before .parse .ensures) ∙ ap parseAnswer (c .before .before .before .before .before .before .before .parsed .given .1)) (c .before .before .before .before .before .before .before .before .before .before .before .args .offset) (c .before .read .given .0 .0) (c .before .read .given .0 .1 .0) (sym (c .before .before .before .read-text .ensures) ∙ c .before .read .given .1) in omega arith
-
-enum-told : tie.Need-enum-told
-enum-told c = search needs
-
-enum-known-parsed-2 : tie.Need-enum-known-parsed-2
-enum-known-parsed-2 c = search needs
+add-t17 c =
+    let t = c .before .before .before in
+    let g = c .before .read .given in
+    let a = start (read t) .args in
+    let i = string-inside (a .s .now) (cache (read t)) (is-read (read t)) (a .offset) (g .0 .0) (g .0 .1 .0) (sym (t .read-text .ensures) ∙ g .1) in
+    omega arith
 
 returns : tie.Need-returns
-returns c = string-there (c .before .before .before .before .before .before .before .before .before .before .before .args .s .now) (c .before .before .before .before .before .before .before .parsed .given .0 .0) (sym (c .before .before .before .before .before .before .before .before .before .parse .ensures) ∙ ap parseAnswer (c .before .before .before .before .before .before .before .parsed .given .1)) (c .before .before .before .before .before .before .before .before .before .before .before .args .offset) (c .before .read .given .0 .0) (c .before .read .given .0 .1 .0) (sym (c .before .before .before .read-text .ensures) ∙ c .before .read .given .1)
+returns c =
+    let t = c .before .before .before in
+    let g = c .before .read .given in
+    let a = start (read t) .args in
+    string-there (a .s .now) (cache (read t)) (is-read (read t)) (a .offset) (g .0 .0) (g .0 .1 .0) (sym (t .read-text .ensures) ∙ g .1)
 
 returns-2 : tie.Need-returns-2
-returns-2 c = string-absent (c .before .before .before .before .before .before .before .before .before .before .args .s .now) (c .before .before .before .before .before .before .parsed .given .0 .0) (sym (c .before .before .before .before .before .before .before .before .parse .ensures) ∙ ap parseAnswer (c .before .before .before .before .before .before .parsed .given .1)) (c .before .before .before .before .before .before .before .before .before .before .args .offset) (sym (c .before .before .read-text .ensures) ∙ c .enum-told .given .1)
+returns-2 c =
+    let t = c .before .before in
+    let a = start (read t) .args in
+    string-absent (a .s .now) (cache (read t)) (is-read (read t)) (a .offset) (sym (t .read-text .ensures) ∙ c .enum-told .given .1)
 
 returns-3 : tie.Need-returns-3
 returns-3 c = string-refused (c .before .before .before .before .before .args .s .now) _ (sym (c .before .before .before .parse .ensures) ∙ ap parseAnswer (c .before .parsed2 .given .1)) (c .before .before .before .before .before .args .offset)
@@ -57,18 +62,13 @@ pub read-string-spec : {M : Type 1} → statement M
 read-string-spec =
     tie.close
     (tie.spec
-    parse-requires
-    enum-known-parsed
-    cast-to
+    (λ c κs. search needs) (λ c. search needs) (λ c. search needs)
     add-to
-    sub-read-text
-    part-read-text-start
+    (λ c. search needs) (λ c. search needs)
     part-read-text-end
-    read-text-requires
-    enum-known-read
+    (λ c κs. search needs) (λ c. search needs)
     add-t17
-    enum-told
-    enum-known-parsed-2
+    (λ c. search needs) (λ c. search needs)
     returns
     returns-2
     returns-3)

@@ -21,9 +21,6 @@ loop-holds c = refl
 add-n : tie.Need-add-n Inv-loop μ-loop
 add-n c = omega (arith, encoded-ten (c .before .before .args .v) (search needs))
 
-loop-less : tie.Need-loop-less Inv-loop μ-loop
-loop-less c = omega arith
-
 loop-again : tie.Need-loop-again Inv-loop μ-loop
 loop-again c = omega (arith, length-more (c .before .loop .rest) (c .loop-test .taken))
 
@@ -32,4 +29,4 @@ returns c = omega (arith, length-last (c .before .loop .rest) (c .loop-test .lef
 
 pub leb128-len-spec : {M : Type 1} → statement M
 leb128-len-spec =
-    tie.close (tie.spec Inv-loop μ-loop loop-holds add-n loop-less loop-again returns)
+    tie.close (tie.spec Inv-loop μ-loop loop-holds add-n (λ c. omega arith) loop-again returns)

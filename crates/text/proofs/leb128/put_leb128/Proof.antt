@@ -18,26 +18,14 @@ abbrev μ-loop : tie.MeasureT-loop
 loop-holds : tie.Need-loop-holds Inv-loop μ-loop
 loop-holds c = (c .pre, refl, refl)
 
-add-out : tie.Need-add-out Inv-loop μ-loop
-add-out c = omega arith
-
-cast-out : tie.Need-cast-out Inv-loop μ-loop
-cast-out c = omega arith
-
 slice-write-out : tie.Need-slice-write-out Inv-loop μ-loop
 slice-write-out c = omega (arith, length-more (c .before .loop .rest) (c .loop-test .taken))
 
 add-i : tie.Need-add-i Inv-loop μ-loop
 add-i c = omega (arith, length-more (c .before .loop .rest) (c .loop-test .taken))
 
-loop-less : tie.Need-loop-less Inv-loop μ-loop
-loop-less c = omega arith
-
 loop-again : tie.Need-loop-again Inv-loop μ-loop
 loop-again c = (simp length-set (omega (arith, length-more (c .before .loop .rest) (c .loop-test .taken))), simp length-set (omega arith), put-more (c .before .loop .out) (c .before .loop .i) (c .before .loop .rest) (c .loop-test .taken) ∙ c .before .loop .inv .2)
-
-cast-out-2 : tie.Need-cast-out-2 Inv-loop μ-loop
-cast-out-2 c = omega arith
 
 slice-write-out-2 : tie.Need-slice-write-out-2 Inv-loop μ-loop
 slice-write-out-2 c = omega (arith, length-last (c .before .loop .rest) (c .loop-test .left))
@@ -55,13 +43,12 @@ put-leb128-spec =
     Inv-loop
     μ-loop
     loop-holds
-    add-out
-    cast-out
+    (λ c. omega arith) (λ c. omega arith)
     slice-write-out
     add-i
-    loop-less
+    (λ c. omega arith)
     loop-again
-    cast-out-2
+    (λ c. omega arith)
     slice-write-out-2
     same-length
     returns)

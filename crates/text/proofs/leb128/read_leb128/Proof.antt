@@ -16,32 +16,17 @@ abbrev μ-loop : tie.MeasureT-loop
 returns : tie.Need-returns Inv-loop μ-loop
 returns c = decoded-past (c .before .before .args .s .now) (c .before .before .args .at) (omega arith)
 
-sub-left : tie.Need-sub-left Inv-loop μ-loop
-sub-left c = omega arith
-
 loop-holds : tie.Need-loop-holds Inv-loop μ-loop
 loop-holds c = read-first (c .before .before .args .s .now) (c .before .before .args .at)
 
 returns-2 : tie.Need-returns-2 Inv-loop μ-loop
 returns-2 c = read-cut 0 (c .before .before .loop .inv) (omega arith)
 
-add-wide : tie.Need-add-wide Inv-loop μ-loop
-add-wide c = omega arith
-
-shared-slice-read-wide : tie.Need-shared-slice-read-wide Inv-loop μ-loop
-shared-slice-read-wide c = omega arith
-
-wide-requires : tie.Need-wide-requires Inv-loop μ-loop
-wide-requires c κs = search needs
-
 mul-last : tie.Need-mul-last Inv-loop μ-loop
 mul-last c = omega (arith, read-fits (c .before .wide .result) (c .before .before .before .before .before .loop .inv) (c .before .before .before .before .loop-test .taken) (c .if3 .taken))
 
 add-whole : tie.Need-add-whole Inv-loop μ-loop
 add-whole c = omega (arith, read-fits (c .before .wide .result) (c .before .before .before .before .before .loop .inv) (c .before .before .before .before .loop-test .taken) (c .if3 .taken))
-
-add-len : tie.Need-add-len Inv-loop μ-loop
-add-len c = omega arith
 
 returns-3 : tie.Need-returns-3 Inv-loop μ-loop
 returns-3 c = read-last (c .before .wide .result) (c .before .before .before .before .before .loop .inv) (c .before .before .before .before .loop-test .taken) (omega arith) (c .before .wide .ensures) (c .if3 .taken)
@@ -55,26 +40,11 @@ add-value c = omega (arith, read-fits (c .before .wide .result - 128) (c .before
 mul-unit : tie.Need-mul-unit Inv-loop μ-loop
 mul-unit c = omega (arith, read-fits 127 (c .before .before .before .before .before .loop .inv) (c .before .before .before .before .loop-test .taken) (omega arith))
 
-add-i : tie.Need-add-i Inv-loop μ-loop
-add-i c = omega arith
-
-loop-less : tie.Need-loop-less Inv-loop μ-loop
-loop-less c = omega arith
-
 loop-again : tie.Need-loop-again Inv-loop μ-loop
 loop-again c = read-more (c .before .wide .result) (c .before .before .before .before .before .loop .inv) (c .before .before .before .before .loop-test .taken) (omega arith) (c .before .wide .ensures) (c .if3 .left) (omega (arith, (c .before .before .shared-slice-known2 .given (c .before .before .before .before .before .before .before .before .args .at + c .before .before .before .before .before .loop .i))))
 
 returns-4 : tie.Need-returns-4 Inv-loop μ-loop
 returns-4 c = read-cut 0 (c .before .before .loop .inv) (omega arith)
-
-add-wide-2 : tie.Need-add-wide-2 Inv-loop μ-loop
-add-wide-2 c = omega arith
-
-shared-slice-read-wide-2 : tie.Need-shared-slice-read-wide-2 Inv-loop μ-loop
-shared-slice-read-wide-2 c = omega arith
-
-wide-requires-2 : tie.Need-wide-requires-2 Inv-loop μ-loop
-wide-requires-2 c κs = search needs
 
 returns-5 : tie.Need-returns-5 Inv-loop μ-loop
 returns-5 c = tenth-wide (c .before .wide2 .result) (c .before .before .before .before .before .loop .inv) (omega arith) (omega arith) (c .before .wide2 .ensures) (c .if5 .taken) (omega (arith, (c .before .before .shared-slice-known3 .given (c .before .before .before .before .before .before .before .before .args .at + 9))))
@@ -95,26 +65,21 @@ read-leb128-spec =
     Inv-loop
     μ-loop
     returns
-    sub-left
+    (λ c. omega arith)
     loop-holds
     returns-2
-    add-wide
-    shared-slice-read-wide
-    wide-requires
+    (λ c. omega arith) (λ c. omega arith) (λ c κs. search needs)
     mul-last
     add-whole
-    add-len
+    (λ c. omega arith)
     returns-3
     mul-value
     add-value
     mul-unit
-    add-i
-    loop-less
+    (λ c. omega arith) (λ c. omega arith)
     loop-again
     returns-4
-    add-wide-2
-    shared-slice-read-wide-2
-    wide-requires-2
+    (λ c. omega arith) (λ c. omega arith) (λ c κs. search needs)
     returns-5
     mul-high
     add-sum

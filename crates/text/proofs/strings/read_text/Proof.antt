@@ -6,14 +6,9 @@ use borrow.Author.Needs.{needs}
 use Rattle.text.proofs.strings.read_text.Statement.{statement}
 use Rattle.text.proofs.strings.read_text.Tie as tie
 
-read-leb128-requires : tie.Need-read-leb128-requires
-read-leb128-requires c κs = search needs
-
-enum-known-value : tie.Need-enum-known-value
-enum-known-value c = search needs
-
-enum-told : tie.Need-enum-told
-enum-told c = search needs
+-- from where the prefix lies in the section to the start
+abbrev start : tie.Else1 → tie.Start
+start c = c .before .before .before .before .before .before
 
 returns : tie.Need-returns
 returns c =
@@ -48,12 +43,6 @@ add-end c =
     let e = c .before .before .before .before .read-leb128 .ensures in
     omega (arith, prefix-within (a .section .now) (a .offset) (g .0 .0) (g .0 .1 .0) (sym e ∙ g .1))
 
-sub-is-utf8 : tie.Need-sub-is-utf8
-sub-is-utf8 c = search needs
-
-part-is-utf8-start : tie.Need-part-is-utf8-start
-part-is-utf8-start c = search needs
-
 part-is-utf8-end : tie.Need-part-is-utf8-end
 part-is-utf8-end c =
     let a = c .before .before .before .before .before .before .args in
@@ -61,19 +50,16 @@ part-is-utf8-end c =
     let e = c .before .before .before .before .read-leb128 .ensures in
     omega (arith, prefix-within (a .section .now) (a .offset) (g .0 .0) (g .0 .1 .0) (sym e ∙ g .1))
 
-is-utf8-requires : tie.Need-is-utf8-requires
-is-utf8-requires c κs = search needs
-
 returns-3 : tie.Need-returns-3
 returns-3 c =
-    let a = c .before .before .before .before .before .before .before .before .before .args in
+    let a = start (c .before .before .before) .args in
     let g = c .before .before .before .before .before .value .given in
     let e = c .before .before .before .before .before .before .before .read-leb128 .ensures in
     present (a .section .now) (a .offset) (g .0 .0) (g .0 .1 .0) (sym (g .1) ∙ e) (c .before .before .before .if1 .left) (c .before .is-utf8 .ensures) (c .if2 .taken)
 
 returns-4 : tie.Need-returns-4
 returns-4 c =
-    let a = c .before .before .before .before .before .before .before .before .before .args in
+    let a = start (c .before .before .before) .args in
     let g = c .before .before .before .before .before .value .given in
     let e = c .before .before .before .before .before .before .before .read-leb128 .ensures in
     absent-bytes (a .section .now) (a .offset) (g .0 .0) (g .0 .1 .0) (sym (g .1) ∙ e) (c .before .before .before .if1 .left) (c .before .is-utf8 .ensures) (c .if2 .left)
@@ -82,17 +68,14 @@ pub read-text-spec : {M : Type 1} → statement M
 read-text-spec =
     tie.close
     (tie.spec
-    read-leb128-requires
-    enum-known-value
-    enum-told
+    (λ c κs. search needs) (λ c. search needs) (λ c. search needs)
     returns
     add-start
     sub-if1
     returns-2
     add-end
-    sub-is-utf8
-    part-is-utf8-start
+    (λ c. search needs) (λ c. search needs)
     part-is-utf8-end
-    is-utf8-requires
+    (λ c κs. search needs)
     returns-3
     returns-4)

@@ -6,24 +6,6 @@ use borrow.Author.Needs.{needs}
 use Rattle.text.proofs.strings.text_part.Statement.{statement}
 use Rattle.text.proofs.strings.text_part.Tie as tie
 
-read-text-requires : tie.Need-read-text-requires
-read-text-requires c κs = search needs
-
-enum-known-start : tie.Need-enum-known-start
-enum-known-start c = search needs
-
-enum-told : tie.Need-enum-told
-enum-told c = search needs
-
-sub-result : tie.Need-sub-result
-sub-result c = search needs
-
-part-result-start : tie.Need-part-result-start
-part-result-start c = search needs
-
-part-result-end : tie.Need-part-result-end
-part-result-end c = search needs
-
 returns : tie.Need-returns
 returns c =
     let a = c .before .before .before .before .before .args in
@@ -35,12 +17,6 @@ add-end c =
     let g = c .before .start .given in
     let e = c .before .before .before .read-text .ensures in
     omega (arith, text-within (a .section .now) (a .offset) (g .0 .0) (g .0 .1 .0) (sym e ∙ g .1))
-
-sub-result-2 : tie.Need-sub-result-2
-sub-result-2 c = search needs
-
-part-result-start-2 : tie.Need-part-result-start-2
-part-result-start-2 c = search needs
 
 part-result-end-2 : tie.Need-part-result-end-2
 part-result-end-2 c =
@@ -60,15 +36,10 @@ pub text-part-spec : {M : Type 1} → statement M
 text-part-spec =
     tie.close
     (tie.spec
-    read-text-requires
-    enum-known-start
-    enum-told
-    sub-result
-    part-result-start
-    part-result-end
+    (λ c κs. search needs) (λ c. search needs) (λ c. search needs) (λ c. search needs) (λ c. search needs)
+    (λ c. search needs)
     returns
     add-end
-    sub-result-2
-    part-result-start-2
+    (λ c. search needs) (λ c. search needs)
     part-result-end-2
     returns-2)

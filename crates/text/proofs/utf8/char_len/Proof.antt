@@ -17,17 +17,11 @@ alt k = getD UTF8-char (k - 1) []
 abbrev after : ℕ → List (List Range)
 after k = drop k UTF8-char
 
-octet-requires : tie.Need-octet-requires
-octet-requires c κs = search needs
-
 returns : tie.Need-returns
 unfolding UTF8-char
 returns c =
     let s = c .before .before .before .args .s .now in
     hit (alt 1) (after 1) s (c .before .octet .ensures ∙ sym (fits-one (0x00 to 0x7F) s)) (c .if1 .taken)
-
-two-requires : tie.Need-two-requires
-two-requires c κs = search needs
 
 returns-2 : tie.Need-returns-2
 unfolding UTF8-char
@@ -36,9 +30,6 @@ returns-2 c =
     let s = c1 .before .before .before .args .s .now in
     miss (alt 1) (after 1) s (c1 .before .octet .ensures ∙ sym (fits-one (0x00 to 0x7F) s)) (c1 .if1 .left)
     (hit (alt 2) (after 2) s (c .before .two .ensures) (c .if2 .taken))
-
-three-requires : tie.Need-three-requires
-three-requires c κs = search needs
 
 returns-3 : tie.Need-returns-3
 unfolding UTF8-char
@@ -49,9 +40,6 @@ returns-3 c =
     miss (alt 1) (after 1) s (c1 .before .octet .ensures ∙ sym (fits-one (0x00 to 0x7F) s)) (c1 .if1 .left)
     (miss (alt 2) (after 2) s (c2 .before .two .ensures) (c2 .if2 .left)
     (hit (alt 3) (after 3) s (c .before .three .ensures) (c .if3 .taken)))
-
-three-requires-2 : tie.Need-three-requires-2
-three-requires-2 c κs = search needs
 
 returns-4 : tie.Need-returns-4
 unfolding UTF8-char
@@ -64,9 +52,6 @@ returns-4 c =
     (miss (alt 2) (after 2) s (c2 .before .two .ensures) (c2 .if2 .left)
     (miss (alt 3) (after 3) s (c3 .before .three .ensures) (c3 .if3 .left)
     (hit (alt 4) (after 4) s (c .before .three2 .ensures) (c .if4 .taken))))
-
-three-requires-3 : tie.Need-three-requires-3
-three-requires-3 c κs = search needs
 
 returns-5 : tie.Need-returns-5
 unfolding UTF8-char
@@ -81,9 +66,6 @@ returns-5 c =
     (miss (alt 3) (after 3) s (c3 .before .three .ensures) (c3 .if3 .left)
     (miss (alt 4) (after 4) s (c4 .before .three2 .ensures) (c4 .if4 .left)
     (hit (alt 5) (after 5) s (c .before .three3 .ensures) (c .if5 .taken)))))
-
-three-requires-4 : tie.Need-three-requires-4
-three-requires-4 c κs = search needs
 
 returns-6 : tie.Need-returns-6
 unfolding UTF8-char
@@ -100,9 +82,6 @@ returns-6 c =
     (miss (alt 4) (after 4) s (c4 .before .three2 .ensures) (c4 .if4 .left)
     (miss (alt 5) (after 5) s (c5 .before .three3 .ensures) (c5 .if5 .left)
     (hit (alt 6) (after 6) s (c .before .three4 .ensures) (c .if6 .taken))))))
-
-four-requires : tie.Need-four-requires
-four-requires c κs = search needs
 
 returns-7 : tie.Need-returns-7
 unfolding UTF8-char
@@ -121,9 +100,6 @@ returns-7 c =
     (miss (alt 5) (after 5) s (c5 .before .three3 .ensures) (c5 .if5 .left)
     (miss (alt 6) (after 6) s (c6 .before .three4 .ensures) (c6 .if6 .left)
     (hit (alt 7) (after 7) s (c .before .four .ensures) (c .if7 .taken)))))))
-
-four-requires-2 : tie.Need-four-requires-2
-four-requires-2 c κs = search needs
 
 returns-8 : tie.Need-returns-8
 unfolding UTF8-char
@@ -144,9 +120,6 @@ returns-8 c =
     (miss (alt 6) (after 6) s (c6 .before .three4 .ensures) (c6 .if6 .left)
     (miss (alt 7) (after 7) s (c7 .before .four .ensures) (c7 .if7 .left)
     (hit (alt 8) (after 8) s (c .before .four2 .ensures) (c .if8 .taken))))))))
-
-four-requires-3 : tie.Need-four-requires-3
-four-requires-3 c κs = search needs
 
 returns-9 : tie.Need-returns-9
 unfolding UTF8-char
@@ -197,22 +170,22 @@ pub char-len-spec : {M : Type 1} → statement M
 char-len-spec =
     tie.close
     (tie.spec
-    octet-requires
+    (λ c κs. search needs)
     returns
-    two-requires
+    (λ c κs. search needs)
     returns-2
-    three-requires
+    (λ c κs. search needs)
     returns-3
-    three-requires-2
+    (λ c κs. search needs)
     returns-4
-    three-requires-3
+    (λ c κs. search needs)
     returns-5
-    three-requires-4
+    (λ c κs. search needs)
     returns-6
-    four-requires
+    (λ c κs. search needs)
     returns-7
-    four-requires-2
+    (λ c κs. search needs)
     returns-8
-    four-requires-3
+    (λ c κs. search needs)
     returns-9
     returns-10)

@@ -7,12 +7,6 @@ use Rattle.text.proofs.Utf8Steps.{fits-snoc, both, first-fails}
 use Rattle.text.proofs.utf8.four.Statement.{statement}
 use Rattle.text.proofs.utf8.four.Tie as tie
 
-three-requires : tie.Need-three-requires
-three-requires c κs = search needs
-
-tail-requires : tie.Need-tail-requires
-tail-requires c κs = search needs
-
 returns : tie.Need-returns
 returns c =
     let a = c .before .before .before .before .args in
@@ -30,4 +24,4 @@ returns-2 c =
     first-fails (fits (r ∷ q ∷ UTF8-tail ∷ []) s) (octetIn s 3 UTF8-tail) (c .before .three .ensures) (c .if1 .left) ∙ sym (fits-snoc (r ∷ q ∷ UTF8-tail ∷ []) UTF8-tail s)
 
 pub four-spec : {M : Type 1} → statement M
-four-spec = tie.close (tie.spec three-requires tail-requires returns returns-2)
+four-spec = tie.close (tie.spec (λ c κs. search needs) (λ c κs. search needs) returns returns-2)

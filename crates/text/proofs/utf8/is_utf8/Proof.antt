@@ -40,18 +40,6 @@ done s i h inv = rw (drop-of-length-le s h) at (sym inv)
 loop-holds : tie.Need-loop-holds Inv-loop μ-loop
 loop-holds c = (omega arith, refl)
 
-sub-run-len : tie.Need-sub-run-len Inv-loop μ-loop
-sub-run-len c = search needs
-
-part-run-len-start : tie.Need-part-run-len-start Inv-loop μ-loop
-part-run-len-start c = search needs
-
-part-run-len-end : tie.Need-part-run-len-end Inv-loop μ-loop
-part-run-len-end c = search needs
-
-run-len-requires : tie.Need-run-len-requires Inv-loop μ-loop
-run-len-requires c κs = search needs
-
 returns : tie.Need-returns Inv-loop μ-loop
 returns c =
     let s = c .before .before .before .before .before .before .args .s .now in
@@ -87,10 +75,7 @@ is-utf8-spec =
     Inv-loop
     μ-loop
     loop-holds
-    sub-run-len
-    part-run-len-start
-    part-run-len-end
-    run-len-requires
+    (λ c. search needs) (λ c. search needs) (λ c. search needs) (λ c κs. search needs)
     returns
     add-i
     loop-less

@@ -23,9 +23,6 @@ past : (s : List ℕ) (k lo hi : ℕ) → length s ≤ k → false ≡ octetIn s
 unfolding octetIn
 past s k lo hi h = rw (le-ltb k (length s) h)
 
-shared-slice-read-b : tie.Need-shared-slice-read-b
-shared-slice-read-b c = search needs
-
 returns : tie.Need-returns
 returns c = let a = c .before .before .before .args in above (a .s .now) (a .k) (a .lo) (a .hi) (c .before .before .if1 .taken) (c .if2 .taken)
 
@@ -36,4 +33,4 @@ returns-3 : tie.Need-returns-3
 returns-3 c = let a = c .before .args in past (a .s .now) (a .k) (a .lo) (a .hi) (c .if1 .left)
 
 pub octet-spec : {M : Type 1} → statement M
-octet-spec = tie.close (tie.spec shared-slice-read-b returns returns-2 returns-3)
+octet-spec = tie.close (tie.spec (λ c. search needs) returns returns-2 returns-3)

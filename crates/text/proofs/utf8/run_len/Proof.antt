@@ -16,17 +16,11 @@ one-char : (s : List ℕ) {x : Bool} {n : ℕ} → x ≡ fits eights s → x ≡
 unfolding runLen
 one-char s e t f = rw (← e, t) f
 
-eight-requires : tie.Need-eight-requires
-eight-requires c κs = search needs
-
 returns : tie.Need-returns
 returns c = at-once (c .before .before .before .args .s .now) (c .before .eight .ensures) (c .if1 .taken)
-
-char-len-requires : tie.Need-char-len-requires
-char-len-requires c κs = search needs
 
 returns-2 : tie.Need-returns-2
 returns-2 c = one-char (c .before .before .before .before .args .s .now) (c .before .before .eight .ensures) (c .before .if1 .left) (c .char-len .ensures)
 
 pub run-len-spec : {M : Type 1} → statement M
-run-len-spec = tie.close (tie.spec eight-requires returns char-len-requires returns-2)
+run-len-spec = tie.close (tie.spec (λ c κs. search needs) returns (λ c κs. search needs) returns-2)

@@ -7,12 +7,6 @@ use Rattle.text.proofs.Utf8Steps.{fits-snoc, both, first-fails}
 use Rattle.text.proofs.utf8.three.Statement.{statement}
 use Rattle.text.proofs.utf8.three.Tie as tie
 
-two-requires : tie.Need-two-requires
-two-requires c κs = search needs
-
-tail-requires : tie.Need-tail-requires
-tail-requires c κs = search needs
-
 returns : tie.Need-returns
 returns c =
     let a = c .before .before .before .before .args in
@@ -30,4 +24,4 @@ returns-2 c =
     first-fails (fits (r ∷ q ∷ []) s) (octetIn s 2 UTF8-tail) (c .before .two .ensures) (c .if1 .left) ∙ sym (fits-snoc (r ∷ q ∷ []) UTF8-tail s)
 
 pub three-spec : {M : Type 1} → statement M
-three-spec = tie.close (tie.spec two-requires tail-requires returns returns-2)
+three-spec = tie.close (tie.spec (λ c κs. search needs) (λ c κs. search needs) returns returns-2)

@@ -7,12 +7,6 @@ use Rattle.text.proofs.Utf8Steps.{fits-one, fits-snoc, both, first-fail
 use Rattle.text.proofs.utf8.two.Statement.{statement}
 use Rattle.text.proofs.utf8.two.Tie as tie
 
-octet-requires : tie.Need-octet-requires
-octet-requires c κs = search needs
-
-octet-requires-2 : tie.Need-octet-requires-2
-octet-requires-2 c κs = search needs
-
 returns : tie.Need-returns
 returns c =
     let a = c .before .before .before .before .args in
@@ -30,4 +24,4 @@ returns-2 c =
     first-fails (fits (r ∷ []) s) (octetIn s 1 q) (c .before .octet .ensures ∙ sym (fits-one r s)) (c .if1 .left) ∙ sym (fits-snoc (r ∷ []) q s)
 
 pub two-spec : {M : Type 1} → statement M
-two-spec = tie.close (tie.spec octet-requires octet-requires-2 returns returns-2)
+two-spec = tie.close (tie.spec (λ c κs. search needs) (λ c κs. search needs) returns returns-2)

@@ -1,0 +1,126 @@
+-- Document 01's small worked file, read and looked up by computation: M1, M2, M3, and the address 2^32.
+use Prim.Native.Nat.{ℕ, _^_}
+use mathlib.Core.Path.{_≡_, refl}
+use mathlib.Core.List.{List, [], _∷_, map}
+use lib.ListN.{take, set}
+use lib.Seq.{sets}
+use Rattle.slices.specs.Bytes.{leAt, bytesAt}
+use Rattle.raw.specs.Rows.{max32, versionInfoAt, headerAt, fileAt, functionAt, locationAt, isNoSourceLocation, rangeAt}
+use Rattle.symcache.specs.declared.SymCache.{SymCache}
+use Rattle.symcache.specs.declared.lookup.Frame.{Frame}
+use Rattle.symcache.specs.Answers.{gives, refuses, refuseIf, andThen}
+use Rattle.symcache.specs.Reader.{aligned, layoutOf, tested, parsed, ascendingFrom, ascending, opened}
+use Rattle.symcache.specs.Lookup.{countIn, searchIn, foundAmong, usable, foundIn, locationIn, functionIn, fileIn, walkAt, met, frameIn, ended, stepIn, framesIn}
+
+-- the 305 bytes
+unfoldable pub worked : List ℕ
+worked =
+    -- magic, version
+    83 ∷ 89 ∷ 77 ∷ 67 ∷ 9 ∷ 0 ∷ 0 ∷ 0 ∷
+    -- debug id
+    0 ∷ 0 ∷ 0 ∷ 0 ∷ 0 ∷ 0 ∷ 0 ∷ 0 ∷ 0 ∷ 0 ∷ 0 ∷ 0 ∷ 0 ∷ 0 ∷ 0 ∷ 0 ∷ 0 ∷ 0 ∷ 0 ∷ 0 ∷ 0 ∷ 0 ∷ 0 ∷ 0 ∷ 0 ∷ 0 ∷ 0 ∷ 0 ∷ 0 ∷ 0 ∷ 0 ∷ 0 ∷
+    -- arch, files, functions, locations, ranges, string bytes
+    0 ∷ 0 ∷ 0 ∷ 0 ∷ 2 ∷ 0 ∷ 0 ∷ 0 ∷ 2 ∷ 0 ∷ 0 ∷ 0 ∷ 6 ∷ 0 ∷ 0 ∷ 0 ∷ 5 ∷ 0 ∷ 0 ∷ 0 ∷ 25 ∷ 0 ∷ 0 ∷ 0 ∷
+    -- variable header, reserved
+    0 ∷ 0 ∷ 0 ∷ 0 ∷ 0 ∷ 0 ∷ 0 ∷ 0 ∷ 0 ∷ 0 ∷ 0 ∷ 0 ∷ 0 ∷ 0 ∷ 0 ∷ 0 ∷
+    -- file 0
+    13 ∷ 0 ∷ 0 ∷ 0 ∷ 9 ∷ 0 ∷ 0 ∷ 0 ∷ 4 ∷ 0 ∷ 0 ∷ 0 ∷ 255 ∷ 255 ∷ 255 ∷ 255 ∷ 255 ∷ 255 ∷ 255 ∷ 255 ∷ 255 ∷ 255 ∷ 255 ∷ 255 ∷
+    -- file 1
+    13 ∷ 0 ∷ 0 ∷ 0 ∷ 9 ∷ 0 ∷ 0 ∷ 0 ∷ 20 ∷ 0 ∷ 0 ∷ 0 ∷ 255 ∷ 255 ∷ 255 ∷ 255 ∷ 255 ∷ 255 ∷ 255 ∷ 255 ∷ 255 ∷ 255 ∷ 255 ∷ 255 ∷
+    -- function 0
+    0 ∷ 0 ∷ 0 ∷ 0 ∷ 255 ∷ 255 ∷ 255 ∷ 255 ∷ 0 ∷ 16 ∷ 0 ∷ 0 ∷ 2 ∷ 0 ∷ 0 ∷ 0 ∷
+    -- function 1
+    16 ∷ 0 ∷ 0 ∷ 0 ∷ 255 ∷ 255 ∷ 255 ∷ 255 ∷ 255 ∷ 255 ∷ 255 ∷ 255 ∷ 2 ∷ 0 ∷ 0 ∷ 0 ∷
+    -- location 0
+    0 ∷ 0 ∷ 0 ∷ 0 ∷ 10 ∷ 0 ∷ 0 ∷ 0 ∷ 0 ∷ 0 ∷ 0 ∷ 0 ∷ 255 ∷ 255 ∷ 255 ∷ 255 ∷
+    -- location 1
+    0 ∷ 0 ∷ 0 ∷ 0 ∷ 10 ∷ 0 ∷ 0 ∷ 0 ∷ 0 ∷ 0 ∷ 0 ∷ 0 ∷ 255 ∷ 255 ∷ 255 ∷ 255 ∷
+    -- location 2
+    1 ∷ 0 ∷ 0 ∷ 0 ∷ 50 ∷ 0 ∷ 0 ∷ 0 ∷ 1 ∷ 0 ∷ 0 ∷ 0 ∷ 0 ∷ 0 ∷ 0 ∷ 0 ∷
+    -- location 3
+    0 ∷ 0 ∷ 0 ∷ 0 ∷ 10 ∷ 0 ∷ 0 ∷ 0 ∷ 0 ∷ 0 ∷ 0 ∷ 0 ∷ 255 ∷ 255 ∷ 255 ∷ 255 ∷
+    -- location 4
+    0 ∷ 0 ∷ 0 ∷ 0 ∷ 11 ∷ 0 ∷ 0 ∷ 0 ∷ 0 ∷ 0 ∷ 0 ∷ 0 ∷ 255 ∷ 255 ∷ 255 ∷ 255 ∷
+    -- location 5
+    255 ∷ 255 ∷ 255 ∷ 255 ∷ 255 ∷ 255 ∷ 255 ∷ 255 ∷ 255 ∷ 255 ∷ 255 ∷ 255 ∷ 255 ∷ 255 ∷ 255 ∷ 255 ∷
+    -- starts
+    0 ∷ 16 ∷ 0 ∷ 0 ∷ 2 ∷ 16 ∷ 0 ∷ 0 ∷ 6 ∷ 16 ∷ 0 ∷ 0 ∷ 8 ∷ 16 ∷ 0 ∷ 0 ∷ 16 ∷ 16 ∷ 0 ∷ 0 ∷
+    -- padding
+    0 ∷ 0 ∷ 0 ∷ 0 ∷
+    -- texts
+    3 ∷ 116 ∷ 114 ∷ 107 ∷ 4 ∷ 97 ∷ 46 ∷ 114 ∷ 115 ∷ 3 ∷ 115 ∷ 114 ∷ 99 ∷ 2 ∷ 47 ∷ 98 ∷ 3 ∷ 112 ∷ 111 ∷ 115 ∷ 4 ∷ 112 ∷ 46 ∷ 114 ∷ 115 ∷
+    []
+
+-- where its tables lie
+abbrev pub tables : SymCache
+tables = record {
+  files = 80;
+  «num_files» = 2;
+  functions = 128;
+  «num_functions» = 2;
+  «source_locations» = 160;
+  «num_source_locations» = 6;
+  ranges = 256;
+  «num_ranges» = 5;
+  strings = 280;
+  «string_bytes» = 25;
+}
+
+pub worked-opens : opened worked ≡ gives tables
+unfolding worked opened parsed refuseIf andThen tested layoutOf aligned ascending ascendingFrom versionInfoAt headerAt rangeAt leAt bytesAt
+worked-opens = refl
+
+-- 304 of the 305 bytes give 10 with 25, 24
+pub cut-short : parsed (take 304 worked) ≡ refuses (record { number = 10; expected = 25; found = 24 })
+unfolding worked parsed refuseIf tested layoutOf aligned versionInfoAt headerAt leAt bytesAt
+cut-short = refl
+
+-- what the lister prints of a frame: location, function, line, file
+pub record Listed : Type 0 where
+  pub location : ℕ
+  pub function : ℕ
+  pub line : ℕ
+  pub file : ℕ
+
+abbrev pub listed : Frame → Listed
+listed f = record { location = f .«location_idx»; function = f .«function_idx»; line = f .line; file = f .«file_idx» }
+
+abbrev frames : ℕ → List Listed
+frames a = map listed (framesIn worked tables 6 (walkAt worked tables a))
+
+-- M1: two frames
+pub m1 : frames 0x1003 ≡ record { location = 2; function = 1; line = 0x32; file = 1 } ∷ record { location = 0; function = 0; line = 0xA; file = 0 } ∷ []
+unfolding worked walkAt foundIn foundAmong usable searchIn countIn framesIn stepIn ended met frameIn locationIn functionIn fileIn fileAt functionAt locationAt isNoSourceLocation rangeAt leAt
+m1 = refl
+
+-- M2: none
+pub m2 : frames 0x1010 ≡ []
+unfolding worked walkAt foundIn foundAmong usable searchIn countIn framesIn stepIn ended met frameIn locationIn functionIn fileIn fileAt functionAt locationAt isNoSourceLocation rangeAt leAt
+m2 = refl
+
+-- M3: none
+pub m3 : frames 0x0FFF ≡ []
+unfolding worked walkAt foundIn foundAmong usable searchIn countIn framesIn stepIn ended met frameIn locationIn functionIn fileIn fileAt functionAt locationAt isNoSourceLocation rangeAt leAt
+m3 = refl
+
+pub past-the-end : frames (2 ^ 32) ≡ []
+unfolding worked walkAt foundIn foundAmong usable searchIn countIn framesIn stepIn ended met frameIn locationIn functionIn fileIn fileAt functionAt locationAt isNoSourceLocation rangeAt leAt
+past-the-end = refl
+
+-- the empty mapping met later in a chain is a frame: the worked file with its last location as the caller of location 2
+abbrev into-the-end : List ℕ
+into-the-end = set worked 204 5
+
+pub met-later : map listed (framesIn into-the-end tables 6 (walkAt into-the-end tables 0x1003))
+    ≡ record { location = 2; function = 1; line = 0x32; file = 1 } ∷ record { location = 5; function = max32; line = max32; file = max32 } ∷ []
+unfolding worked walkAt foundIn foundAmong usable searchIn countIn framesIn stepIn ended met frameIn locationIn functionIn fileIn fileAt functionAt locationAt isNoSourceLocation rangeAt leAt
+met-later = refl
+
+-- a chain that comes back ends where it meets itself: location 0 as its own caller
+abbrev round : List ℕ
+round = sets worked 172 (0 ∷ 0 ∷ 0 ∷ 0 ∷ [])
+
+pub met-again : map listed (framesIn round tables 6 (walkAt round tables 0x1003))
+    ≡ record { location = 2; function = 1; line = 0x32; file = 1 } ∷ record { location = 0; function = 0; line = 0xA; file = 0 } ∷ []
+unfolding worked walkAt foundIn foundAmong usable searchIn countIn framesIn stepIn ended met frameIn locationIn functionIn fileIn fileAt functionAt locationAt isNoSourceLocation rangeAt leAt
+met-again = refl

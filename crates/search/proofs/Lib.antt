@@ -1,0 +1,4 @@
+-- What the functions cite
+pub mod SearchLaws
+-- On ascending starts
+pub mod Greatest
