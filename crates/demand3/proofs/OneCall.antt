@@ -9,7 +9,7 @@ use lib.ListN.{length, replicate, length-replicate}
 use Rattle.model.specs.Rows.{FunctionRow, SymbolRow, Given, tree-rows, symbol-row}
 use Rattle.model.specs.Machine.{convertM, startM, convert-symbolM, convert-opM, runM}
 use Rattle.model.specs.Converter.{Setup, Tables, nothing, input, deep, op, plain, converted}
-use Rattle.model.specs.Counts.{fits? as plain-fits?}
+use Rattle.model.specs.Counts.{plain-fits?}
 use Rattle.model.proofs.Chains.{false-true}
 use Rattle.model.proofs.Grown.{room}
 use Rattle.model.proofs.Encoded.{AllowedGiven, encoded-call}

@@ -21,11 +21,11 @@ use Rattle.symcache.specs.Reader.{layoutOf, parsed, startAt, ascending, opened}
 use Rattle.symcache.specs.Lookup.{foundAt, walkAt, lookedUp, stepped}
 use Rattle.symcache.proofs.ReaderLaws.{parsed-within}
 use Rattle.read_back.specs.Shown.{Shown, ends, goes}
-use Rattle.read_back.specs.Shown.{Walked as PlainWalked, Found as PlainFound}
+use Rattle.read_back.specs.Shown.{Walked, Found}
 use Rattle.c_words.specs.Words.{stored}
 use Rattle.c_words.specs.Record.{Bytes}
 use Rattle.c_words.specs.Reading.{filled, answered, stepsTo, cacheWords, cacheOf, cached, openCall, findCall, walkWords, walkOf, walkCall, lookupCall, frameWords, nextCall, indexOf}
-use Rattle.exports.specs.Walks.{Walked, Found}
+use Rattle.exports.specs.Walks.{WalkedByCalls, FoundByCalls}
 use Rattle.exports.specs.Walks as words
 use Rattle.c_words.proofs.StoreLaws.{sets-at}
 use Rattle.exports.proofs.Carried.{byte-below}
@@ -51,7 +51,7 @@ index-back k i h =
 
 -- ── Frames ─────────────────────────────────────────────────────────────────────────────────────────────────────────────
 
-walks : (s k t : List ℕ) {w : SourceLocations} {fs : List Frame} → walkOf k ≡ w → 3 ≤ length k → PlainWalked s w fs → Walked s k t fs
+walks : (s k t : List ℕ) {w : SourceLocations} {fs : List Frame} → walkOf k ≡ w → 3 ≤ length k → Walked s w fs → WalkedByCalls s k t fs
 unfolding nextCall stepsTo
 walks s k t e h (ends g) = words.ends {k = k} {t = t} (rw (e, g))
 walks s k t e h (goes {n = n} {f = f} g rest) =
@@ -59,7 +59,7 @@ walks s k t e h (goes {n = n} {f = f} g rest) =
     words.goes {k = k} {t = t} {n = stored (walkWords n) k} {f = f} (rw (e, g)) (walks s (stored (walkWords n) k) (stored (frameWords f) t) (cursor-back k n h) (omega arith) rest)
 
 -- for every file and address, any stand-in, a cursor of three words or more, and any words lent for the frame
-pub found-by-words : (s d : List ℕ) (x : ℕ) (k t : List ℕ) (vs : List Shown) → 3 ≤ length k → PlainFound s d x vs → Found s d x k t vs
+pub found-by-words : (s d : List ℕ) (x : ℕ) (k t : List ℕ) (vs : List Shown) → 3 ≤ length k → Found s d x vs → FoundByCalls s d x k t vs
 unfolding lookupCall answered
 found-by-words s d x k t vs h f =
     let l : length (stored (walkWords (f .cursor)) k) ≡ length k = length-sets k 0 (walkWords (f .cursor)) in
