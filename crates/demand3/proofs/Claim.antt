@@ -1,5 +1,5 @@
 -- DEMAND 3 IS PROVED. A write that answers 0 finds the list open, so the memory holds the plain tables of the counted calls (EveryList); what it writes is their file (WrittenFile); and of that
--- file's bytes crate reads has demand 3. What is left here: the depths that 13 leaves, and that the answer 0 is the file and not 18 or 19.
+-- file's bytes crate read_back has demand 3. What is left here: the depths that 13 leaves, and that the answer 0 is the file and not 18 or 19.
 use mathlib.Core.Path.{_≡_, refl, sym, ap, _∙_, subst}
 use mathlib.Core.Bool.{Bool, true, false, cond, _&&_}
 use mathlib.Core.Option.{Option, none, some}
@@ -18,6 +18,7 @@ use Rattle.model.specs.Frames.{Frame, frames-at}
 use Rattle.model.specs.Counts.{Capacities, plain-fits?}
 use Rattle.model.specs.Premises.{reach, Legal, RowsWell, TreeWell, WellNested, AllSeparate, line-at, wanted, nested-at}
 use Rattle.model.specs.Written.{as-written}
+use Rattle.model.proofs.Chains.{none-some}
 use Rattle.model.proofs.Spans.{∈-elim, ∈-append, ∈-left}
 use Rattle.model.proofs.Demand.{demand-root, demand-stack, alone}
 use Rattle.model.proofs.Sections.{sections}
@@ -30,7 +31,7 @@ use Rattle.steps.proofs.Lengths.{Lens}
 use Rattle.serialize.specs.File.{Wrote, wrote, serializeOf}
 use Rattle.symcache.specs.Answers.{gives}
 use Rattle.symcache.specs.Reader.{layoutOf, opened}
-use Rattle.read_back.specs.Bytes.{header-of, file-bytes}
+use Rattle.read_back.specs.Bytes.{sections-header, file-bytes}
 use Rattle.read_back.specs.Shown.{with-stand-in, Found}
 use Rattle.read_back.proofs.Written.{file-shows, file-opened, file-demand}
 use Rattle.writer.specs.Calls.{setup, words-of, usable?, treeOf, symbolOf, beginOf}
@@ -101,11 +102,11 @@ covers-true n x c = rw (le-leb (reach n .from) x (c .0), lt-ltb x (reach n .to) 
 
 line-found : (ns : List LineRow) (n : LineRow) (x : ℕ) → n ∈ ns → Covers (reach n) x → line-at ns x ≢ none
 unfolding line-at
-line-found (m ∷ ns) n x here c e = let bad : _≡_ {A = ℕ} 0 1 = (let z = rw (covers-true n x c) at e in cc) in omega arith
+line-found (m ∷ ns) n x here c e = let z = rw (covers-true n x c) at e in none-some (sym z)
 line-found (m ∷ ns) n x (there i) c e = go (leb (reach m .from) x && ltb x (reach m .to)) refl (line-found ns n x i c)
   where
     go : (b : Bool) → (leb (reach m .from) x && ltb x (reach m .to)) ≡ b → (line-at ns x ≢ none) → ⊥
-    go true z h = let bad : _≡_ {A = ℕ} 0 1 = (let y = rw z at e in cc) in omega arith
+    go true z h = let y = rw z at e in none-some (sym y)
     go false z h = h (rw z at e)
 
 found-some : (X : Setup) (q : FunctionRow) (rs : List FunctionRow) (x : ℕ) → line-at (q .lines) x ≢ none → nested-at X x (q ∷ rs) ≢ []
@@ -136,8 +137,8 @@ open-shows : (n : Lens) (b : Converter) (r : Standing Converter) (id : List ℕ)
     → ((g : Given) → g ∈ r .counted → Shaped g) → file ≡ file-bytes id arch (sections (as-written (converted X (r .counted)))) → Reopened X (r .counted) file
 open-shows n b r id arch X file h same size small shaped e =
     record {
-      tables = layoutOf (header-of id arch (sections (as-written (converted X gs))));
-      opens = subst (λ (f : List ℕ). opened f ≡ gives (layoutOf (header-of id arch (sections (as-written (converted X gs)))))) at (file-opened X gs (h .fitting) K (capacities-lent n) room id arch size low [] [] 0);
+      tables = layoutOf (sections-header id arch (sections (as-written (converted X gs))));
+      opens = subst (λ (f : List ℕ). opened f ≡ gives (layoutOf (sections-header id arch (sections (as-written (converted X gs)))))) at (file-opened X gs (h .fitting) K (capacities-lent n) room id arch size low [] [] 0);
       every-address = λ d x. subst (λ (f : List ℕ). Found f d x (map (with-stand-in d) (frames-at (converted X gs) x))) at (file-shows X gs (h .fitting) K (capacities-lent n) room id arch size low [] d x);
       demanded = λ p q rs i l j x c.
           let well : (g : Given) → g ∈ gs → WellNested g = λ g k. whole g (p .nested g k) (shaped g k) in

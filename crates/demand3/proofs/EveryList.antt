@@ -17,7 +17,7 @@ use Rattle.model.specs.Rows.{Text, Given, symbol-row}
 use Rattle.model.specs.Machine.{convertM, startM, convert-symbolM, convert-opM, runM}
 use Rattle.model.specs.Converter.{Setup, Tables, input, deep, op, converted}
 use Rattle.model.specs.Counts.{plain-fits?}
-use Rattle.model.proofs.Chains.{both-true, both-of}
+use Rattle.model.proofs.Chains.{none-some, both-true, both-of}
 use Rattle.model.proofs.Spans.{∈-elim, ∈-append}
 use Rattle.model.proofs.Compact.{GivenFits, SymbolFits}
 use Rattle.model.proofs.Grown.{room}
@@ -248,7 +248,7 @@ symbol-fits t address size name e x z = go (name .present) e z
   where
     go : (f : Bool) → cond f (readable? t (name .part)) true ≡ true → cond f (some (textOf t (name .part))) none ≡ some x → utf8 x ≡ true
     go true a c = let y : textOf t (name .part) ≡ x = cc in subst (λ (v : Text). utf8 v ≡ true) y (both-true (inside? t (name .part)) (utf8 (textOf t (name .part))) a .1)
-    go false a c = let bad : _≡_ {A = ℕ} 0 1 = cc in absurd (omega arith)
+    go false a c = none-some c
 
 module _ (n : Lens) (b : Converter) (r : Standing Converter) (t : List ℕ) (address size : ℕ) (name : OptionalPart) (h : Open n b r) where
   abbrev g : Given

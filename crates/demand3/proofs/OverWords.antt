@@ -14,7 +14,7 @@ use Rattle.model.specs.Rows.{MAX, LineRow, FunctionRow, SymbolRow}
 use Rattle.model.specs.Converter.{Setup, File, Function, Location, nowhere, at, Tables, is-nowhere, file-eq, function-eq, location-eq, intern-text, intern-six, function-name, symbol-name, line-texts, entry-of, range-at, begin-row, locate-line, begin-symbol, locate-symbol, enter-call, later, cleared}
 use Rattle.model.specs.FileWords.{index-word}
 use Rattle.model.proofs.Intern.{At, Grows, intern-grows}
-use Rattle.model.proofs.Chains.{file-eq-ok, function-eq-ok, location-eq-ok}
+use Rattle.model.proofs.Chains.{none-some, file-eq-ok, function-eq-ok, location-eq-ok}
 use Rattle.model.proofs.Always.{Within, InTables}
 use Rattle.model.proofs.Grown.{Grown}
 use Rattle.model.proofs.Couple.{Alike, vacant, held}
@@ -50,7 +50,7 @@ is-none-same s w (at f n i c) h = go (eqb (index-word f) max32) (eqb n max32)
 -- what a start holds stands in the ranges
 range-stands : (rs : List (Entry Location)) (k : ℕ) (l : Location) → range-at rs k ≡ some l → (i : ℕ) × (e : Entry Location) × At rs i e × (e .value ≡ l)
 unfolding range-at
-range-stands [] k l h = let bad : _≡_ {A = ℕ} 0 1 = cc in absurd (omega arith)
+range-stands [] k l h = none-some h
 range-stands (e ∷ es) k l h = go (eqb k (e .key)) h (λ z. range-stands es k l z)
   where
     go : (b : Bool) → cond b (some (e .value)) (range-at es k) ≡ some l → (range-at es k ≡ some l → (i : ℕ) × (d : Entry Location) × At es i d × (d .value ≡ l)) → (i : ℕ) × (d : Entry Location) × At (e ∷ es) i d × (d .value ≡ l)

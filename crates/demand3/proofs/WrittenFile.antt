@@ -17,7 +17,7 @@ use Rattle.model.specs.Rows.{Text, Given}
 use Rattle.model.specs.Converter.{Setup, File, Function, Location, nowhere, at, Tables, range-at, converted}
 use Rattle.model.specs.Written.{place-range, by-start, as-written, locations}
 use Rattle.model.specs.FileWords.{file-words, function-words, location-words, starts, string-section}
-use Rattle.model.proofs.Chains.{both-of, range-here, range-there, Unique}
+use Rattle.model.proofs.Chains.{none-some, both-of, range-here, range-there, Unique}
 use Rattle.model.proofs.Always.{starts-unique, last-end-starts}
 use Rattle.model.proofs.Written.{by-start-same, by-start-length}
 use Rattle.model.proofs.FileRows.{section-length}
@@ -95,9 +95,6 @@ strings-is (t ∷ ts) = append-assoc (encoded (length t)) t (section ts) ∙ ap 
 
 -- ── Sorting entries is putting what they stand for in order of start ──
 
-no-held : {A L : Type 0} {l : L} → _≡_ {A = Option L} (some l) none → A
-no-held e = let bad : _≡_ {A = ℕ} 0 1 = cc in absurd (omega arith)
-
 module _ {L : Type 0} (value-at : ℕ → L) where
   -- what an entry stands for, where a row number has a value
   abbrev meant : Span → Entry L
@@ -112,7 +109,7 @@ module _ {L : Type 0} (value-at : ℕ → L) where
           → (range-at (map meant ps) (p .from) ≡ none → map meant (place p ps) ≡ place-range (p .from) (value-at (p .to)) (map meant ps))
           → map meant (place p (q ∷ ps)) ≡ place-range (p .from) (value-at (p .to)) (map meant (q ∷ ps))
       go true e c f ih = rw e
-      go false e true f ih = no-held (sym (range-here (meant q) (map meant ps) (p .from) (eqb-true _ _ f)) ∙ h)
+      go false e true f ih = none-some (sym h ∙ range-here (meant q) (map meant ps) (p .from) (eqb-true _ _ f))
       go false e false f ih = rw (e, f) (ap (λ (l : List (Entry L)). meant q ∷ l) (ih (sym (range-there (meant q) (map meant ps) (p .from) (eqb-false _ _ f)) ∙ h)))
 
   pub sort-is : (ps : List Span) → Unique (map meant ps) → map meant (sort ps) ≡ by-start (map meant ps)
@@ -203,7 +200,7 @@ module _ (t : List ℕ) (n : ℕ) (rs : List (Entry Location)) (h : Holds 1 t n 
   no-vacant (Set a) k = let (l, e) = k a refl in go (getOf t n a) (got t n rs a h ∙ ap shown e)
     where
       go : {l : SourceLocation} (f : Found) → held f ≡ some l → if-vacant f a ≡ Unset
-      go Absent e = no-held (sym e)
+      go Absent e = none-some e
       go (At x) e = refl
 
 -- ── The file ──
@@ -265,7 +262,7 @@ module _ (n : Lens) (s : Tables) (c : Converter) (m : Memory) (h : Enc n s (word
         let f : length (by-start (s .ranges)) ≡ length (s .ranges) = by-start-length (s .ranges) unique in
         omega (arith, ranges-count, count-calls n s (words-of c m) h)
 
-    pub header-is : header-of c (length (ranges-of c m)) ≡ reads.header-of (c .«debug_id») (c .arch) z
+    pub header-is : header-of c (length (ranges-of c m)) ≡ reads.sections-header (c .«debug_id») (c .arch) z
     header-is =
         header-path (c .«debug_id») (c .arch) _ _ _ _ _ _ _ _ _ _
         (sym (length-map (s .files) (file-words (s .texts)) ∙ count-files n s (words-of c m) h))

@@ -17,6 +17,7 @@ use Rattle.rows.specs.Refusals.{refusalOf, optional?}
 use Rattle.rows.specs.declared.OptionalPart.{OptionalPart}
 use Rattle.model.specs.Machine.{convert-symbolM}
 use Rattle.model.specs.Converter.{input}
+use Rattle.model.proofs.Chains.{both-true}
 use Rattle.steps.specs.Words.{Memory, Words, fits?, over-words}
 use Rattle.steps.specs.declared.LastAddr.{LastAddr}
 use Rattle.steps.specs.declared.LastAddr.the-variants.{Unset, Set}
@@ -170,13 +171,9 @@ long r e = go (ltb 19 (length r)) refl
         let no : _≡_ {A = ℕ} 0 1 = ap flagOf (sym (ap yes z) ∙ e) in
         omega arith
 
-both-left : (a b : Bool) → a && b ≡ true → a ≡ true
-both-left true b h = refl
-both-left false b h = h
-
 usable-long : (r : List ℕ) (m : Memory) → usable? (converterOf r) m ≡ true → 20 ≤ length r
 unfolding usable? converterOf
-usable-long r m h = long r (both-left (yes (getD r 19 0)) _ h)
+usable-long r m h = long r (both-true (yes (getD r 19 0)) _ h .0)
 
 -- after a call that answered o, the record is the converter of o
 abbrev Carries : List ℕ → Called → Type 0
@@ -222,7 +219,7 @@ lines-carried r m s u v k =
     by-cond P (usable? (converterOf r) m && eqb (refusalOf k (length s)) 0) _ _
     (λ h. by-cond P (unpackRoom? k u v) _ _
     (λ _. tree-carried r m s k)
-    (λ _. refused-carried r m s 16 (usable-long r m (both-left (usable? (converterOf r) m) (eqb (refusalOf k (length s)) 0) h))))
+    (λ _. refused-carried r m s 16 (usable-long r m (both-true (usable? (converterOf r) m) (eqb (refusalOf k (length s)) 0) h .0))))
     (λ _. tree-carried r m s k)
 
 pub symbol-carried : (r : List ℕ) (m : Memory) (t : List ℕ) (address size : ℕ) (name : OptionalPart)

@@ -24,7 +24,7 @@ use Rattle.model.proofs.FileRows.{InFile, written-in-file, file-low, function-l
 use Rattle.model.proofs.Sections.{sections, lookup-words, words-looked-up}
 use Rattle.symcache.specs.Answers.{gives}
 use Rattle.symcache.specs.Reader.{layoutOf, opened}
-use Rattle.read_back.specs.Bytes.{header-of, file-bytes, Rows, Readable}
+use Rattle.read_back.specs.Bytes.{sections-header, file-bytes, Rows, Readable}
 use Rattle.read_back.specs.Shown.{shown, with-stand-in, Found}
 use Rattle.read_back.proofs.FileRead.{opened-file}
 use Rattle.read_back.proofs.Walks.{found-words}
@@ -83,7 +83,7 @@ module _ (X : Setup) (gs : List Given) (fitting : (g : Given) → g ∈ gs → G
       (tables-shown id a (as-written (converted X gs)) (written-in-file X gs fitting K lent room) size small rest d x)
 
   -- no call refuses it
-  pub file-opened : opened file ≡ gives (layoutOf (header-of id a (sections (as-written (converted X gs)))))
+  pub file-opened : opened file ≡ gives (layoutOf (sections-header id a (sections (as-written (converted X gs)))))
   file-opened = opened-file id a _ (sections-readable id a (as-written (converted X gs)) (written-in-file X gs fitting K lent room) size small) rest
 
   -- K7: with no row deeper than D, `next` gives at most D + 1 frames, whether or not the trees are well nested
