@@ -23,7 +23,7 @@ use Rattle.unpacked.specs.Lines.{lineColumns}
 use Rattle.line_rows.specs.Calls.{linesOf}
 use Rattle.serialize.specs.File.{serializeOf}
 
--- ── A call, and what it leaves ─────────────────────────────────────────────────────────────────────────────────────────
+-- ── A call ─────────────────────────────────────────────────────────────────────────────────────────────────────────────
 
 pub data Call : Type 0 where
   tree : Columns → List ℕ → Call  -- the rows with their text, and the scratch
@@ -32,7 +32,7 @@ pub data Call : Type 0 where
   symbol : List ℕ → ℕ → ℕ → OptionalPart → Call  -- the text, then address, size, and the part that is the name
   write : List ℕ → Call  -- the output
 
--- its number, what carries the record, and the lent tables
+-- what a call leaves: its number, what carries the record, and the lent tables
 pub record Outcome (R : Type 0) : Type 0 where
   pub code : ℕ
   pub carrier : R
@@ -70,6 +70,7 @@ pub record Standing (R : Type 0) : Type 0 where
 abbrev pub none-counted : {R : Type 0} → R → Memory → Standing R
 none-counted c m = record { carrier = c; memory = m; counted = [] }
 
+-- `leaves` says of every call what it leaves, from what the call before left
 module _ {R : Type 0} (leaves : Call → R → Memory → Outcome R) where
   unfoldable pub next : Call → Standing R → Standing R
   next k x =
