@@ -1,5 +1,5 @@
 -- DEMAND 3 IS PROVED. A write that answers 0 finds the list open, so the memory holds the plain tables of the counted calls (EveryList); what it writes is their file (WrittenFile); and of that
--- file's bytes crate reads has demand 3. What is left here: the depths that 13 leaves, and that the answer 0 is the file and not 18 or 19.
+-- file's bytes crate read_back has demand 3. What is left here: the depths that 13 leaves, and that the answer 0 is the file and not 18 or 19.
 use mathlib.Core.Path.{_≡_, refl, sym, ap, _∙_, subst}
 use mathlib.Core.Bool.{Bool, true, false, cond, _&&_}
 use mathlib.Core.Option.{Option, none, some}
@@ -15,9 +15,10 @@ use Rattle.model.specs.Basics.{_∈_, here, there, Covers, Deep}
 use Rattle.model.specs.Rows.{MAX, LineRow, FunctionRow, Given, tree-rows, symbol-row}
 use Rattle.model.specs.Converter.{Setup, converted}
 use Rattle.model.specs.Frames.{Frame, frames-at}
-use Rattle.model.specs.Counts.{Capacities, fits?}
+use Rattle.model.specs.Counts.{Capacities, plain-fits?}
 use Rattle.model.specs.Premises.{reach, Legal, RowsWell, TreeWell, WellNested, AllSeparate, line-at, wanted, nested-at}
-use Rattle.model.specs.Written.{written}
+use Rattle.model.specs.Written.{as-written}
+use Rattle.model.proofs.Chains.{none-some}
 use Rattle.model.proofs.Spans.{∈-elim, ∈-append, ∈-left}
 use Rattle.model.proofs.Demand.{demand-root, demand-stack, alone}
 use Rattle.model.proofs.Sections.{sections}
@@ -30,15 +31,15 @@ use Rattle.steps.proofs.Lengths.{Lens}
 use Rattle.serialize.specs.File.{Wrote, wrote, serializeOf}
 use Rattle.symcache.specs.Answers.{gives}
 use Rattle.symcache.specs.Reader.{layoutOf, opened}
-use Rattle.read_back.specs.Bytes.{header-of, file-bytes}
+use Rattle.read_back.specs.Bytes.{sections-header, file-bytes}
 use Rattle.read_back.specs.Shown.{with-stand-in, Found}
 use Rattle.read_back.proofs.Written.{file-shows, file-opened, file-demand}
 use Rattle.writer.specs.Calls.{setup, treeOf, symbolOf}
 use Rattle.memory.specs.Record.{words-of, usable?, beginOf}
 use Rattle.steps.specs.Symbols.{symbolRow}
 use Rattle.line_list.specs.Lines.{lineColumns}
-use Rattle.demand3.specs.Lists.{Call, tree, lines-tree, symbol, write, Standing, givenTree, next, run, begun, Typed}
-use Rattle.demand3.specs.Demand3.{Nested, Premises, asked, Shows, Reopened, file-of, Demand3}
+use Rattle.demand3.specs.Lists.{Call, tree, lines-tree, symbol, write, givenTree, Standing, next, run, by-value, beginning, Typed}
+use Rattle.demand3.specs.Demand3.{Nested, Premises, asked, Shows, Reopened, file-written, Demand3}
 use Rattle.demand3.proofs.Encoding.{capacities, capacities-lent}
 use Rattle.demand3.proofs.OneCall.{lengths-of}
 use Rattle.demand3.proofs.EveryList.{Open, Closed, Stands, every-list, open-fits, lines-next, scratch-of}
@@ -50,11 +51,11 @@ abbrev Shaped : Given → Type 0
 Shaped (tree-rows q rs) = (q .depth ≡ 0) × Legal 0 rs
 Shaped (symbol-row y) = Unit {0}
 
-accepted-tree : (r : Standing) (k : Columns) (s : List ℕ) → treeOf (r .converter) (r .memory) s k .code ≡ 0 → refusalOf k (length s) ≡ 0
+accepted-tree : (r : Standing Converter) (k : Columns) (s : List ℕ) → treeOf (r .carrier) (r .memory) s k .code ≡ 0 → refusalOf k (length s) ≡ 0
 unfolding treeOf
-accepted-tree r k s e = go (usable? (r .converter) (r .memory)) (eqb (refusalOf k (length s)) 0) refl refl
+accepted-tree r k s e = go (usable? (r .carrier) (r .memory)) (eqb (refusalOf k (length s)) 0) refl refl
   where
-    go : (a b : Bool) → usable? (r .converter) (r .memory) ≡ a → eqb (refusalOf k (length s)) 0 ≡ b → refusalOf k (length s) ≡ 0
+    go : (a b : Bool) → usable? (r .carrier) (r .memory) ≡ a → eqb (refusalOf k (length s)) 0 ≡ b → refusalOf k (length s) ≡ 0
     go true true u v = eqb-true (refusalOf k (length s)) 0 v
     go true false u v = rw (u, v, treeOf) at e
     go false b u v = let bad : _≡_ {A = ℕ} 19 0 = rw (u, treeOf) at e in absurd (omega arith)
@@ -65,30 +66,30 @@ tree-shaped k s e = let a = accepted k s e in (a .first, a .legal)
 one-more : (gs : List Given) (g : Given) → ((h : Given) → h ∈ gs → Shaped h) → Shaped g → (h : Given) → h ∈ (gs ++ (g ∷ [])) → Shaped h
 one-more gs g a b h i = ⊎-elim (λ j. a h j) (λ j. ∈-elim Shaped b (λ y z. elim z [ ]) h j) (∈-append gs i)
 
-tree-next-shaped : (k : Columns) (s : List ℕ) (r : Standing) → ((g : Given) → g ∈ r .counted → Shaped g) → (g : Given) → g ∈ next (tree k s) r .counted → Shaped g
+tree-next-shaped : (k : Columns) (s : List ℕ) (r : Standing Converter) → ((g : Given) → g ∈ r .counted → Shaped g) → (g : Given) → g ∈ next by-value (tree k s) r .counted → Shaped g
 unfolding next
-tree-next-shaped k s r a = go (eqb (treeOf (r .converter) (r .memory) s k .code) 0) refl
+tree-next-shaped k s r a = go (eqb (treeOf (r .carrier) (r .memory) s k .code) 0) refl
   where
-    go : (b : Bool) → eqb (treeOf (r .converter) (r .memory) s k .code) 0 ≡ b → (g : Given) → g ∈ cond b (r .counted ++ (givenTree k ∷ [])) (r .counted) → Shaped g
+    go : (b : Bool) → eqb (treeOf (r .carrier) (r .memory) s k .code) 0 ≡ b → (g : Given) → g ∈ cond b (r .counted ++ (givenTree k ∷ [])) (r .counted) → Shaped g
     go true e g i = one-more (r .counted) (givenTree k) a (tree-shaped k (length s) (accepted-tree r k s (eqb-true _ 0 e))) g i
     go false e g i = a g i
 
-next-shaped : (k : Call) (r : Standing) → ((g : Given) → g ∈ r .counted → Shaped g) → (g : Given) → g ∈ next k r .counted → Shaped g
+next-shaped : (k : Call) (r : Standing Converter) → ((g : Given) → g ∈ r .counted → Shaped g) → (g : Given) → g ∈ next by-value k r .counted → Shaped g
 unfolding next
 next-shaped (tree k s) r a = tree-next-shaped k s r a
 next-shaped (lines-tree f64 f32 ls x s u v) r a =
-    subst (λ (y : Standing). (g : Given) → g ∈ y .counted → Shaped g) (sym (lines-next f64 f32 ls x s u v r)) (tree-next-shaped (lineColumns f64 f32 ls x) (scratch-of f64 f32 ls x s u v r) r a)
-next-shaped (symbol t address size name) r a = go (eqb (symbolOf (r .converter) (r .memory) t address size name .code) 0)
+    subst (λ (y : Standing Converter). (g : Given) → g ∈ y .counted → Shaped g) (sym (lines-next f64 f32 ls x s u v r)) (tree-next-shaped (lineColumns f64 f32 ls x) (scratch-of f64 f32 ls x s u v r) r a)
+next-shaped (symbol t address size name) r a = go (eqb (symbolOf (r .carrier) (r .memory) t address size name .code) 0)
   where
     go : (b : Bool) (g : Given) → g ∈ cond b (r .counted ++ (symbol-row (symbolRow t address size name) ∷ [])) (r .counted) → Shaped g
     go true g i = one-more (r .counted) (symbol-row (symbolRow t address size name)) a tt g i
     go false g i = a g i
 next-shaped (write output) r a = a
 
-run-shaped : (ks : List Call) (r : Standing) → ((g : Given) → g ∈ r .counted → Shaped g) → (g : Given) → g ∈ run ks r .counted → Shaped g
+run-shaped : (ks : List Call) (r : Standing Converter) → ((g : Given) → g ∈ r .counted → Shaped g) → (g : Given) → g ∈ run by-value ks r .counted → Shaped g
 unfolding run
 run-shaped [] r a = a
-run-shaped (k ∷ ks) r a = run-shaped ks (next k r) (next-shaped k r a)
+run-shaped (k ∷ ks) r a = run-shaped ks (next by-value k r) (next-shaped k r a)
 
 -- with these, the premises are those of the model
 whole : (g : Given) → Nested g → Shaped g → WellNested g
@@ -102,11 +103,11 @@ covers-true n x c = rw (le-leb (reach n .from) x (c .0), lt-ltb x (reach n .to) 
 
 line-found : (ns : List LineRow) (n : LineRow) (x : ℕ) → n ∈ ns → Covers (reach n) x → line-at ns x ≢ none
 unfolding line-at
-line-found (m ∷ ns) n x here c e = let bad : _≡_ {A = ℕ} 0 1 = (let z = rw (covers-true n x c) at e in cc) in omega arith
+line-found (m ∷ ns) n x here c e = let z = rw (covers-true n x c) at e in none-some (sym z)
 line-found (m ∷ ns) n x (there i) c e = go (leb (reach m .from) x && ltb x (reach m .to)) refl (line-found ns n x i c)
   where
     go : (b : Bool) → (leb (reach m .from) x && ltb x (reach m .to)) ≡ b → (line-at ns x ≢ none) → ⊥
-    go true z h = let bad : _≡_ {A = ℕ} 0 1 = (let y = rw z at e in cc) in omega arith
+    go true z h = let y = rw z at e in none-some (sym y)
     go false z h = h (rw z at e)
 
 found-some : (X : Setup) (q : FunctionRow) (rs : List FunctionRow) (x : ℕ) → line-at (q .lines) x ≢ none → nested-at X x (q ∷ rs) ≢ []
@@ -120,25 +121,25 @@ found-some X q rs x h = go (line-at (q .lines) x) refl
 -- ── The file of a write that answers 0 ──
 
 -- F where the output holds it, and else 18
-taken : (F out : List ℕ) (o : Wrote) → o ≡ cond (leb (length F) (length out)) (wrote 0 (length F) (F ++ drop (length F) out)) (wrote 18 0 out) → o .code ≡ 0 → file-of o ≡ F
+taken : (F out : List ℕ) (o : Wrote) → o ≡ cond (leb (length F) (length out)) (wrote 0 (length F) (F ++ drop (length F) out)) (wrote 18 0 out) → o .code ≡ 0 → file-written o ≡ F
 taken F out o e z = go (leb (length F) (length out)) e
   where
-    go : (b : Bool) → o ≡ cond b (wrote 0 (length F) (F ++ drop (length F) out)) (wrote 18 0 out) → file-of o ≡ F
-    go true h = ap file-of h ∙ take-at F (drop (length F) out) (length F) refl
+    go : (b : Bool) → o ≡ cond b (wrote 0 (length F) (F ++ drop (length F) out)) (wrote 18 0 out) → file-written o ≡ F
+    go true h = ap file-written h ∙ take-at F (drop (length F) out) (length F) refl
     go false h = let bad : _≡_ {A = ℕ} 18 0 = sym (ap (λ (w : Wrote). w .code) h) ∙ z in absurd (omega arith)
 
 -- a closed list writes nothing: 19
-closed-writes : (n : Lens) (r : Standing) (out : List ℕ) → Closed n r → serializeOf (r .converter) (r .memory) out .code ≡ 19
+closed-writes : (n : Lens) (r : Standing Converter) (out : List ℕ) → Closed n r → serializeOf (r .carrier) (r .memory) out .code ≡ 19
 unfolding serializeOf
 closed-writes n r out h = rw (h .closed)
 
 -- what an open list's file shows: f is its bytes
-open-shows : (n : Lens) (b : Converter) (r : Standing) (id : List ℕ) (arch : ℕ) (X : Setup) (file : List ℕ) → Open n b r → setup b ≡ X → length id ≡ 32 → arch ≤ MAX
-    → ((g : Given) → g ∈ r .counted → Shaped g) → file ≡ file-bytes id arch (sections (written (converted X (r .counted)))) → Reopened X (r .counted) file
+open-shows : (n : Lens) (b : Converter) (r : Standing Converter) (id : List ℕ) (arch : ℕ) (X : Setup) (file : List ℕ) → Open n b r → setup b ≡ X → length id ≡ 32 → arch ≤ MAX
+    → ((g : Given) → g ∈ r .counted → Shaped g) → file ≡ file-bytes id arch (sections (as-written (converted X (r .counted)))) → Reopened X (r .counted) file
 open-shows n b r id arch X file h same size small shaped e =
     record {
-      tables = layoutOf (header-of id arch (sections (written (converted X gs))));
-      opens = subst (λ (f : List ℕ). opened f ≡ gives (layoutOf (header-of id arch (sections (written (converted X gs)))))) at (file-opened X gs (h .fitting) K (capacities-lent n) room id arch size low [] [] 0);
+      tables = layoutOf (sections-header id arch (sections (as-written (converted X gs))));
+      opens = subst (λ (f : List ℕ). opened f ≡ gives (layoutOf (sections-header id arch (sections (as-written (converted X gs)))))) at (file-opened X gs (h .fitting) K (capacities-lent n) room id arch size low [] [] 0);
       every-address = λ d x. subst (λ (f : List ℕ). Found f d x (map (with-stand-in d) (frames-at (converted X gs) x))) at (file-shows X gs (h .fitting) K (capacities-lent n) room id arch size low [] d x);
       demanded = λ p q rs i l j x c.
           let well : (g : Given) → g ∈ gs → WellNested g = λ g k. whole g (p .nested g k) (shaped g k) in
@@ -161,10 +162,10 @@ open-shows n b r id arch X file h same size small shaped e =
     low : arch < 2 ^ 32
     low = omega arith
 
-    room : fits? K (converted X gs) ≡ true
-    room = subst (λ (Y : Setup). fits? K (converted Y gs) ≡ true) same (open-fits n b r h)
+    room : plain-fits? K (converted X gs) ≡ true
+    room = subst (λ (Y : Setup). plain-fits? K (converted Y gs) ≡ true) same (open-fits n b r h)
 
-    at : file-bytes id arch (sections (written (converted X gs))) ++ [] ≡ file
+    at : file-bytes id arch (sections (as-written (converted X gs))) ++ [] ≡ file
     at = append-nil _ ∙ sym e
 
 -- ── ONE CLAIM ABOUT THE WHOLE LIST ──
@@ -177,8 +178,8 @@ unfolding beginOf
 demand3 id arch f s m calls size small typed before after out e z =
     ⊎-elim while-open while-closed (every-list id arch f s m before (λ k i. typed k (subst (λ (l : List Call). k ∈ l) (sym e) (among before after k (write out) i))))
   where
-    r : Standing
-    r = run before (begun id arch f s m)
+    r : Standing Converter
+    r = run by-value before (beginning id arch f s m)
 
     b : Converter
     b = beginOf id arch f s m .0
@@ -187,15 +188,15 @@ demand3 id arch f s m calls size small typed before after out e z =
     X = record { functions-on = f; symbols-on = s }
 
     o : Wrote
-    o = serializeOf (r .converter) (r .memory) out
+    o = serializeOf (r .carrier) (r .memory) out
 
-    while-open : Open (lengths-of m) b r → Reopened X (r .counted) (file-of o)
+    while-open : Open (lengths-of m) b r → Reopened X (r .counted) (file-written o)
     while-open h =
-        let i : r .converter .«debug_id» ≡ id = ap (λ (c : Converter). c .«debug_id») (h .began) in
-        let a : r .converter .arch ≡ arch = ap (λ (c : Converter). c .arch) (h .began) in
-        let w : file-of o ≡ file-bytes (r .converter .«debug_id») (r .converter .arch) (sections (written (converted X (r .counted)))) =
-        taken _ out o (write-answers X (r .counted) (lengths-of m) (r .converter) (r .memory) (h .opened) (h .enc) out) z in
-        open-shows (lengths-of m) b r id arch X (file-of o) h refl size small (run-shaped before (begun id arch f s m) (λ g k. elim k [ ])) (rw (i, a) at w)
+        let i : r .carrier .«debug_id» ≡ id = ap (λ (c : Converter). c .«debug_id») (h .began) in
+        let a : r .carrier .arch ≡ arch = ap (λ (c : Converter). c .arch) (h .began) in
+        let w : file-written o ≡ file-bytes (r .carrier .«debug_id») (r .carrier .arch) (sections (as-written (converted X (r .counted)))) =
+        taken _ out o (write-answers X (r .counted) (lengths-of m) (r .carrier) (r .memory) (h .opened) (h .enc) out) z in
+        open-shows (lengths-of m) b r id arch X (file-written o) h refl size small (run-shaped before (beginning id arch f s m) (λ g k. elim k [ ])) (rw (i, a) at w)
 
-    while-closed : Closed (lengths-of m) r → Reopened X (r .counted) (file-of o)
+    while-closed : Closed (lengths-of m) r → Reopened X (r .counted) (file-written o)
     while-closed h = let bad : _≡_ {A = ℕ} 19 0 = sym (closed-writes (lengths-of m) r out h) ∙ z in absurd (omega arith)

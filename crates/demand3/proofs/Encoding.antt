@@ -14,7 +14,7 @@ use Rattle.model.specs.Basics.{Entry}
 use Rattle.model.specs.Rows.{Text, FunctionRow, SymbolRow}
 use Rattle.model.specs.Converter.{File, Function, Location, Tables}
 use Rattle.model.specs.Counts.{Capacities, Lent, text-bytes}
-use Rattle.model.specs.Words.{index-word, text-word}
+use Rattle.model.specs.FileWords.{index-word, text-word}
 use Rattle.model.proofs.Intern.{At, Grows}
 use Rattle.model.proofs.Chains.{false-true, both-true, both-of}
 use Rattle.model.proofs.Always.{Within, InTables}

@@ -16,8 +16,8 @@ use Rattle.model.specs.Basics.{_∈_, here, there}
 use Rattle.model.specs.Rows.{Text, Given, symbol-row}
 use Rattle.model.specs.Machine.{convertM, startM, convert-symbolM, convert-opM, runM}
 use Rattle.model.specs.Converter.{Setup, Tables, input, deep, op, converted}
-use Rattle.model.specs.Counts.{fits? as plain-fits?}
-use Rattle.model.proofs.Chains.{both-true, both-of}
+use Rattle.model.specs.Counts.{plain-fits?}
+use Rattle.model.proofs.Chains.{none-some, both-true, both-of}
 use Rattle.model.proofs.Spans.{∈-elim, ∈-append}
 use Rattle.model.proofs.Compact.{GivenFits, SymbolFits}
 use Rattle.model.proofs.Grown.{room}
@@ -38,7 +38,7 @@ use Rattle.steps.specs.Symbols.{symbolRow}
 use Rattle.line_list.specs.Lines.{lineColumns}
 use Rattle.line_rows.specs.Calls.{linesOf}
 use Rattle.line_rows.proofs.AsTree.{scratch-had, kept, lines-tree as lines-tree-is}
-use Rattle.demand3.specs.Lists.{Call, tree, lines-tree, symbol, write, Standing, givenTree, after, next, run, begun, due, Typed}
+use Rattle.demand3.specs.Lists.{Call, tree, lines-tree, symbol, write, with-accepted, givenTree, Standing, next, run, by-value, beginning, due, Typed}
 use Rattle.demand3.proofs.Encoding.{capacities, Enc, has-room, enc-room, enc-fits}
 use Rattle.demand3.proofs.OneCall.{Left, call-left, tree-is, symbol-is, converted-more, lengths-of, zero-memory, zero-lengths, begun-holds}
 
@@ -48,56 +48,60 @@ use Rattle.demand3.proofs.OneCall.{Left, call-left, tree-is, symbol-is,
 abbrev pub identity : Converter → Converter
 identity c = with-state c true unused
 
-pub record Open (n : Lens) (b : Converter) (r : Standing) : Type 0 where
-  pub began : identity (r .converter) ≡ b
-  pub opened : r .converter .«open» ≡ true
-  pub enc : Enc n (converted (setup b) (r .counted)) (words-of (r .converter) (r .memory))
+pub record Open (n : Lens) (b : Converter) (r : Standing Converter) : Type 0 where
+  pub began : identity (r .carrier) ≡ b
+  pub opened : r .carrier .«open» ≡ true
+  pub enc : Enc n (converted (setup b) (r .counted)) (words-of (r .carrier) (r .memory))
   pub fitting : (g : Given) → g ∈ r .counted → GivenFits g  -- what 14 leaves
 
-pub record Closed (n : Lens) (r : Standing) : Type 0 where
-  pub closed : r .converter .«open» ≡ false
+pub record Closed (n : Lens) (r : Standing Converter) : Type 0 where
+  pub closed : r .carrier .«open» ≡ false
   pub zero : r .memory ≡ zero-memory n
 
-abbrev pub Stands : Lens → Converter → Standing → Type 0
+abbrev pub Stands : Lens → Converter → Standing Converter → Type 0
 Stands n b r = Open n b r ⊎ Closed n r
 
 -- the tables of an open list fit the lent ones
-pub open-fits : (n : Lens) (b : Converter) (r : Standing) → Open n b r → plain-fits? (capacities n) (converted (setup b) (r .counted)) ≡ true
+pub open-fits : (n : Lens) (b : Converter) (r : Standing Converter) → Open n b r → plain-fits? (capacities n) (converted (setup b) (r .counted)) ≡ true
 open-fits n b r h = room (capacities n) _ (enc-fits n _ _ (h .enc))
 
 -- "A table's capacity is its lent length": the lengths stay as they were lent
-pub lengths-stay : (n : Lens) (b : Converter) (r : Standing) → Stands n b r → lengths-of (r .memory) ≡ n
+pub lengths-stay : (n : Lens) (b : Converter) (r : Standing Converter) → Stands n b r → lengths-of (r .memory) ≡ n
 lengths-stay n b r (inl h) = h .enc .lent
 lengths-stay n b r (inr h) = ap lengths-of (h .zero) ∙ zero-lengths n
 
 -- ── 19 ──
 
-open-usable : (n : Lens) (b : Converter) (r : Standing) → Open n b r → usable? (r .converter) (r .memory) ≡ true
+open-usable : (n : Lens) (b : Converter) (r : Standing Converter) → Open n b r → usable? (r .carrier) (r .memory) ≡ true
 unfolding usable?
 open-usable n b r h = both-of _ _ (h .opened) (has-room _ (enc-room n _ _ (h .enc)))
 
-closed-unusable : (n : Lens) (r : Standing) → Closed n r → usable? (r .converter) (r .memory) ≡ false
+closed-unusable : (n : Lens) (r : Standing Converter) → Closed n r → usable? (r .carrier) (r .memory) ≡ false
 unfolding usable?
 closed-unusable n r h = rw (h .closed)
 
 -- closed: 19, and nothing changes
-pub closed-tree : (n : Lens) (r : Standing) (k : Columns) (s : List ℕ) → Closed n r → treeOf (r .converter) (r .memory) s k ≡ called 19 (r .converter) (r .memory) s
+pub closed-tree : (n : Lens) (r : Standing Converter) (k : Columns) (s : List ℕ) → Closed n r → treeOf (r .carrier) (r .memory) s k ≡ called 19 (r .carrier) (r .memory) s
 unfolding treeOf
 closed-tree n r k s h = rw (closed-unusable n r h)
 
-pub closed-symbol : (n : Lens) (r : Standing) (t : List ℕ) (address size : ℕ) (name : OptionalPart) → Closed n r → symbolOf (r .converter) (r .memory) t address size name ≡ called 19 (r .converter) (r .memory) []
+pub closed-symbol : (n : Lens) (r : Standing Converter) (t : List ℕ) (address size : ℕ) (name : OptionalPart) → Closed n r → symbolOf (r .carrier) (r .memory) t address size name ≡ called 19 (r .carrier) (r .memory) []
 unfolding symbolOf
 closed-symbol n r t address size name h = rw (closed-unusable n r h)
 
 -- ── An accepted call ──
 
+-- where a call given g leaves a list that stood at r
+abbrev after : Called → Given → Standing Converter → Standing Converter
+after o g r = record { carrier = o .converter; memory = o .memory; counted = with-accepted (o .code) g (r .counted) }
+
 -- what an accepted call g leaves and answers, s being its scratch
-pub record Done (n : Lens) (b : Converter) (r : Standing) (g : Given) (s : List ℕ) (o : Called) : Type 0 where
+pub record Done (n : Lens) (b : Converter) (r : Standing Converter) (g : Given) (s : List ℕ) (o : Called) : Type 0 where
   pub code : o .code ≡ due (capacities n) (setup b) (r .counted) g
   pub stands : Stands n b (after o g r)
   pub scratch : o .scratch ≡ zeros s
 
-module _ (n : Lens) (b : Converter) (r : Standing) (g : Given) (s : List ℕ) (h : Open n b r) (fit : GivenFits g) where
+module _ (n : Lens) (b : Converter) (r : Standing Converter) (g : Given) (s : List ℕ) (h : Open n b r) (fit : GivenFits g) where
   abbrev X : Setup
   X = setup b
 
@@ -105,7 +109,7 @@ module _ (n : Lens) (b : Converter) (r : Standing) (g : Given) (s : List ℕ) (h
   before = converted X (r .counted)
 
   abbrev w : Words
-  w = words-of (r .converter) (r .memory)
+  w = words-of (r .carrier) (r .memory)
 
   abbrev u : Words
   u = convert-opM input (over-words X) (op g) w
@@ -119,11 +123,11 @@ module _ (n : Lens) (b : Converter) (r : Standing) (g : Given) (s : List ℕ) (h
       go : (gs : List Given) → ((f : Given) → f ∈ gs → GivenFits f) → (f : Given) → f ∈ (gs ++ (g ∷ [])) → GivenFits f
       go gs k f i = ⊎-elim (λ j. k f j) (λ j. ∈-elim GivenFits fit (λ y z. elim z [ ]) f j) (∈-append gs i)
 
-  pub done : Done n b r g s (finished (r .converter) s u)
+  pub done : Done n b r g s (finished (r .carrier) s u)
   unfolding finished
   done = go (plain-fits? (capacities n) (converted X (r .counted ++ (g ∷ [])))) refl
     where
-      go : (f : Bool) → plain-fits? (capacities n) (converted X (r .counted ++ (g ∷ []))) ≡ f → Done n b r g s (finished (r .converter) s u)
+      go : (f : Bool) → plain-fits? (capacities n) (converted X (r .counted ++ (g ∷ []))) ≡ f → Done n b r g s (finished (r .carrier) s u)
       go true e =
           rw (left .same ∙ e)
           (record {
@@ -155,49 +159,49 @@ tree-usable : (c : Converter) (m : Memory) (s : List ℕ) (k : Columns) → usab
 unfolding treeOf
 tree-usable c m s k e = rw e
 
-module _ (n : Lens) (b : Converter) (r : Standing) (k : Columns) (s : List ℕ) (h : Open n b r) where
+module _ (n : Lens) (b : Converter) (r : Standing Converter) (k : Columns) (s : List ℕ) (h : Open n b r) where
   abbrev refusal : ℕ
   refusal = refusalOf k (length s)
 
   -- "Every other refusal changes no lent byte and no state"
-  pub tree-refused : refusal ≢ 0 → treeOf (r .converter) (r .memory) s k ≡ called refusal (r .converter) (r .memory) s
-  tree-refused z = tree-usable (r .converter) (r .memory) s k (open-usable n b r h) ∙ rw (ne-eqb refusal 0 z)
+  pub tree-refused : refusal ≢ 0 → treeOf (r .carrier) (r .memory) s k ≡ called refusal (r .carrier) (r .memory) s
+  tree-refused z = tree-usable (r .carrier) (r .memory) s k (open-usable n b r h) ∙ rw (ne-eqb refusal 0 z)
 
   -- the words that a tree leaves, as the model has them
-  rows-are : refusal ≡ 0 → rows-converted (r .converter) (r .memory) k ≡ convert-opM input (over-words (setup b)) (op (givenTree k)) (words-of (r .converter) (r .memory))
+  rows-are : refusal ≡ 0 → rows-converted (r .carrier) (r .memory) k ≡ convert-opM input (over-words (setup b)) (op (givenTree k)) (words-of (r .carrier) (r .memory))
   rows-are z =
       let a : Accepted k (length s) = accepted k (length s) z in
-      let w = words-of (r .converter) (r .memory) in
-      let e : setup (r .converter) ≡ setup b = ap setup (h .began) in
+      let w = words-of (r .carrier) (r .memory) in
+      let e : setup (r .carrier) ≡ setup b = ap setup (h .began) in
       ap (λ (X : Setup). convertM input (over-words X) (map deep (treeRows k)) (startM input (over-words X)) w) e
       ∙ ap (λ l. convertM input (over-words (setup b)) (map deep l) (startM input (over-words (setup b))) w) (a .rows-are)
       ∙ tree-is (setup b) (rootRow k) (laterRows k) w (a .first)
 
-  pub tree-accepted : Typed (tree k s) → refusal ≡ 0 → Done n b r (givenTree k) s (treeOf (r .converter) (r .memory) s k)
+  pub tree-accepted : Typed (tree k s) → refusal ≡ 0 → Done n b r (givenTree k) s (treeOf (r .carrier) (r .memory) s k)
   tree-accepted t z =
       let a : Accepted k (length s) = accepted k (length s) z in
-      let e : treeOf (r .converter) (r .memory) s k ≡ finished (r .converter) s (convert-opM input (over-words (setup b)) (op (givenTree k)) (words-of (r .converter) (r .memory))) =
-      tree-usable (r .converter) (r .memory) s k (open-usable n b r h) ∙ rw (eq-eqb refusal 0 z) (ap (finished (r .converter) s) (rows-are z)) in
+      let e : treeOf (r .carrier) (r .memory) s k ≡ finished (r .carrier) s (convert-opM input (over-words (setup b)) (op (givenTree k)) (words-of (r .carrier) (r .memory))) =
+      tree-usable (r .carrier) (r .memory) s k (open-usable n b r h) ∙ rw (eq-eqb refusal 0 z) (ap (finished (r .carrier) s) (rows-are z)) in
       subst (Done n b r (givenTree k) s) (sym e) (done n b r (givenTree k) s h (given-fits k (a .texts) (a .shape) t))
 
   -- the number of a tree: 13, 14, 15, 16 as they are due; else 17 if the plain tables after it would not fit; else 0
-  pub tree-number : Typed (tree k s) → treeOf (r .converter) (r .memory) s k .code ≡ cond (eqb refusal 0) (due (capacities n) (setup b) (r .counted) (givenTree k)) refusal
+  pub tree-number : Typed (tree k s) → treeOf (r .carrier) (r .memory) s k .code ≡ cond (eqb refusal 0) (due (capacities n) (setup b) (r .counted) (givenTree k)) refusal
   tree-number t = go (eqb refusal 0) refl
     where
-      go : (f : Bool) → eqb refusal 0 ≡ f → treeOf (r .converter) (r .memory) s k .code ≡ cond f (due (capacities n) (setup b) (r .counted) (givenTree k)) refusal
+      go : (f : Bool) → eqb refusal 0 ≡ f → treeOf (r .carrier) (r .memory) s k .code ≡ cond f (due (capacities n) (setup b) (r .counted) (givenTree k)) refusal
       go true e = tree-accepted t (eqb-true refusal 0 e) .code
       go false e = ap (λ (o : Called). o .code) (tree-refused (eqb-false refusal 0 e))
 
-  tree-stands : Typed (tree k s) → Stands n b (next (tree k s) r)
+  tree-stands : Typed (tree k s) → Stands n b (next by-value (tree k s) r)
   unfolding next
   tree-stands t = go (eqb refusal 0) refl
     where
-      go : (f : Bool) → eqb refusal 0 ≡ f → Stands n b (after (treeOf (r .converter) (r .memory) s k) (givenTree k) r)
+      go : (f : Bool) → eqb refusal 0 ≡ f → Stands n b (after (treeOf (r .carrier) (r .memory) s k) (givenTree k) r)
       go true e = tree-accepted t (eqb-true refusal 0 e) .stands
       go false e = rw (tree-refused (eqb-false refusal 0 e), e) (inl h)
 
   -- 17 EXACTLY WHERE IT IS DUE: nothing else is to be refused, and the plain tables after the call need more than a capacity
-  pub tree-17 : Typed (tree k s) → treeOf (r .converter) (r .memory) s k .code ≡ 17 → (refusal ≡ 0) × (plain-fits? (capacities n) (converted (setup b) (r .counted ++ (givenTree k ∷ []))) ≡ false)
+  pub tree-17 : Typed (tree k s) → treeOf (r .carrier) (r .memory) s k .code ≡ 17 → (refusal ≡ 0) × (plain-fits? (capacities n) (converted (setup b) (r .counted ++ (givenTree k ∷ []))) ≡ false)
   tree-17 t e = go (eqb refusal 0) refl (sym (tree-number t) ∙ e)
     where
       go : (f : Bool) → eqb refusal 0 ≡ f → cond f (due (capacities n) (setup b) (r .counted) (givenTree k)) refusal ≡ 17
@@ -208,22 +212,22 @@ module _ (n : Lens) (b : Converter) (r : Standing) (k : Columns) (s : List ℕ) 
 -- ── A tree whose line rows are a list ──
 
 -- Of the standing it is a tree call over the columns that the rows stand for: with its own scratch where there is room to unpack them, else with none
-module _ (f64 f32 : List ℕ) (ls : List LineRow) (x s u v : List ℕ) (r : Standing) where
+module _ (f64 f32 : List ℕ) (ls : List LineRow) (x s u v : List ℕ) (r : Standing Converter) where
   abbrev cols : Columns
   cols = lineColumns f64 f32 ls x
 
   abbrev pub scratch-of : List ℕ
-  scratch-of = scratch-had (r .converter) (r .memory) s u v cols
+  scratch-of = scratch-had (r .carrier) (r .memory) s u v cols
 
   abbrev lines-outcome : Called
-  lines-outcome = linesOf (r .converter) (r .memory) s u v cols .called
+  lines-outcome = linesOf (r .carrier) (r .memory) s u v cols .called
 
-  same-kept : kept (r .converter) (r .memory) s u v cols lines-outcome ≡ kept (r .converter) (r .memory) s u v cols (treeOf (r .converter) (r .memory) scratch-of cols)
-  same-kept = lines-tree-is (r .converter) (r .memory) s u v cols
+  same-kept : kept (r .carrier) (r .memory) s u v cols lines-outcome ≡ kept (r .carrier) (r .memory) s u v cols (treeOf (r .carrier) (r .memory) scratch-of cols)
+  same-kept = lines-tree-is (r .carrier) (r .memory) s u v cols
 
-  pub lines-next : next (lines-tree f64 f32 ls x s u v) r ≡ next (tree cols scratch-of) r
+  pub lines-next : next by-value (lines-tree f64 f32 ls x s u v) r ≡ next by-value (tree cols scratch-of) r
   unfolding next
-  lines-next = λ i. record { converter = same-kept i .1 .0; memory = same-kept i .1 .1; counted = cond (eqb (same-kept i .0) 0) (r .counted ++ (givenTree cols ∷ [])) (r .counted) }
+  lines-next = λ i. record { carrier = same-kept i .1 .0; memory = same-kept i .1 .1; counted = with-accepted (same-kept i .0) (givenTree cols) (r .counted) }
 
   -- its number, and 17 exactly where it is due
   pub lines-number : (n : Lens) (b : Converter) → Open n b r → Typed (lines-tree f64 f32 ls x s u v)
@@ -248,25 +252,25 @@ symbol-fits t address size name e x z = go (name .present) e z
   where
     go : (f : Bool) → cond f (readable? t (name .part)) true ≡ true → cond f (some (textOf t (name .part))) none ≡ some x → utf8 x ≡ true
     go true a c = let y : textOf t (name .part) ≡ x = cc in subst (λ (v : Text). utf8 v ≡ true) y (both-true (inside? t (name .part)) (utf8 (textOf t (name .part))) a .1)
-    go false a c = let bad : _≡_ {A = ℕ} 0 1 = cc in absurd (omega arith)
+    go false a c = none-some c
 
-module _ (n : Lens) (b : Converter) (r : Standing) (t : List ℕ) (address size : ℕ) (name : OptionalPart) (h : Open n b r) where
+module _ (n : Lens) (b : Converter) (r : Standing Converter) (t : List ℕ) (address size : ℕ) (name : OptionalPart) (h : Open n b r) where
   abbrev g : Given
   g = symbol-row (symbolRow t address size name)
 
   abbrev outcome : Called
-  outcome = symbolOf (r .converter) (r .memory) t address size name
+  outcome = symbolOf (r .carrier) (r .memory) t address size name
 
-  pub symbol-refused : optional? t name ≡ false → outcome ≡ called 14 (r .converter) (r .memory) []
-  symbol-refused z = symbol-usable (r .converter) (r .memory) t address size name (open-usable n b r h) ∙ rw z
+  pub symbol-refused : optional? t name ≡ false → outcome ≡ called 14 (r .carrier) (r .memory) []
+  symbol-refused z = symbol-usable (r .carrier) (r .memory) t address size name (open-usable n b r h) ∙ rw z
 
   pub symbol-accepted : optional? t name ≡ true → Done n b r g [] outcome
   symbol-accepted z =
-      let w = words-of (r .converter) (r .memory) in
-      let e : setup (r .converter) ≡ setup b = ap setup (h .began) in
-      let i : outcome ≡ finished (r .converter) [] (convert-opM input (over-words (setup b)) (op g) w) =
-      symbol-usable (r .converter) (r .memory) t address size name (open-usable n b r h)
-      ∙ rw z (ap (λ (X : Setup). finished (r .converter) [] (convert-symbolM input (over-words X) (symbolRow t address size name) w)) e ∙ ap (finished (r .converter) []) (symbol-is (setup b) (symbolRow t address size name) w)) in
+      let w = words-of (r .carrier) (r .memory) in
+      let e : setup (r .carrier) ≡ setup b = ap setup (h .began) in
+      let i : outcome ≡ finished (r .carrier) [] (convert-opM input (over-words (setup b)) (op g) w) =
+      symbol-usable (r .carrier) (r .memory) t address size name (open-usable n b r h)
+      ∙ rw z (ap (λ (X : Setup). finished (r .carrier) [] (convert-symbolM input (over-words X) (symbolRow t address size name) w)) e ∙ ap (finished (r .carrier) []) (symbol-is (setup b) (symbolRow t address size name) w)) in
       subst (Done n b r g []) (sym i) (done n b r g [] h (symbol-fits t address size name z))
 
   -- the number of a symbol: 14 as it is due; else 17 if the plain tables after it would not fit; else 0
@@ -284,7 +288,7 @@ module _ (n : Lens) (b : Converter) (r : Standing) (t : List ℕ) (address size 
       go true a z = (a, due-17 (plain-fits? (capacities n) (converted (setup b) (r .counted ++ (g ∷ [])))) z)
       go false a z = absurd (omega arith)
 
-  symbol-stands : Stands n b (next (symbol t address size name) r)
+  symbol-stands : Stands n b (next by-value (symbol t address size name) r)
   unfolding next
   symbol-stands = go (optional? t name) refl
     where
@@ -295,7 +299,7 @@ module _ (n : Lens) (b : Converter) (r : Standing) (t : List ℕ) (address size 
 -- ── Every list ──
 
 -- closed, a list stays as it is
-closed-next : (n : Lens) (r : Standing) (k : Call) → Closed n r → Closed n (next k r)
+closed-next : (n : Lens) (r : Standing Converter) (k : Call) → Closed n r → Closed n (next by-value k r)
 unfolding next
 closed-next n r (tree k s) h = rw (closed-tree n r k s h) h
 closed-next n r (lines-tree f64 f32 ls x s u v) h =
@@ -303,7 +307,7 @@ closed-next n r (lines-tree f64 f32 ls x s u v) h =
 closed-next n r (symbol t address size name) h = rw (closed-symbol n r t address size name h) h
 closed-next n r (write output) h = h
 
-pub one-more : (n : Lens) (b : Converter) (r : Standing) (k : Call) → Typed k → Stands n b r → Stands n b (next k r)
+pub one-more : (n : Lens) (b : Converter) (r : Standing Converter) (k : Call) → Typed k → Stands n b r → Stands n b (next by-value k r)
 unfolding next
 one-more n b r k t (inr h) = inr (closed-next n r k h)
 one-more n b r (tree k s) t (inl h) = tree-stands n b r k s h t
@@ -312,16 +316,16 @@ one-more n b r (lines-tree f64 f32 ls x s u v) t (inl h) =
 one-more n b r (symbol x address size name) t (inl h) = symbol-stands n b r x address size name h
 one-more n b r (write output) t (inl h) = inl h
 
-pub every-more : (n : Lens) (b : Converter) (ks : List Call) (r : Standing) → ((k : Call) → k ∈ ks → Typed k) → Stands n b r → Stands n b (run ks r)
+pub every-more : (n : Lens) (b : Converter) (ks : List Call) (r : Standing Converter) → ((k : Call) → k ∈ ks → Typed k) → Stands n b r → Stands n b (run by-value ks r)
 unfolding run
 every-more n b [] r t h = h
-every-more n b (k ∷ ks) r t h = every-more n b ks (next k r) (λ j i. t j (there i)) (one-more n b r k (t k here) h)
+every-more n b (k ∷ ks) r t h = every-more n b ks (next by-value k r) (λ j i. t j (there i)) (one-more n b r k (t k here) h)
 
 -- a beginning stands open, with nothing counted
-pub begun-open : (id : List ℕ) (arch : ℕ) (f s : Bool) (m : Memory) → Open (lengths-of m) (beginOf id arch f s m .0) (begun id arch f s m)
+pub begun-open : (id : List ℕ) (arch : ℕ) (f s : Bool) (m : Memory) → Open (lengths-of m) (beginOf id arch f s m .0) (beginning id arch f s m)
 unfolding beginOf runM
 begun-open id arch f s m = record { began = refl; opened = refl; enc = begun-holds (lengths-of m); fitting = λ g i. elim i [ ] }
 
 -- EVERY LIST
-pub every-list : (id : List ℕ) (arch : ℕ) (f s : Bool) (m : Memory) (ks : List Call) → ((k : Call) → k ∈ ks → Typed k) → Stands (lengths-of m) (beginOf id arch f s m .0) (run ks (begun id arch f s m))
-every-list id arch f s m ks t = every-more (lengths-of m) (beginOf id arch f s m .0) ks (begun id arch f s m) t (inl (begun-open id arch f s m))
+pub every-list : (id : List ℕ) (arch : ℕ) (f s : Bool) (m : Memory) (ks : List Call) → ((k : Call) → k ∈ ks → Typed k) → Stands (lengths-of m) (beginOf id arch f s m .0) (run by-value ks (beginning id arch f s m))
+every-list id arch f s m ks t = every-more (lengths-of m) (beginOf id arch f s m .0) ks (beginning id arch f s m) t (inl (begun-open id arch f s m))

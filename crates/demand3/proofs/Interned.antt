@@ -12,9 +12,9 @@ use lib.ListN.{length, take, length-map}
 use borrow.Author.Tests.{eqb-true, eqb-false, eq-eqb, ne-eqb, ltb-true, ltb-false}
 use Rattle.model.specs.Basics.{Entry, Interned, intern}
 use Rattle.model.specs.Rows.{MAX, Text}
-use Rattle.model.specs.Converter.{Location, text-eq, store, range-at, put-range}
+use Rattle.model.specs.Converter.{Location, text-eq, intern-text, range-at, range-put}
 use Rattle.model.specs.Counts.{text-size, text-bytes, text-offset}
-use Rattle.model.specs.Words.{text-word}
+use Rattle.model.specs.FileWords.{text-word}
 use Rattle.model.proofs.Intern.{At, Grows, intern-at, at-length}
 use Rattle.model.proofs.Chains.{false-true, text-eq-ok, store-grows, store-reads}
 use Rattle.model.proofs.Always.{Within, reads-within}
@@ -119,18 +119,18 @@ eqb-turned m n = go (eqb n m) refl
 abbrev entry : ℕ → Location → Entry Location
 entry k l = record { key = k; value = l }
 
-put-is : (rs : List (Entry Location)) (k : ℕ) (l : Location) → putRows (map range-row rs) (range-row (entry k l)) ≡ map range-row (put-range k l rs)
-unfolding putRows put-range
+put-is : (rs : List (Entry Location)) (k : ℕ) (l : Location) → putRows (map range-row rs) (range-row (entry k l)) ≡ map range-row (range-put k l rs)
+unfolding putRows range-put
 put-is [] k l = refl
 put-is (e ∷ es) k l = rw (eqb-turned (e .key) k) (go (eqb k (e .key)) (put-is es k l))
   where
-    go : (b : Bool) → putRows (map range-row es) (range-row (entry k l)) ≡ map range-row (put-range k l es)
-        → cond b (range-row (entry k l) ∷ map range-row es) (range-row e ∷ putRows (map range-row es) (range-row (entry k l))) ≡ map range-row (cond b (entry k l ∷ es) (e ∷ put-range k l es))
+    go : (b : Bool) → putRows (map range-row es) (range-row (entry k l)) ≡ map range-row (range-put k l es)
+        → cond b (range-row (entry k l) ∷ map range-row es) (range-row e ∷ putRows (map range-row es) (range-row (entry k l))) ≡ map range-row (cond b (entry k l ∷ es) (e ∷ range-put k l es))
     go true h = refl
     go false h = ap (λ (x : List Row). range-row e ∷ x) h
 
 pub placed : (t : List ℕ) (n : ℕ) (rs : List (Entry Location)) (k : ℕ) (l : Location) → Holds 1 t n (map range-row rs) → let x = putOf t n (range-row (entry k l)) in
-    Holds 1 (x .table) (x .got .count) (map range-row (put-range k l rs)) ⊎ ((capacityOf (length t) < x .got .count) × (capacityOf (length t) < length (put-range k l rs)))
+    Holds 1 (x .table) (x .got .count) (map range-row (range-put k l rs)) ⊎ ((capacityOf (length t) < x .got .count) × (capacityOf (length t) < length (range-put k l rs)))
 placed t n rs k l h =
     let x = putOf t n (range-row (entry k l)) in
     ⊎-elim (λ z. inl (subst (Holds 1 (x .table) (x .got .count)) (put-is rs k l) z)) (λ (p, q). inr (omega (arith, p), rw (put-is rs k l, length-map) at q))
@@ -186,8 +186,8 @@ pub bytes-same : (ts : List Text) → textBytes ts ≡ text-bytes ts
 bytes-same [] = refl
 bytes-same (t ∷ ts) = let a = size-same t in let b = bytes-same ts in omega arith
 
-with-is : (ts : List Text) (t : Text) → withText ts t ≡ store ts t .table
-unfolding withText store
+with-is : (ts : List Text) (t : Text) → withText ts t ≡ intern-text ts t .table
+unfolding withText intern-text
 with-is ts [] = refl
 with-is ts (b ∷ t) = text-intern ts (b ∷ t) .1
 
@@ -200,21 +200,21 @@ intern-first {A} eq (x ∷ xs) a = go (eq x a) refl (intern-first eq xs a)
     go true e h = rw (e, intern) (omega arith)
     go false e h = rw (e, intern) (omega arith)
 
-offset-is : (ts : List Text) (t : Text) → offsetIn ts t ≡ text-word (store ts t .table) (store ts t .ref)
-unfolding offsetIn store
+offset-is : (ts : List Text) (t : Text) → offsetIn ts t ≡ text-word (intern-text ts t .table) (intern-text ts t .ref)
+unfolding offsetIn intern-text
 offset-is ts [] = refl
 offset-is ts (b ∷ t) =
     ap (λ (i : ℕ). textOffset ts i) (text-intern ts (b ∷ t) .0) ∙ bytes-same (take (intern text-eq ts (b ∷ t) .index) ts)
-    ∙ sym (grows-offset ts (store ts (b ∷ t) .table) (store-grows ts (b ∷ t)) (intern text-eq ts (b ∷ t) .index) (intern-first text-eq ts (b ∷ t)))
+    ∙ sym (grows-offset ts (intern-text ts (b ∷ t) .table) (store-grows ts (b ∷ t)) (intern text-eq ts (b ∷ t) .index) (intern-first text-eq ts (b ∷ t)))
 
 -- more texts or bytes than there is room for
 abbrev pub TextsOver : List ℕ → List ℕ → ℕ → ℕ → Type 0
 TextsOver text strings bytes count = (textCapacityOf (length text) < bytes) ⊎ (capacityOf (length strings) < count)
 
 pub record StoredIs (text strings : List ℕ) (ts : List Text) (t : Text) (x : StringsLeft) : Type 0 where
-  pub offset : x .got .offset ≡ text-word (store ts t .table) (store ts t .ref)
-  pub after : Texts (x .text) (x .strings) (x .got .bytes) (x .got .count) (store ts t .table)
-      ⊎ (TextsOver text strings (x .got .bytes) (x .got .count) × TextsOver text strings (text-bytes (store ts t .table)) (length (store ts t .table)))
+  pub offset : x .got .offset ≡ text-word (intern-text ts t .table) (intern-text ts t .ref)
+  pub after : Texts (x .text) (x .strings) (x .got .bytes) (x .got .count) (intern-text ts t .table)
+      ⊎ (TextsOver text strings (x .got .bytes) (x .got .count) × TextsOver text strings (text-bytes (intern-text ts t .table)) (length (intern-text ts t .table)))
 
 pub stored : (text strings : List ℕ) (bytes count : ℕ) (ts : List Text) (t : Text) → Texts text strings bytes count ts → StoredIs text strings ts t (insertTextOf text strings bytes count t)
 stored text strings bytes count ts t h =
@@ -229,8 +229,8 @@ stored text strings bytes count ts t h =
     }
 
 -- the reference that storing gives lies within the texts that it leaves
-pub stored-within : (ts : List Text) (t : Text) → Within (store ts t .ref) (length (store ts t .table))
-stored-within ts t = reads-within (store ts t .table) (store-reads ts t)
+pub stored-within : (ts : List Text) (t : Text) → Within (intern-text ts t .ref) (length (intern-text ts t .table))
+stored-within ts t = reads-within (intern-text ts t .table) (store-reads ts t)
 
 pub texts-back : (text strings : List ℕ) (bytes count : ℕ) (t : Text) → let x = insertTextOf text strings bytes count t in
     x .got .bytes ≤ textCapacityOf (length (x .text)) → x .got .count ≤ capacityOf (length (x .strings)) → (bytes ≤ textCapacityOf (length text)) × (count ≤ capacityOf (length strings))

@@ -7,6 +7,7 @@ pub mod OneCall
 pub mod EveryList
 pub mod WrittenFile
 pub mod Claim
+pub mod Carried
 pub mod Marked
 pub mod Tests
 pub mod Sized

@@ -1,15 +1,16 @@
 -- ONE ACCEPTED CALL, over words and plain: from words that hold tables, the words after a tree or a symbol hold the plain tables after it if these fit, and are full exactly if they don't;
 -- the lent lengths stay. The terms are those that the contracts cite. And a beginning's zeroed tables hold nothing, whatever their lengths.
 use mathlib.Core.Path.{_≡_, refl, sym, ap, _∙_}
-use mathlib.Core.Bool.{Bool, true, false, not}
+use mathlib.Core.Bool.{true, not}
 use mathlib.Core.Logic.{inr, ⊎-elim}
 use mathlib.Core.List.{List, [], _∷_, _++_, map}
 use Prim.Native.Nat.{ℕ}
 use lib.ListN.{length, replicate, length-replicate}
+use borrow.Author.Tests.{not-true, not-false}
 use Rattle.model.specs.Rows.{FunctionRow, SymbolRow, Given, tree-rows, symbol-row}
 use Rattle.model.specs.Machine.{convertM, startM, convert-symbolM, convert-opM, runM}
 use Rattle.model.specs.Converter.{Setup, Tables, nothing, input, deep, op, plain, converted}
-use Rattle.model.specs.Counts.{fits? as plain-fits?}
+use Rattle.model.specs.Counts.{plain-fits?}
 use Rattle.model.proofs.Chains.{false-true}
 use Rattle.model.proofs.Grown.{room}
 use Rattle.model.proofs.Encoded.{AllowedGiven, encoded-call}
@@ -35,14 +36,6 @@ pub record Left (n : Lens) (t : Tables) (u : Words) : Type 0 where
 any-given : (n : Lens) (X : Setup) (g : Given) → AllowedGiven (capacities n) (encoding n) X (over-words X) any (words-encode n X) g
 any-given n X (tree-rows q rs) = (tt, λ r i. tt)
 any-given n X (symbol-row y) = tt
-
-not-false : (b : Bool) → not b ≡ false → b ≡ true
-not-false true e = refl
-not-false false e = false-true (sym e)
-
-not-true : (b : Bool) → not b ≡ true → b ≡ false
-not-true true e = false-true e
-not-true false e = refl
 
 module _ (n : Lens) (X : Setup) (g : Given) (s : Tables) (w : Words) (h : Enc n s w) where
   abbrev plain-after : Tables

@@ -11,10 +11,10 @@ use lib.ListN.{length}
 use borrow.Author.Tests.{ne-eqb}
 use Rattle.model.specs.Basics.{Entry, intern}
 use Rattle.model.specs.Rows.{MAX, LineRow, FunctionRow, SymbolRow}
-use Rattle.model.specs.Converter.{Setup, File, Function, Location, nowhere, at, Tables, is-nowhere, file-eq, function-eq, location-eq, store, store-six, function-name, symbol-name, line-texts, entry-of, range-at, begin-row, locate-line, begin-symbol, locate-symbol, enter-call, later, cleared}
-use Rattle.model.specs.Words.{index-word}
+use Rattle.model.specs.Converter.{Setup, File, Function, Location, nowhere, at, Tables, is-nowhere, file-eq, function-eq, location-eq, intern-text, intern-six, function-name, symbol-name, line-texts, entry-of, range-at, begin-row, locate-line, begin-symbol, locate-symbol, enter-call, later, cleared}
+use Rattle.model.specs.FileWords.{index-word}
 use Rattle.model.proofs.Intern.{At, Grows, intern-grows}
-use Rattle.model.proofs.Chains.{file-eq-ok, function-eq-ok, location-eq-ok}
+use Rattle.model.proofs.Chains.{none-some, file-eq-ok, function-eq-ok, location-eq-ok}
 use Rattle.model.proofs.Always.{Within, InTables}
 use Rattle.model.proofs.Grown.{Grown}
 use Rattle.model.proofs.Couple.{Alike, vacant, held}
@@ -23,7 +23,7 @@ use Rattle.raw.specs.Rows.{max32, isNoSourceLocation}
 use Rattle.raw.specs.declared.SourceLocation.{SourceLocation}
 use Rattle.memory.specs.Memory.{Words}
 use Rattle.steps.specs.Steps.{add-call, fileRow, locate-six, begin-named, get-range, last-of, later-of, cleared-of, over-words}
-use Rattle.steps.specs.Steps.{store as word-store, store-six as word-store-six, add-function as word-add-function}
+use Rattle.steps.specs.Steps.{store, store-six, add-function}
 use Rattle.memory.specs.declared.LastAddr.{LastAddr}
 use Rattle.memory.specs.declared.LastAddr.the-variants.{Unset, Set}
 use Rattle.steps.proofs.Lengths.{Lens}
@@ -51,7 +51,7 @@ is-none-same s w (at f n i c) h = go (eqb (index-word f) max32) (eqb n max32)
 -- what a start holds stands in the ranges
 range-stands : (rs : List (Entry Location)) (k : ℕ) (l : Location) → range-at rs k ≡ some l → (i : ℕ) × (e : Entry Location) × At rs i e × (e .value ≡ l)
 unfolding range-at
-range-stands [] k l h = let bad : _≡_ {A = ℕ} 0 1 = cc in absurd (omega arith)
+range-stands [] k l h = none-some h
 range-stands (e ∷ es) k l h = go (eqb k (e .key)) h (λ z. range-stands es k l z)
   where
     go : (b : Bool) → cond b (some (e .value)) (range-at es k) ≡ some l → (range-at es k ≡ some l → (i : ℕ) × (d : Entry Location) × At es i d × (d .value ≡ l)) → (i : ℕ) × (d : Entry Location) × At (e ∷ es) i d × (d .value ≡ l)
@@ -77,7 +77,7 @@ module _ (n : Lens) (X : Setup) where
   -- ── A row's name and its function ──
 
   function-goes : (p : Option ℕ) (v entry language : ℕ) (s : Tables) (w : Words) → Enc n s w → TextIs (s .texts) p v → let i = intern function-eq (s .functions) (record { name = p; entry = entry; language = language }) in
-      let u = word-add-function v entry language w in GoesTo (with-functions s (i .table)) (u .1) ((i .index < length (i .table)) × (u .0 ≡ i .index))
+      let u = add-function v entry language w in GoesTo (with-functions s (i .table)) (u .1) ((i .index < length (i .table)) × (u .0 ≡ i .index))
   function-goes p v entry language s w h t =
       let f : Function = record { name = p; entry = entry; language = language } in
       let b = intern-below function-eq function-eq-ok (s .functions) f in
@@ -90,8 +90,8 @@ module _ (n : Lens) (X : Setup) where
   unfolding begin-row begin-named
   begin-goes q s w h =
       let name = function-name X q in
-      let p = store (s .texts) name in
-      let u = word-store name w in
+      let p = intern-text (s .texts) name in
+      let u = store name w in
       let s₁ = with-texts s (p .table) in
       goes-then (capacities n) (encoding n) (went n _ _ (store-went name s w n (h .enc)))
       (functions-grown s₁ (record { name = p .ref; entry = entry-of q; language = q .language })) (function-full (u .0) (entry-of q) (q .language) (u .1))
@@ -99,7 +99,7 @@ module _ (n : Lens) (X : Setup) where
 
   begin-stays : (q : FunctionRow) (w : Words) → full w ≡ true → full (over-words X .begin q w .1) ≡ true
   unfolding begin-named
-  begin-stays q w h = function-full (word-store (function-name X q) w .0) (entry-of q) (q .language) (word-store (function-name X q) w .1) (store-full (function-name X q) w h)
+  begin-stays q w h = function-full (store (function-name X q) w .0) (entry-of q) (q .language) (store (function-name X q) w .1) (store-full (function-name X q) w h)
 
   -- ── A line's texts, its file and its location ──
 
@@ -111,8 +111,8 @@ module _ (n : Lens) (X : Setup) where
   unfolding locate-line locate-six
   locate-goes q r r′ l c c′ s w h e f =
       let x = line-texts q l in
-      let t = store-six (s .texts) x in
-      let u = word-store-six x w in
+      let t = intern-six (s .texts) x in
+      let u = store-six x w in
       let s₁ = with-texts s (t .table) in
       let i = intern file-eq (s .files) (t .ref) in
       let b = intern-below file-eq file-eq-ok (s .files) (t .ref) in
@@ -127,7 +127,7 @@ module _ (n : Lens) (X : Setup) where
 
   locate-stays : (q : FunctionRow) (r : ℕ) (l : LineRow) (c : ℕ) (w : Words) → full w ≡ true → full (over-words X .locate q r l c w .1) ≡ true
   unfolding locate-six
-  locate-stays q r l c w h = file-full (fileRow (word-store-six (line-texts q l) w .0)) (word-store-six (line-texts q l) w .1) (six-full n (line-texts q l) w h)
+  locate-stays q r l c w h = file-full (fileRow (store-six (line-texts q l) w .0)) (store-six (line-texts q l) w .1) (six-full n (line-texts q l) w h)
 
   -- ── A call location, a symbol ──
 

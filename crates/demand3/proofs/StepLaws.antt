@@ -11,8 +11,8 @@ use lib.Dec.{eqb}
 use lib.ListN.{length}
 use Rattle.model.specs.Basics.{Entry, intern}
 use Rattle.model.specs.Rows.{Text}
-use Rattle.model.specs.Converter.{Six, File, Function, Location, Tables, file-eq, function-eq, location-eq, store, store-six, put-range, put-at}
-use Rattle.model.specs.Words.{text-word}
+use Rattle.model.specs.Converter.{Six, File, Function, Location, Tables, file-eq, function-eq, location-eq, intern-text, intern-six, range-put, put-at, ending}
+use Rattle.model.specs.FileWords.{text-word}
 use Rattle.model.proofs.Intern.{At, Grows, intern-grows, intern-new}
 use Rattle.model.proofs.Chains.{file-eq-ok, function-eq-ok, location-eq-ok, store-grows, Larger}
 use Rattle.model.proofs.Always.{Within, InTables}
@@ -20,7 +20,7 @@ use Rattle.model.proofs.Compact.{file-whole, function-whole, location-whole}
 use Rattle.model.proofs.FileRows.{FileIn}
 use Rattle.model.proofs.Grown.{Grown}
 use Rattle.model.proofs.Keeps.{Any, put-larger, ending-larger}
-use Rattle.model.proofs.Encoded.{Goes, goes-then, ending}
+use Rattle.model.proofs.Encoded.{Goes, goes-then}
 use Rattle.raw.specs.declared.SourceLocation.{SourceLocation}
 use Rattle.tables.specs.Table.{capacityOf, insertOf}
 use Rattle.tables.specs.Ranges.{rangeRow, putOf}
@@ -31,7 +31,7 @@ use Rattle.memory.specs.declared.LastAddr.{LastAddr}
 use Rattle.memory.specs.Memory.{Words}
 use Rattle.memory.specs.Record.{fits?, with-last}
 use Rattle.steps.specs.Steps.{add-file-row, add-call, fileRow, functionRow, locationRow, last-of}
-use Rattle.steps.specs.Steps.{store as word-store, store-six as word-store-six, add-function as word-add-function, put-range as word-put-range}
+use Rattle.steps.specs.Steps.{store, store-six, add-function, put-range}
 use Rattle.steps.proofs.Lengths.{Lens, lens, insert-long, put-long, text-long, text-long-index, store-lens, add-function-lens, add-file-row-lens, add-call-lens, put-range-lens}
 use Rattle.demand3.proofs.WordRows.{file-row, function-row, call-row, range-row, source, call-row-is, range-row-is, grows-length, grows-bytes, within-later, in-later, file-in-later, file-row-later, function-row-later, file-row-one, function-row-one, call-row-one, row-path}
 use Rattle.demand3.proofs.Interned.{Added, added, set-back, placed, put-back, stored, stored-within, texts-back}
@@ -56,17 +56,17 @@ texts-larger s ts g = record { texts = g; files = λ i a h. h; functions = λ i 
 texts-grown : (s : Tables) (ts us : List Text) → Grows ts us → Grown (with-texts s ts) (with-texts s us)
 texts-grown s ts us g = record { texts = grows-length ts us g; bytes = grows-bytes ts us g; files = omega arith; functions = omega arith; calls = omega arith; ranges = omega arith }
 
-pub store-full : (t : Text) (w : Words) → full w ≡ true → full (word-store t w .1) ≡ true
-unfolding word-store
+pub store-full : (t : Text) (w : Words) → full w ≡ true → full (store t w .1) ≡ true
+unfolding store
 store-full t w h =
-    stays-full w (word-store t w .1)
+    stays-full w (store t w .1)
     (λ r. let (a, b) = texts-back (w .mm .text) (w .mm .strings) (w .st .«string_bytes») (w .st .strings) t (r .bytes) (r .texts) in
     record { bytes = a; texts = b; files = r .files; functions = r .functions; calls = r .calls; ranges = r .ranges })
     h
 
 module _ (t : Text) (s : Tables) (w : Words) where
   abbrev stored-texts : List Text
-  stored-texts = store (s .texts) t .table
+  stored-texts = intern-text (s .texts) t .table
 
   -- what else is there keeps its words
   texts-kept : (n : Lens) → Enc n s w → Inside (with-texts s stored-texts)
@@ -80,8 +80,8 @@ module _ (t : Text) (s : Tables) (w : Words) where
         ranges = λ i e k. in-later b (e .value) (h .inside .ranges i e k);
       }
 
-  pub store-went : (n : Lens) → Enc n s w → Went n (with-texts s stored-texts) (word-store t w .1) (TextIs stored-texts (store (s .texts) t .ref) (word-store t w .0))
-  unfolding word-store
+  pub store-went : (n : Lens) → Enc n s w → Went n (with-texts s stored-texts) (store t w .1) (TextIs stored-texts (intern-text (s .texts) t .ref) (store t w .0))
+  unfolding store
   store-went n h =
       let m = w .mm in
       let x = insertTextOf (m .text) (m .strings) (w .st .«string_bytes») (w .st .strings) t in
@@ -171,10 +171,10 @@ module _ (x : File) (s : Tables) (w : Words) where
 abbrev pub with-functions : Tables → List Function → Tables
 with-functions s fs = record { texts = s .texts; files = s .files; functions = fs; calls = s .calls; ranges = s .ranges; last = s .last }
 
-pub function-full : (name entry lang : ℕ) (w : Words) → full w ≡ true → full (word-add-function name entry lang w .1) ≡ true
-unfolding word-add-function
+pub function-full : (name entry lang : ℕ) (w : Words) → full w ≡ true → full (add-function name entry lang w .1) ≡ true
+unfolding add-function
 function-full name entry lang w h =
-    stays-full w (word-add-function name entry lang w .1)
+    stays-full w (add-function name entry lang w .1)
     (λ r. record { bytes = r .bytes; texts = r .texts; files = r .files; functions = set-back (w .mm .functions) (w .st .functions) (functionRow name entry lang) (r .functions); calls = r .calls; ranges = r .ranges })
     h
 
@@ -186,10 +186,10 @@ module _ (x : Function) (s : Tables) (w : Words) where
   function-larger = record { texts = λ i a h. h; files = λ i a h. h; functions = intern-grows function-eq (s .functions) x; calls = λ i a h. h }
 
   abbrev FunctionWent : Lens → ℕ → Type 0
-  FunctionWent n v = let u = word-add-function v (x .entry) (x .language) w in Went n (with-functions s added-functions) (u .1) (u .0 ≡ intern function-eq (s .functions) x .index)
+  FunctionWent n v = let u = add-function v (x .entry) (x .language) w in Went n (with-functions s added-functions) (u .1) (u .0 ≡ intern function-eq (s .functions) x .index)
 
   function-row-went : (n : Lens) → Within (x .name) (length (s .texts)) → Enc n s w → FunctionWent n (text-word (s .texts) (x .name))
-  unfolding word-add-function
+  unfolding add-function
   function-row-went n i h =
       let t = w .mm .functions in
       let q = function-row (s .texts) x in
@@ -281,28 +281,28 @@ module _ (l : Location) (s : Tables) (w : Words) where
 
 -- ── A range ──
 
-pub range-full : (k : ℕ) (l : SourceLocation) (w : Words) → full w ≡ true → full (word-put-range k l w) ≡ true
-unfolding word-put-range
+pub range-full : (k : ℕ) (l : SourceLocation) (w : Words) → full w ≡ true → full (put-range k l w) ≡ true
+unfolding put-range
 range-full k l w h =
-    stays-full w (word-put-range k l w)
+    stays-full w (put-range k l w)
     (λ r. record { bytes = r .bytes; texts = r .texts; files = r .files; functions = r .functions; calls = r .calls; ranges = put-back (w .mm .ranges) (w .st .ranges) (rangeRow k l) (r .ranges) })
     h
 
-put-new : (k : ℕ) (l : Location) (rs : List (Entry Location)) (i : ℕ) (e : Entry Location) → At (put-range k l rs) i e → At rs i e ⊎ (e .value ≡ l)
-unfolding put-range
+put-new : (k : ℕ) (l : Location) (rs : List (Entry Location)) (i : ℕ) (e : Entry Location) → At (range-put k l rs) i e → At rs i e ⊎ (e .value ≡ l)
+unfolding range-put
 put-new k l [] zero e h = inr (ap (λ (x : Entry Location). x .value) (sym h))
 put-new k l [] (suc i) e h = absurd h
 put-new k l (x ∷ xs) i e h = go (eqb k (x .key)) i h (λ j z. put-new k l xs j e z)
   where
-    go : (b : Bool) (j : ℕ) → At (cond b (record { key = k; value = l } ∷ xs) (x ∷ put-range k l xs)) j e → ((m : ℕ) → At (put-range k l xs) m e → At xs m e ⊎ (e .value ≡ l)) → At (x ∷ xs) j e ⊎ (e .value ≡ l)
+    go : (b : Bool) (j : ℕ) → At (cond b (record { key = k; value = l } ∷ xs) (x ∷ range-put k l xs)) j e → ((m : ℕ) → At (range-put k l xs) m e → At xs m e ⊎ (e .value ≡ l)) → At (x ∷ xs) j e ⊎ (e .value ≡ l)
     go true zero z ih = inr (ap (λ (y : Entry Location). y .value) (sym z))
     go true (suc j) z ih = inl z
     go false zero z ih = inl z
     go false (suc j) z ih = ih j z
 
 module _ (k : ℕ) (l : Location) (s : Tables) (w : Words) where
-  range-row-went : (n : Lens) → InTables s l → Enc n s w → Went n (put-at k l s) (word-put-range k (source l) w) (Unit {0})
-  unfolding word-put-range
+  range-row-went : (n : Lens) → InTables s l → Enc n s w → Went n (put-at k l s) (put-range k (source l) w) (Unit {0})
+  unfolding put-range
   range-row-went n i h =
       let t = w .mm .ranges in
       let m = w .st .ranges in
@@ -310,7 +310,7 @@ module _ (k : ℕ) (l : Location) (s : Tables) (w : Words) where
       let e : rangeRow k (source l) ≡ range-row (record { key = k; value = l }) = range-row-is k l in
       let d =
       subst
-      (λ (q : Row). let x = putOf t m q in Holds 1 (x .table) (x .got .count) (map range-row (put-range k l (s .ranges))) ⊎ ((capacityOf (length t) < x .got .count) × (capacityOf (length t) < length (put-range k l (s .ranges)))))
+      (λ (q : Row). let x = putOf t m q in Holds 1 (x .table) (x .got .count) (map range-row (range-put k l (s .ranges))) ⊎ ((capacityOf (length t) < x .got .count) × (capacityOf (length t) < length (range-put k l (s .ranges)))))
       (sym e) (placed t m (s .ranges) k l (h .ranges)) in
       let c : capacityOf (length (putOf t m (rangeRow k (source l)) .table)) ≡ capacityOf (length t) = ap capacityOf (put-long t m (rangeRow k (source l))) in
       by-own h
@@ -336,8 +336,8 @@ module _ (k : ℕ) (l : Location) (s : Tables) (w : Words) where
       (λ (p, q). inr (λ r. omega (arith, r .ranges), λ f. omega (arith, f .ranges)))
       d)
 
-  pub range-went : (n : Lens) (v : SourceLocation) → InTables s l → v ≡ source l → Enc n s w → Went n (put-at k l s) (word-put-range k v w) (Unit {0})
-  range-went n v i e h = subst (λ (x : SourceLocation). Went n (put-at k l s) (word-put-range k x w) (Unit {0})) (sym e) (range-row-went n i h)
+  pub range-went : (n : Lens) (v : SourceLocation) → InTables s l → v ≡ source l → Enc n s w → Went n (put-at k l s) (put-range k v w) (Unit {0})
+  range-went n v i e h = subst (λ (x : SourceLocation). Went n (put-at k l s) (put-range k x w) (Unit {0})) (sym e) (range-row-went n i h)
 
 -- ── The last end ──
 
@@ -406,23 +406,23 @@ module _ (n : Lens) where
 
   -- one more text
   then-store : (t : Text) (s : Tables) (ts : List Text) (u : Words) (ps : List (Option ℕ × ℕ)) → GoesIn (with-texts s ts) u (Known ts ps)
-      → let p = store ts t in let v = word-store t u in GoesIn (with-texts s (p .table)) (v .1) (Known (p .table) ((p .ref, v .0) ∷ ps))
+      → let p = intern-text ts t in let v = store t u in GoesIn (with-texts s (p .table)) (v .1) (Known (p .table) ((p .ref, v .0) ∷ ps))
   then-store t s ts u ps g =
-      goes-then (capacities n) (encoding n) g (texts-grown s ts (store ts t .table) (store-grows ts t)) (store-full t u)
-      (λ h k. answer (λ z. known-more (store ts t .table) (store ts t .ref) (word-store t u .0) ps z (known-later ts (store ts t .table) (store-grows ts t) ps k)) (went n _ _ (store-went t (with-texts s ts) u n (h .enc))))
+      goes-then (capacities n) (encoding n) g (texts-grown s ts (intern-text ts t .table) (store-grows ts t)) (store-full t u)
+      (λ h k. answer (λ z. known-more (intern-text ts t .table) (intern-text ts t .ref) (store t u .0) ps z (known-later ts (intern-text ts t .table) (store-grows ts t) ps k)) (went n _ _ (store-went t (with-texts s ts) u n (h .enc))))
 
-  pub six-full : (x : Six Text) (w : Words) → full w ≡ true → full (word-store-six x w .1) ≡ true
-  unfolding word-store-six
+  pub six-full : (x : Six Text) (w : Words) → full w ≡ true → full (store-six x w .1) ≡ true
+  unfolding store-six
   six-full x w h = store-full (x .revision) _ (store-full (x .srcsrv-dir) _ (store-full (x .srcsrv-name) _ (store-full (x .comp-dir) _ (store-full (x .directory) _ (store-full (x .name) w h)))))
 
   pub six-goes : (x : Six Text) (s : Tables) (w : Words) → Enc n s w
-      → let t = store-six (s .texts) x in let u = word-store-six x w in GoesIn (with-texts s (t .table)) (u .1) (FileIn (length (t .table)) (t .ref) × (fileRow (u .0) ≡ file-row (t .table) (t .ref)))
-  unfolding store-six word-store-six
+      → let t = intern-six (s .texts) x in let u = store-six x w in GoesIn (with-texts s (t .table)) (u .1) (FileIn (length (t .table)) (t .ref) × (fileRow (u .0) ≡ file-row (t .table) (t .ref)))
+  unfolding intern-six store-six
   six-goes x s w h =
-      let t = store-six (s .texts) x in
-      let u = word-store-six x w in
-      let p = store (s .texts) (x .name) in
-      let v = word-store (x .name) w in
+      let t = intern-six (s .texts) x in
+      let u = store-six x w in
+      let p = intern-text (s .texts) (x .name) in
+      let v = store (x .name) w in
       let g₁ : GoesIn (with-texts s (p .table)) (v .1) (Known (p .table) ((p .ref, v .0) ∷ [])) = answer (λ z. known-more (p .table) (p .ref) (v .0) [] z (known-none (p .table))) (went n _ _ (store-went (x .name) s w n h)) in
       let g₂ = then-store (x .directory) s _ _ _ g₁ in
       let g₃ = then-store (x .comp-dir) s _ _ _ g₂ in

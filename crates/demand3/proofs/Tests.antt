@@ -15,11 +15,8 @@ use Rattle.model.specs.Rows.{MAX, Text, LineRow, FunctionRow, SymbolRow, Given,
 use Rattle.model.specs.Premises.{reaches, all-reaches, inlinees, RowWell, LastAt, InlineeWell, RowsWell, Named, Counted, NotIn, SymbolClear, Separate, AllSeparate}
 use Rattle.model.proofs.Spans.{∈-elim}
 use Rattle.model.proofs.Chains.{false-true, both-true}
-use Rattle.writer.specs.Calls.{treeOf, symbolOf}
-use Rattle.serialize.specs.File.{serializeOf}
-use Rattle.line_list.specs.Lines.{lineColumns}
-use Rattle.line_rows.specs.Calls.{linesOf}
-use Rattle.demand3.specs.Lists.{Call, tree, lines-tree, symbol, write, Standing, next, run, Typed}
+use Rattle.memory.specs.declared.Converter.{Converter}
+use Rattle.demand3.specs.Lists.{Call, tree, lines-tree, symbol, write, Standing, next, run, by-value, Typed}
 use Rattle.demand3.specs.Demand3.{Nested, Premises}
 
 -- ── Tests of a list ──
@@ -57,21 +54,18 @@ module _ {A : Type 0} (p : A → Bool) where
 
 -- ── The number of every call ──
 
-abbrev pub number-of : Call → Standing → ℕ
-number-of (tree k s) r = treeOf (r .converter) (r .memory) s k .code
-number-of (lines-tree f64 f32 ls t s u v) r = linesOf (r .converter) (r .memory) s u v (lineColumns f64 f32 ls t) .called .code
-number-of (symbol t address size name) r = symbolOf (r .converter) (r .memory) t address size name .code
-number-of (write output) r = serializeOf (r .converter) (r .memory) output .code
+abbrev pub number-of : Call → Standing Converter → ℕ
+number-of k r = by-value k (r .carrier) (r .memory) .code
 
-unfoldable pub numbers : List Call → Standing → List ℕ
+unfoldable pub numbers : List Call → Standing Converter → List ℕ
 numbers [] r = []
-numbers (k ∷ ks) r = number-of k r ∷ numbers ks (next k r)
+numbers (k ∷ ks) r = number-of k r ∷ numbers ks (next by-value k r)
 
 -- the number of a call in the list
-pub number-in : (before after : List Call) (k : Call) (r : Standing) → getD (numbers (before ++ (k ∷ after)) r) (length before) 0 ≡ number-of k (run before r)
+pub number-in : (before after : List Call) (k : Call) (r : Standing Converter) → getD (numbers (before ++ (k ∷ after)) r) (length before) 0 ≡ number-of k (run by-value before r)
 unfolding numbers run
 number-in [] after k r = refl
-number-in (c ∷ before) after k r = number-in before after k (next c r)
+number-in (c ∷ before) after k r = number-in before after k (next by-value c r)
 
 -- ── 32-bit words ──
 

@@ -15,9 +15,9 @@ use Rattle.text.specs.Leb128.{encoded}
 use Rattle.model.specs.Basics.{Span, Entry, before, place, sort}
 use Rattle.model.specs.Rows.{Text, Given}
 use Rattle.model.specs.Converter.{Setup, File, Function, Location, nowhere, at, Tables, range-at, converted}
-use Rattle.model.specs.Written.{place-range, by-start, written, locations}
-use Rattle.model.specs.Words.{file-words, function-words, location-words, starts, string-section}
-use Rattle.model.proofs.Chains.{both-of, range-here, range-there, Unique}
+use Rattle.model.specs.Written.{place-range, by-start, as-written, locations}
+use Rattle.model.specs.FileWords.{file-words, function-words, location-words, starts, string-section}
+use Rattle.model.proofs.Chains.{none-some, both-of, range-here, range-there, Unique}
 use Rattle.model.proofs.Always.{starts-unique, last-end-starts}
 use Rattle.model.proofs.Written.{by-start-same, by-start-length}
 use Rattle.model.proofs.FileRows.{section-length}
@@ -97,9 +97,6 @@ strings-is (t ∷ ts) = append-assoc (encoded (length t)) t (section ts) ∙ ap 
 
 -- ── Sorting entries is putting what they stand for in order of start ──
 
-no-held : {A L : Type 0} {l : L} → _≡_ {A = Option L} (some l) none → A
-no-held e = let bad : _≡_ {A = ℕ} 0 1 = cc in absurd (omega arith)
-
 module _ {L : Type 0} (value-at : ℕ → L) where
   -- what an entry stands for, where a row number has a value
   abbrev meant : Span → Entry L
@@ -114,7 +111,7 @@ module _ {L : Type 0} (value-at : ℕ → L) where
           → (range-at (map meant ps) (p .from) ≡ none → map meant (place p ps) ≡ place-range (p .from) (value-at (p .to)) (map meant ps))
           → map meant (place p (q ∷ ps)) ≡ place-range (p .from) (value-at (p .to)) (map meant (q ∷ ps))
       go true e c f ih = rw e
-      go false e true f ih = no-held (sym (range-here (meant q) (map meant ps) (p .from) (eqb-true _ _ f)) ∙ h)
+      go false e true f ih = none-some (sym h ∙ range-here (meant q) (map meant ps) (p .from) (eqb-true _ _ f))
       go false e false f ih = rw (e, f) (ap (λ (l : List (Entry L)). meant q ∷ l) (ih (sym (range-there (meant q) (map meant ps) (p .from) (eqb-false _ _ f)) ∙ h)))
 
   pub sort-is : (ps : List Span) → Unique (map meant ps) → map meant (sort ps) ≡ by-start (map meant ps)
@@ -205,7 +202,7 @@ module _ (t : List ℕ) (n : ℕ) (rs : List (Entry Location)) (h : Holds 1 t n 
   no-vacant (Set a) k = let (l, e) = k a refl in go (getOf t n a) (got t n rs a h ∙ ap shown e)
     where
       go : {l : SourceLocation} (f : Found) → held f ≡ some l → if-vacant f a ≡ Unset
-      go Absent e = no-held (sym e)
+      go Absent e = none-some e
       go (At x) e = refl
 
 -- ── The file ──
@@ -247,13 +244,13 @@ module _ (n : Lens) (s : Tables) (c : Converter) (m : Memory) (h : Enc n s (word
         locations-bytes (m .ranges) (c .state .ranges) (s .ranges) (h .ranges) (ranges-of c m)
         ∙ ap (λ (l : List (Entry Location)). tableBytes words (map location-words (map (λ (e : Entry Location). e .value) l))) ranges-are
 
-    pub starts-written : tableBytes start-row (ranges-of c m) ≡ words (starts (written s))
+    pub starts-written : tableBytes start-row (ranges-of c m) ≡ words (starts (as-written s))
     starts-written =
         starts-bytes (m .ranges) (c .state .ranges) (s .ranges) (h .ranges) (ranges-of c m)
         ∙ ap (λ (l : List (Entry Location)). words (map (λ (e : Entry Location). e .key) l)) ranges-are
 
     abbrev z : Sections
-    z = sections (written s)
+    z = sections (as-written s)
 
     -- as many starts as entries
     starts-count : length (ranges-of c m) ≡ length (z .starts)
@@ -261,13 +258,13 @@ module _ (n : Lens) (s : Tables) (c : Converter) (m : Memory) (h : Enc n s (word
 
     locations-count : c .state .«call_locations» + length (ranges-of c m) ≡ length (z .locations)
     locations-count =
-        let a : length (z .locations) ≡ length (locations (written s)) = length-map (locations (written s)) location-words in
-        let b : length (locations (written s)) ≡ length (s .calls) + length (map (λ (e : Entry Location). e .value) (by-start (s .ranges))) = length-append (s .calls) (map (λ (e : Entry Location). e .value) (by-start (s .ranges))) in
+        let a : length (z .locations) ≡ length (locations (as-written s)) = length-map (locations (as-written s)) location-words in
+        let b : length (locations (as-written s)) ≡ length (s .calls) + length (map (λ (e : Entry Location). e .value) (by-start (s .ranges))) = length-append (s .calls) (map (λ (e : Entry Location). e .value) (by-start (s .ranges))) in
         let d : length (map (λ (e : Entry Location). e .value) (by-start (s .ranges))) ≡ length (by-start (s .ranges)) = length-map (by-start (s .ranges)) (λ (e : Entry Location). e .value) in
         let f : length (by-start (s .ranges)) ≡ length (s .ranges) = by-start-length (s .ranges) unique in
         omega (arith, ranges-count, count-calls n s (words-of c m) h)
 
-    pub header-is : header-of c (length (ranges-of c m)) ≡ reads.header-of (c .«debug_id») (c .arch) z
+    pub header-is : header-of c (length (ranges-of c m)) ≡ reads.sections-header (c .«debug_id») (c .arch) z
     header-is =
         header-path (c .«debug_id») (c .arch) _ _ _ _ _ _ _ _ _ _
         (sym (length-map (s .files) (file-words (s .texts)) ∙ count-files n s (words-of c m) h))
@@ -296,12 +293,12 @@ module _ (n : Lens) (s : Tables) (c : Converter) (m : Memory) (h : Enc n s (word
         strings-written
 
 -- WHAT IS WRITTEN, after every list: the file of the plain tables
-pub written-is : (X : Setup) (gs : List Given) (n : Lens) (c : Converter) (m : Memory) → Enc n (converted X gs) (words-of c m) → written-file c m ≡ file-bytes (c .«debug_id») (c .arch) (sections (written (converted X gs)))
+pub written-is : (X : Setup) (gs : List Given) (n : Lens) (c : Converter) (m : Memory) → Enc n (converted X gs) (words-of c m) → written-file c m ≡ file-bytes (c .«debug_id») (c .arch) (sections (as-written (converted X gs)))
 written-is X gs n c m h = file-written n (converted X gs) c m h (starts-unique X gs) (last-end-starts X gs)
 
 -- and what writing answers: 0, the length, and the plain file before the rest of the output; or 18 where the output is shorter
 pub write-answers : (X : Setup) (gs : List Given) (n : Lens) (c : Converter) (m : Memory) → c .«open» ≡ true → Enc n (converted X gs) (words-of c m) → (out : List ℕ)
-    → let f = file-bytes (c .«debug_id») (c .arch) (sections (written (converted X gs))) in
+    → let f = file-bytes (c .«debug_id») (c .arch) (sections (as-written (converted X gs))) in
     serializeOf c m out ≡ cond (leb (length f) (length out)) (wrote 0 (length f) (f ++ drop (length f) out)) (wrote 18 0 out)
 unfolding serializeOf
 write-answers X gs n c m o h out =

@@ -1,6 +1,7 @@
--- DEMAND 3: what every reopened file shows. One claim about a whole list of calls after one beginning, in any order, refused ones included. The steps of the list are the definitions that the
--- contracts of `begin`, `process_symbolic_function`, `process_function_lines`, `process_symbolic_symbol` and `serialize` cite (Calls, Lists; serialize's File), and a file is read by those that `lookup`, `next`,
--- `function_name` and `read_string` cite (reads' Shown). The premises are document 01's words, on the rows as they were given.
+-- DEMAND 3: what every reopened file shows. One claim about a whole list of calls after one beginning, in any order, refused ones included.
+-- The steps of the list are the definitions that the contracts of `begin`, `process_symbolic_function`, `process_function_lines`,
+-- `process_symbolic_symbol` and `serialize` cite (Calls, Lists; serialize's File), and a file is read by those that `lookup`, `next`,
+-- `function_name` and `read_string` cite (read_back's Shown). The premises are document 01's words, on the rows as they were given.
 use mathlib.Core.Path.{_≡_}
 use mathlib.Core.Bool.{Bool, true, false}
 use mathlib.Core.List.{List, [], _∷_, _++_, map, reverse}
@@ -17,11 +18,12 @@ use Rattle.symcache.specs.Reader.{opened}
 use Rattle.read_back.specs.Shown.{Shown, with-stand-in, Found}
 use Rattle.memory.specs.Memory.{Memory}
 use Rattle.serialize.specs.File.{Wrote, serializeOf}
-use Rattle.demand3.specs.Lists.{Call, write, run, begun, Typed}
+use Rattle.demand3.specs.Lists.{Call, write, run, by-value, beginning, Typed}
 
 -- ── The premises, about the counted calls alone ────────────────────────────────────────────────────────────────────────
 
--- "Well nested": "The root alone isn't inline"; of every row its size, its extent, its lines and its inlinees' lines as model's `RowsWell` says. The depths are not assumed: 13 leaves none but a tree's
+-- "Well nested": "The root alone isn't inline"; of every row its size, its extent, its lines and its inlinees' lines as model's `RowsWell` says.
+-- The depths are not assumed: 13 leaves none but a tree's
 abbrev pub Nested : Given → Type 0
 Nested (tree-rows q rs) = (q .inline ≡ false) × ((r : FunctionRow) → r ∈ rs → r .inline ≡ true) × RowsWell (q ∷ rs)
 Nested (symbol-row y) = Unit {0}
@@ -33,36 +35,42 @@ pub record Premises (gs : List Given) : Type 0 where
 
 -- ── What is asked for ──────────────────────────────────────────────────────────────────────────────────────────────────
 
--- one frame for each row of the tree with a line covering x, "innermost first": with its name (undecorated where that is on, or the stand-in d), entry, language, number and file
+-- one frame for each row of the tree with a line covering x, "innermost first": with its name (undecorated where that is on, or the stand-in d),
+-- entry, language, number and file
 abbrev pub asked : Setup → List ℕ → ℕ → FunctionRow → List FunctionRow → List Shown
 asked X d x q rs = map (with-stand-in d) (reverse (items (nested-at X x (q ∷ rs))))
 
--- at an address x that a line of the root q covers: looking it up and iterating `next` shows these frames and then ends; their depths are 0, 1, 2, .. from the root on; by recursion on the tree they
--- are the same; and no row of another counted tree has a line covering x
+-- at an address x that a line of the root q covers: looking it up and iterating `next` shows these frames and then ends; their depths are
+-- 0, 1, 2, .. from the root on; by recursion on the tree they are the same; and no row of another counted tree has a line covering x
 pub record Shows (X : Setup) (gs : List Given) (file : List ℕ) (q : FunctionRow) (rs : List FunctionRow) (x : ℕ) : Type 0 where
   pub frames : (d : List ℕ) → Found file d x (asked X d x q rs)
   pub one-a-depth : let found = nested-at X x (q ∷ rs) in depths found ≡ upto 0 (length found)
   pub by-recursion : reverse (items (nested-at X x (q ∷ rs))) ≡ stack-of X x 0 (q ∷ rs)
-  pub alone : (before after : List Given) → gs ≡ before ++ (tree-rows q rs ∷ after) → (p : FunctionRow) (ps : List FunctionRow) → tree-rows p ps ∈ (before ++ after) → nested-at X x (p ∷ ps) ≡ []
+  pub alone : (before after : List Given) → gs ≡ before ++ (tree-rows q rs ∷ after)
+      → (p : FunctionRow) (ps : List FunctionRow) → tree-rows p ps ∈ (before ++ after) → nested-at X x (p ∷ ps) ≡ []
 
--- a file: it is opened with 0; every lookup answers 0, at every address, and shows what the plain tables of the counted calls say; and where the premises hold, demand 3
+-- a file: it is opened with 0; every lookup answers 0, at every address, and shows what the plain tables of the counted calls say; and where the
+-- premises hold, demand 3
 pub record Reopened (X : Setup) (gs : List Given) (file : List ℕ) : Type 0 where
   pub tables : SymCache
   pub opens : opened file ≡ gives tables
   pub every-address : (d : List ℕ) (x : ℕ) → Found file d x (map (with-stand-in d) (frames-at (converted X gs) x))
-  pub demanded : Premises gs → (q : FunctionRow) (rs : List FunctionRow) → tree-rows q rs ∈ gs → (n : LineRow) → n ∈ q .lines → (x : ℕ) → Covers (reach n) x → Shows X gs file q rs x
+  pub demanded : Premises gs → (q : FunctionRow) (rs : List FunctionRow) → tree-rows q rs ∈ gs
+      → (n : LineRow) → n ∈ q .lines → (x : ℕ) → Covers (reach n) x → Shows X gs file q rs x
 
 -- ── The claim ──────────────────────────────────────────────────────────────────────────────────────────────────────────
 
 -- the bytes of the file that was written
-abbrev pub file-of : Wrote → List ℕ
-file-of o = take (o .len) (o .output)
+abbrev pub file-written : Wrote → List ℕ
+file-written o = take (o .len) (o .output)
 
--- For every beginning (a debug id of 32 bytes, an arch number of 32 bits, both switches, any lent lengths, any content before it), every list of calls, every write in it, at any place, that answers 0
+-- For every beginning (a debug id of 32 bytes, an arch number of 32 bits, both switches, any lent lengths, any content before it), every list of
+-- calls, every write in it, at any place, that answers 0
 abbrev pub Demand3 : Type 0
 Demand3 =
-    (id : List ℕ) (arch : ℕ) (f s : Bool) (m : Memory) (calls : List Call) → length id ≡ 32 → arch ≤ MAX → ((k : Call) → k ∈ calls → Typed k)
+    (id : List ℕ) (arch : ℕ) (f s : Bool) (m : Memory) (calls : List Call)
+    → length id ≡ 32 → arch ≤ MAX → ((k : Call) → k ∈ calls → Typed k)
     → (before after : List Call) (out : List ℕ) → calls ≡ before ++ (write out ∷ after)
-    → let r = run before (begun id arch f s m) in
-    let o = serializeOf (r .converter) (r .memory) out in
-    o .code ≡ 0 → Reopened (record { functions-on = f; symbols-on = s }) (r .counted) (file-of o)
+    → let r = run by-value before (beginning id arch f s m) in
+    let o = serializeOf (r .carrier) (r .memory) out in
+    o .code ≡ 0 → Reopened (record { functions-on = f; symbols-on = s }) (r .counted) (file-written o)

@@ -17,20 +17,24 @@ use Rattle.rows.specs.Refusals.{refusalOf, optional?}
 use Rattle.rows.specs.declared.OptionalPart.{OptionalPart}
 use Rattle.model.specs.Machine.{convert-symbolM}
 use Rattle.model.specs.Converter.{input}
+use Rattle.model.proofs.Chains.{both-true}
 use Rattle.memory.specs.Memory.{Memory, Words}
-use Rattle.memory.specs.Record.{fits?, words-of, usable?, beginOf}
+use Rattle.memory.specs.Record.{fits?}
 use Rattle.steps.specs.Steps.{over-words}
 use Rattle.memory.specs.declared.LastAddr.{LastAddr}
 use Rattle.memory.specs.declared.LastAddr.the-variants.{Unset, Set}
+use Rattle.memory.specs.declared.State.{State}
 use Rattle.memory.specs.declared.Converter.{Converter}
 use Rattle.writer.specs.Calls.{Called, called, setup, finished, rows-converted, treeOf, symbolOf}
+use Rattle.memory.specs.Record.{words-of, usable?, beginOf}
 use Rattle.steps.specs.Symbols.{symbolRow}
 use Rattle.line_rows.specs.Calls.{LinesCalled, unpackRoom?, linesOf}
 use Rattle.c_words.proofs.StoreLaws.{sets-at}
-use Rattle.c_words.specs.Stored.{stored}
+use Rattle.slices.specs.Words.{stored}
 use Rattle.slices.specs.Words.{yes, flagOf}
-use Rattle.c_words.specs.Record.{idOf, stateOf, converterOf, lastWords, idWords, wordsOf, Bytes, IdFits, kept}
-use Rattle.c_words.specs.Writing.{beginCall, treeCall, linesCall, symbolCall}
+use Rattle.c_words.specs.Record.{lastOf, idOf, stateOf, converterOf, lastWords, idWords, countWords, switchWords, wordsOf, Bytes, IdFits}
+use Rattle.c_words.specs.Writing.{leaves, beginCall, treeCall, linesCall, symbolCall}
+use Rattle.c_words.specs.Record.{kept}
 
 -- ── Bytes ──────────────────────────────────────────────────────────────────────────────────────────────────────────────
 
@@ -171,13 +175,9 @@ long r e = go (ltb 19 (length r)) refl
         let no : _≡_ {A = ℕ} 0 1 = ap flagOf (sym (ap yes z) ∙ e) in
         omega arith
 
-both-left : (a b : Bool) → a && b ≡ true → a ≡ true
-both-left true b h = refl
-both-left false b h = h
-
 usable-long : (r : List ℕ) (m : Memory) → usable? (converterOf r) m ≡ true → 20 ≤ length r
 unfolding usable? converterOf
-usable-long r m h = long r (both-left (yes (getD r 19 0)) _ h)
+usable-long r m h = long r (both-true (yes (getD r 19 0)) _ h .0)
 
 -- after a call that answered o, the record is the converter of o
 abbrev Carries : List ℕ → Called → Type 0
@@ -223,7 +223,7 @@ lines-carried r m s u v k =
     by-cond P (usable? (converterOf r) m && eqb (refusalOf k (length s)) 0) _ _
     (λ h. by-cond P (unpackRoom? k u v) _ _
     (λ _. tree-carried r m s k)
-    (λ _. refused-carried r m s 16 (usable-long r m (both-left (usable? (converterOf r) m) (eqb (refusalOf k (length s)) 0) h))))
+    (λ _. refused-carried r m s 16 (usable-long r m (both-true (usable? (converterOf r) m) (eqb (refusalOf k (length s)) 0) h .0))))
     (λ _. tree-carried r m s k)
 
 pub symbol-carried : (r : List ℕ) (m : Memory) (t : List ℕ) (address size : ℕ) (name : OptionalPart)

@@ -1,6 +1,6 @@
 -- The words of a cursor and of a cache survive between two calls. So the frames that `lookup` and `next` give by value are those that the exported calls store, and an address is found by the words
 -- that `symcache_open` stored as by the cache that `open` gave.
-use Prim.Native.Nat.{ℕ, _+_, _%_, _<_, _≤_}
+use Prim.Native.Nat.{ℕ, suc, _+_, _*_, _%_, _<_, _≤_}
 use native.Mathlib.Omega.{arith}
 use mathlib.Core.Bool.{Bool, true, false, not}
 use mathlib.Core.Path.{_≡_, refl, sym, ap, _∙_}
@@ -11,19 +11,21 @@ use lib.Seq.{length-sets}
 use borrow.Author.Tests.{le-ltb, ne-eqb}
 use Rattle.slices.specs.Bytes.{leAt}
 use Rattle.raw.specs.Rows.{headerAt}
+use Rattle.raw.specs.declared.Header.{Header}
 use Rattle.slices.proofs.Bytes.{leAt-four}
 use Rattle.symcache.specs.declared.SymCache.{SymCache}
 use Rattle.symcache.specs.declared.lookup.SourceLocations.{SourceLocations}
 use Rattle.symcache.specs.declared.lookup.Frame.{Frame}
 use Rattle.symcache.specs.Answers.{Answer, gives, refuses, only, refuseIf, andThen}
 use Rattle.symcache.specs.Reader.{layoutOf, parsed, startAt, ascending, opened}
-use Rattle.symcache.specs.Lookup.{foundAt, walkAt}
+use Rattle.symcache.specs.Lookup.{foundAt, walkAt, lookedUp, stepped}
 use Rattle.symcache.proofs.ReaderLaws.{parsed-within}
-use Rattle.read_back.specs.Shown.{Shown, ends, goes, Walked as PlainWalked, Found as PlainFound}
-use Rattle.c_words.specs.Stored.{stored}
+use Rattle.read_back.specs.Shown.{Shown, ends, goes}
+use Rattle.read_back.specs.Shown.{Walked, Found}
+use Rattle.slices.specs.Words.{stored}
 use Rattle.c_words.specs.Record.{Bytes}
 use Rattle.c_words.specs.Reading.{filled, answered, stepsTo, cacheWords, cacheOf, cached, openCall, findCall, walkWords, walkOf, walkCall, lookupCall, frameWords, nextCall, indexOf}
-use Rattle.exports.specs.Walks.{Walked, Found}
+use Rattle.exports.specs.Walks.{WalkedByCalls, FoundByCalls}
 use Rattle.exports.specs.Walks as words
 use Rattle.c_words.proofs.StoreLaws.{sets-at}
 use Rattle.exports.proofs.Carried.{byte-below}
@@ -49,7 +51,7 @@ index-back k i h =
 
 -- ── Frames ─────────────────────────────────────────────────────────────────────────────────────────────────────────────
 
-walks : (s k t : List ℕ) {w : SourceLocations} {fs : List Frame} → walkOf k ≡ w → 3 ≤ length k → PlainWalked s w fs → Walked s k t fs
+walks : (s k t : List ℕ) {w : SourceLocations} {fs : List Frame} → walkOf k ≡ w → 3 ≤ length k → Walked s w fs → WalkedByCalls s k t fs
 unfolding nextCall stepsTo
 walks s k t e h (ends g) = words.ends {k = k} {t = t} (rw (e, g))
 walks s k t e h (goes {n = n} {f = f} g rest) =
@@ -57,7 +59,7 @@ walks s k t e h (goes {n = n} {f = f} g rest) =
     words.goes {k = k} {t = t} {n = stored (walkWords n) k} {f = f} (rw (e, g)) (walks s (stored (walkWords n) k) (stored (frameWords f) t) (cursor-back k n h) (omega arith) rest)
 
 -- for every file and address, any stand-in, a cursor of three words or more, and any words lent for the frame
-pub found-by-words : (s d : List ℕ) (x : ℕ) (k t : List ℕ) (vs : List Shown) → 3 ≤ length k → PlainFound s d x vs → Found s d x k t vs
+pub found-by-words : (s d : List ℕ) (x : ℕ) (k t : List ℕ) (vs : List Shown) → 3 ≤ length k → Found s d x vs → FoundByCalls s d x k t vs
 unfolding lookupCall answered
 found-by-words s d x k t vs h f =
     let l : length (stored (walkWords (f .cursor)) k) ≡ length k = length-sets k 0 (walkWords (f .cursor)) in

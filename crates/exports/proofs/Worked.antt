@@ -8,15 +8,9 @@ use Rattle.raw.specs.Rows.{max32, versionInfoAt, headerAt, fileAt, functionAt, 
 use Rattle.symcache.specs.Answers.{refuseIf, andThen}
 use Rattle.symcache.specs.Reader.{aligned, layoutOf, tested, parsed, ascendingFrom, ascending, opened}
 use Rattle.symcache.specs.Lookup.{countIn, searchIn, foundAmong, usable, foundIn, locationIn, functionIn, fileIn, walkAt, lookedUp, met, frameIn, ended, stepIn, stepped}
-<<<<<<< HEAD
 use Rattle.symcache.proofs.Worked.{worked}
 use Rattle.memory.specs.Memory.{memory}
 use Rattle.memory.specs.Record.{beginOf}
-=======
-use Rattle.read_back.proofs.WorkedBytes.{worked}
-use Rattle.memory.specs.Memory.{memory}
-use Rattle.memory.specs.Record.{beginOf}
->>>>>>> reader
 use Rattle.c_words.specs.Record.{wordsOf}
 use Rattle.c_words.specs.Writing.{left, beginCall}
 use Rattle.c_words.specs.Reading.{filled, moved, answered, stepsTo, refused, cached, parseCall, openCall, walkOf, lookupCall, nextCall}

@@ -9,11 +9,11 @@ use Prim.Native.Nat.{ℕ}
 use native.Mathlib.Omega.{arith}
 use Rattle.model.specs.Rows.{LineRow, FunctionRow, SymbolRow, Given, tree-rows, symbol-row}
 use Rattle.model.specs.Machine.{Machine, runM}
-use Rattle.model.specs.Converter.{input, op, Setup, Location, nowhere, at, Tables, nothing, is-nowhere, range-at, put-at, begin-row, locate-line, begin-symbol, locate-symbol, enter-call, later, cleared, plain, converted}
-use Rattle.model.specs.Counts.{Capacities, fits?}
+use Rattle.model.specs.Converter.{input, op, Setup, Location, nowhere, at, Tables, nothing, is-nowhere, range-at, put-at, begin-row, locate-line, begin-symbol, locate-symbol, enter-call, later, cleared, ending, plain, converted}
+use Rattle.model.specs.Counts.{Capacities, plain-fits?}
 use Rattle.model.proofs.Chains.{false-true}
 use Rattle.model.proofs.Couple.{Limits, Alike, vacant, held}
-use Rattle.model.proofs.Encoded.{ending, Encoding, Holds, Goes, Encodes, AllowedGiven, encoded-list}
+use Rattle.model.proofs.Encoded.{Encoding, Holds, Goes, Encodes, AllowedGiven, encoded-list}
 
 pub record Capped : Type 0 where
   pub tables : Tables
@@ -22,13 +22,13 @@ pub record Capped : Type 0 where
 module _ (K : Capacities) where
   -- t where there is room, and else s, marked full
   unfoldable pub settle : Bool → Tables → Tables → Capped
-  settle f t s = elim (fits? K t) [ true ↦ record { tables = t; full = f } | false ↦ record { tables = s; full = true } ]
+  settle f t s = elim (plain-fits? K t) [ true ↦ record { tables = t; full = f } | false ↦ record { tables = s; full = true } ]
 
   settle-full : (f : Bool) (t s : Tables) → f ≡ true → settle f t s .full ≡ true
   unfolding settle
-  settle-full f t s e = go (fits? K t) refl
+  settle-full f t s e = go (plain-fits? K t) refl
     where
-      go : (b : Bool) → fits? K t ≡ b → settle f t s .full ≡ true
+      go : (b : Bool) → plain-fits? K t ≡ b → settle f t s .full ≡ true
       go true z = rw (z, settle) e
       go false z = rw (z, settle)
 
@@ -55,10 +55,10 @@ module _ (K : Capacities) where
     }
 
     abbrev pub Full : Tables → Capped → Type 0
-    Full s s′ = (s′ .full ≡ true) × (fits? K s ≡ false)
+    Full s s′ = (s′ .full ≡ true) × (plain-fits? K s ≡ false)
 
     abbrev pub Open : Tables → Capped → Type 0
-    Open s s′ = (s′ .full ≡ false) × (s′ .tables ≡ s) × (fits? K s ≡ true)
+    Open s s′ = (s′ .full ≡ false) × (s′ .tables ≡ s) × (plain-fits? K s ≡ true)
 
     -- ── It is an instance of `Encoded`: it holds the tables themselves ──
 
@@ -70,9 +70,9 @@ module _ (K : Capacities) where
 
     settle-goes : (b : Bool) (t s : Tables) {r : Type 0} → b ≡ false → r → Goes K itself t (settle b t s) r
     unfolding settle
-    settle-goes b t s {r} e v = go (fits? K t) refl
+    settle-goes b t s {r} e v = go (plain-fits? K t) refl
       where
-        go : (f : Bool) → fits? K t ≡ f → Goes K itself t (settle b t s) r
+        go : (f : Bool) → plain-fits? K t ≡ f → Goes K itself t (settle b t s) r
         go true z = rw (z, settle) (record { fitting = λ k. (e, refl, v); exceeding = λ k. false-true (sym k ∙ z) })
         go false z = rw (z, settle) (record { fitting = λ k. false-true (sym z ∙ k); exceeding = λ k. refl })
 
@@ -83,7 +83,7 @@ module _ (K : Capacities) where
     put-goes k l s w h = subst (λ (t : Tables). Goes K itself (put-at k l t) (capped-machine .put k l w) (Unit {0})) (h .enc) (settle-goes (w .full) (put-at k l (w .tables)) (w .tables) (h .room) tt)
 
     marked : (f : Option ℕ → Option ℕ) (s : Tables) (w : Capped) → Holds K itself s w → Goes K itself (ending s (f (s .last))) (record { tables = ending (w .tables) (f (w .tables .last)); full = w .full }) (Unit {0})
-    unfolding fits?
+    unfolding plain-fits?
     marked f s w h = record { fitting = λ k. (h .room, ap (λ (t : Tables). ending t (f (t .last))) (h .enc), tt); exceeding = λ k. false-true (sym k ∙ h .fits) }
 
     alike : (o o′ : Option Location) → o ≡ o′ → Alike is-nowhere is-nowhere o o′

@@ -11,15 +11,21 @@ use lib.Dec.{eqb}
 use borrow.Author.Tests.{eqb-true, eq-eqb, ne-eqb, le-leb, lt-leb}
 use Rattle.model.specs.Basics.{Entry}
 use Rattle.model.specs.Rows.{Text}
-use Rattle.model.specs.Converter.{Six, File, Function, Location, nowhere, at, Tables, opt-eq, text-eq, file-eq, function-eq, location-eq, is-nowhere, store, store-six, range-at, put-range}
+use Rattle.model.specs.Converter.{Six, File, Function, Location, nowhere, at, Tables, opt-eq, text-eq, file-eq, function-eq, location-eq, is-nowhere, intern-text, intern-six, range-at, range-put}
 use Rattle.model.specs.Frames.{Frame, read, read-six, file-at, function-at, frame-of, caller-of, callers, frames-of, better, best, known, known-six}
 use Rattle.model.proofs.Maps.{lt-or-ge, eq-or-ne}
 use Rattle.model.proofs.Intern.{At, Grows, intern-at, intern-grows, at-length, at-getD}
 
--- ── The equality tests ──
+-- ── Tests and options ──
 
 pub false-true : {A : Type 0} → _≡_ {A = Bool} false true → A
 false-true e = let bad : _≡_ {A = ℕ} 0 1 = cc in absurd (omega arith)
+
+pub none-some : {L A : Type 0} {l : L} → _≡_ {A = Option L} none (some l) → A
+none-some e = let bad : _≡_ {A = ℕ} 0 1 = cc in absurd (omega arith)
+
+pub some-eq : {A : Type 0} {p q : A} → _≡_ {A = Option A} (some p) (some q) → p ≡ q
+some-eq r = cc
 
 pub both-true : (a b : Bool) → (a && b) ≡ true → (a ≡ true) × (b ≡ true)
 both-true true b e = (refl, e)
@@ -27,6 +33,8 @@ both-true false b e = false-true e
 
 pub both-of : (a b : Bool) → a ≡ true → b ≡ true → (a && b) ≡ true
 both-of a b p q = rw p q
+
+-- ── The equality tests ──
 
 pub opt-eq-ok : (i j : Option ℕ) → opt-eq i j ≡ true → i ≡ j
 opt-eq-ok none none e = refl
@@ -109,59 +117,59 @@ six-grows {ts} {us} g x v h = record {
   revision = reads-grows us g (h .revision);
 }
 
-pub store-grows : (ts : List Text) (t : Text) → Grows ts (store ts t .table)
-unfolding store
+pub store-grows : (ts : List Text) (t : Text) → Grows ts (intern-text ts t .table)
+unfolding intern-text
 store-grows ts [] = λ i a h. h
 store-grows ts (b ∷ t) = intern-grows text-eq ts (b ∷ t)
 
-pub store-reads : (ts : List Text) (t : Text) → Reads (store ts t .table) (store ts t .ref) (known t)
-unfolding store
+pub store-reads : (ts : List Text) (t : Text) → Reads (intern-text ts t .table) (intern-text ts t .ref) (known t)
+unfolding intern-text
 store-reads ts [] = absent
 store-reads ts (b ∷ t) = present (intern-at text-eq text-eq-ok ts (b ∷ t))
 
 module _ (ts : List Text) (x : Six Text) where
   abbrev t₁ : List Text
-  t₁ = store ts (x .name) .table
+  t₁ = intern-text ts (x .name) .table
 
   abbrev t₂ : List Text
-  t₂ = store t₁ (x .directory) .table
+  t₂ = intern-text t₁ (x .directory) .table
 
   abbrev t₃ : List Text
-  t₃ = store t₂ (x .comp-dir) .table
+  t₃ = intern-text t₂ (x .comp-dir) .table
 
   abbrev t₄ : List Text
-  t₄ = store t₃ (x .srcsrv-name) .table
+  t₄ = intern-text t₃ (x .srcsrv-name) .table
 
   abbrev t₅ : List Text
-  t₅ = store t₄ (x .srcsrv-dir) .table
+  t₅ = intern-text t₄ (x .srcsrv-dir) .table
 
-  g₅ : Grows t₅ (store-six ts x .table)
-  unfolding store-six
+  g₅ : Grows t₅ (intern-six ts x .table)
+  unfolding intern-six
   g₅ = store-grows t₅ (x .revision)
 
-  g₄ : Grows t₄ (store-six ts x .table)
+  g₄ : Grows t₄ (intern-six ts x .table)
   g₄ i a h = g₅ i a (store-grows t₄ (x .srcsrv-dir) i a h)
 
-  g₃ : Grows t₃ (store-six ts x .table)
+  g₃ : Grows t₃ (intern-six ts x .table)
   g₃ i a h = g₄ i a (store-grows t₃ (x .srcsrv-name) i a h)
 
-  g₂ : Grows t₂ (store-six ts x .table)
+  g₂ : Grows t₂ (intern-six ts x .table)
   g₂ i a h = g₃ i a (store-grows t₂ (x .comp-dir) i a h)
 
-  g₁ : Grows t₁ (store-six ts x .table)
+  g₁ : Grows t₁ (intern-six ts x .table)
   g₁ i a h = g₂ i a (store-grows t₁ (x .directory) i a h)
 
-  pub six-store-grows : Grows ts (store-six ts x .table)
+  pub six-store-grows : Grows ts (intern-six ts x .table)
   six-store-grows i a h = g₁ i a (store-grows ts (x .name) i a h)
 
-  pub six-store-reads : SixReads (store-six ts x .table) (store-six ts x .ref) (known-six x)
-  unfolding store-six
+  pub six-store-reads : SixReads (intern-six ts x .table) (intern-six ts x .ref) (known-six x)
+  unfolding intern-six
   six-store-reads = record {
-    name = reads-grows (store-six ts x .table) g₁ (store-reads ts (x .name));
-    directory = reads-grows (store-six ts x .table) g₂ (store-reads t₁ (x .directory));
-    comp-dir = reads-grows (store-six ts x .table) g₃ (store-reads t₂ (x .comp-dir));
-    srcsrv-name = reads-grows (store-six ts x .table) g₄ (store-reads t₃ (x .srcsrv-name));
-    srcsrv-dir = reads-grows (store-six ts x .table) g₅ (store-reads t₄ (x .srcsrv-dir));
+    name = reads-grows (intern-six ts x .table) g₁ (store-reads ts (x .name));
+    directory = reads-grows (intern-six ts x .table) g₂ (store-reads t₁ (x .directory));
+    comp-dir = reads-grows (intern-six ts x .table) g₃ (store-reads t₂ (x .comp-dir));
+    srcsrv-name = reads-grows (intern-six ts x .table) g₄ (store-reads t₃ (x .srcsrv-name));
+    srcsrv-dir = reads-grows (intern-six ts x .table) g₅ (store-reads t₄ (x .srcsrv-dir));
     revision = store-reads t₅ (x .revision);
   }
 
@@ -309,44 +317,44 @@ module _ {L : Type 0} where
   range-there e es x h = rw (ne-eqb x (e .key) h)
 
   module _ (k : ℕ) (v : L) (e : Entry L) (es : List (Entry L)) where
-    put-here : k ≡ e .key → put-range k v (e ∷ es) ≡ record { key = k; value = v } ∷ es
-    unfolding put-range
+    put-here : k ≡ e .key → range-put k v (e ∷ es) ≡ record { key = k; value = v } ∷ es
+    unfolding range-put
     put-here h = rw (eq-eqb k (e .key) h)
 
-    put-there : k ≢ e .key → put-range k v (e ∷ es) ≡ e ∷ put-range k v es
-    unfolding put-range
+    put-there : k ≢ e .key → range-put k v (e ∷ es) ≡ e ∷ range-put k v es
+    unfolding range-put
     put-there h = rw (ne-eqb k (e .key) h)
 
-  pub put-same : (k : ℕ) (v : L) (t : List (Entry L)) → range-at (put-range k v t) k ≡ some v
-  unfolding put-range
+  pub put-same : (k : ℕ) (v : L) (t : List (Entry L)) → range-at (range-put k v t) k ≡ some v
+  unfolding range-put
   put-same k v [] = range-here _ [] k refl
   put-same k v (e ∷ es) = go (eq-or-ne k (e .key)) (put-same k v es)
     where
-      go : (k ≡ e .key) ⊎ (k ≢ e .key) → range-at (put-range k v es) k ≡ some v → range-at (put-range k v (e ∷ es)) k ≡ some v
+      go : (k ≡ e .key) ⊎ (k ≢ e .key) → range-at (range-put k v es) k ≡ some v → range-at (range-put k v (e ∷ es)) k ≡ some v
       go (inl z) ih = rw (put-here k v e es z) (range-here _ es k refl)
-      go (inr z) ih = rw (put-there k v e es z) (range-there e (put-range k v es) k z ∙ ih)
+      go (inr z) ih = rw (put-there k v e es z) (range-there e (range-put k v es) k z ∙ ih)
 
-  pub put-other : (k : ℕ) (v : L) (t : List (Entry L)) (x : ℕ) → x ≢ k → range-at (put-range k v t) x ≡ range-at t x
-  unfolding put-range
+  pub put-other : (k : ℕ) (v : L) (t : List (Entry L)) (x : ℕ) → x ≢ k → range-at (range-put k v t) x ≡ range-at t x
+  unfolding range-put
   put-other k v [] x n = range-there _ [] x n
   put-other k v (e ∷ es) x n = go (eq-or-ne k (e .key)) (eq-or-ne x (e .key)) (put-other k v es x n)
     where
-      go : (k ≡ e .key) ⊎ (k ≢ e .key) → (x ≡ e .key) ⊎ (x ≢ e .key) → range-at (put-range k v es) x ≡ range-at es x → range-at (put-range k v (e ∷ es)) x ≡ range-at (e ∷ es) x
+      go : (k ≡ e .key) ⊎ (k ≢ e .key) → (x ≡ e .key) ⊎ (x ≢ e .key) → range-at (range-put k v es) x ≡ range-at es x → range-at (range-put k v (e ∷ es)) x ≡ range-at (e ∷ es) x
       go (inl z) w ih = rw (put-here k v e es z) (range-there _ es x n ∙ sym (range-there e es x (omega arith)))
-      go (inr z) (inl w) ih = rw (put-there k v e es z) (range-here e (put-range k v es) x w ∙ sym (range-here e es x w))
-      go (inr z) (inr w) ih = rw (put-there k v e es z) (range-there e (put-range k v es) x w ∙ ih ∙ sym (range-there e es x w))
+      go (inr z) (inl w) ih = rw (put-there k v e es z) (range-here e (range-put k v es) x w ∙ sym (range-here e es x w))
+      go (inr z) (inr w) ih = rw (put-there k v e es z) (range-there e (range-put k v es) x w ∙ ih ∙ sym (range-there e es x w))
 
   -- each start stands once
   abbrev pub Unique : List (Entry L) → Type 0
   Unique [] = Unit {0}
   Unique (e ∷ es) = (range-at es (e .key) ≡ none) × Unique es
 
-  pub put-unique : (k : ℕ) (v : L) (t : List (Entry L)) → Unique t → Unique (put-range k v t)
-  unfolding put-range range-at
+  pub put-unique : (k : ℕ) (v : L) (t : List (Entry L)) → Unique t → Unique (range-put k v t)
+  unfolding range-put range-at
   put-unique k v [] u = (refl, tt)
   put-unique k v (e ∷ es) u = go (eq-or-ne k (e .key)) (put-unique k v es (u .1))
     where
-      go : (k ≡ e .key) ⊎ (k ≢ e .key) → Unique (put-range k v es) → Unique (put-range k v (e ∷ es))
+      go : (k ≡ e .key) ⊎ (k ≢ e .key) → Unique (range-put k v es) → Unique (range-put k v (e ∷ es))
       go (inl z) ih = rw (put-here k v e es z) (subst (λ (j : ℕ). range-at es j ≡ none) (sym z) (u .0), u .1)
       go (inr z) ih = rw (put-there k v e es z) (put-other k v es (e .key) (λ q. z (sym q)) ∙ u .0, ih)
 
@@ -391,9 +399,6 @@ module _ {L : Type 0} where
       go none h = step-none e es x h
       go (some d) h = step-some e es x d h
 
-  none-some : {A : Type 0} {l : L} → _≡_ {A = Option L} none (some l) → A
-  none-some e = let bad : _≡_ {A = ℕ} 0 1 = cc in absurd (omega arith)
-
   -- there is only one such
   pub best-is : (t : List (Entry L)) (x key : ℕ) (l : L) → key ≤ x → range-at t key ≡ some l → ((k : ℕ) → key < k → k ≤ x → range-at t k ≡ none)
       → (e : Entry L) × (best t x ≡ some e) × (e .key ≡ key) × (e .value ≡ l)
@@ -410,8 +415,5 @@ module _ {L : Type 0} where
               (λ y. ⊎-elim (λ w. none-some (sym (b (e .key) w (a .low)) ∙ a .holds)) (λ w. omega arith) (lt-or-ge key (e .key)))
               (lt-or-ge (e .key) key)
 
-          some-eq : (p q : L) → _≡_ {A = Option L} (some p) (some q) → p ≡ q
-          some-eq p q r = cc
-
           value : e .value ≡ l
-          value = some-eq (e .value) l (sym (a .holds) ∙ subst (λ (k : ℕ). range-at t k ≡ some l) (sym same) g)
+          value = some-eq (sym (a .holds) ∙ subst (λ (k : ℕ). range-at t k ≡ some l) (sym same) g)

@@ -16,11 +16,11 @@ use borrow.Author.Tests.{eq-eqb, ltb-false, leb-true}
 use Rattle.model.specs.Basics.{_∈_, Deep, intern}
 use Rattle.model.specs.Rows.{MAX, Text, LineRow, FunctionRow, SymbolRow, Given, tree-rows, symbol-row, skipped, function-end, symbol-skipped, symbol-end}
 use Rattle.model.specs.Machine.{unless-held, put-end, entryM, closingM, named-symbolM}
-use Rattle.model.specs.Converter.{input, deep, op, Setup, Six, File, Function, Location, nowhere, at, Tables, nothing, opt-eq, text-eq, file-eq, function-eq, location-eq, is-nowhere, store, store-six, or-empty, function-name, symbol-name, directory-of, line-texts, entry-of, range-at, put-range, put-at, begin-row, locate-line, begin-symbol, locate-symbol, enter-call, plain, converted}
+use Rattle.model.specs.Converter.{input, deep, op, Setup, Six, File, Function, Location, nowhere, at, Tables, nothing, opt-eq, text-eq, file-eq, function-eq, location-eq, is-nowhere, intern-text, intern-six, or-empty, function-name, symbol-name, directory-of, line-texts, entry-of, range-at, range-put, put-at, begin-row, locate-line, begin-symbol, locate-symbol, enter-call, plain, converted}
 use Rattle.model.proofs.Maps.{eq-or-ne}
 use Rattle.model.proofs.Spans.{map-∈}
 use Rattle.model.proofs.Intern.{At, intern-new, at-length}
-use Rattle.model.proofs.Chains.{false-true, both-of, put-same, put-other}
+use Rattle.model.proofs.Chains.{false-true, some-eq, both-of, put-same, put-other}
 use Rattle.model.proofs.Couple.{Couple, Limits, Preserves, Allowed, run-both}
 use Rattle.model.proofs.Always.{blank}
 
@@ -56,16 +56,13 @@ module _ {A : Type 0} where
         go (inr p) (inl q) = absurd (clash j i q (p .0) (p .1) h)
         go (inr p) (inr q) = p .0 ∙ sym (q .0)
 
-eqb-whole : (n : ℕ) → eqb n n ≡ true
-eqb-whole n = eq-eqb n n refl
-
 opt-whole : (o : Option ℕ) → opt-eq o o ≡ true
 opt-whole none = refl
-opt-whole (some i) = eqb-whole i
+opt-whole (some i) = eq-eqb i i refl
 
 pub text-whole : (t : Text) → text-eq t t ≡ true
 text-whole [] = refl
-text-whole (a ∷ t) = both-of (eqb a a) (text-eq t t) (eqb-whole a) (text-whole t)
+text-whole (a ∷ t) = both-of (eqb a a) (text-eq t t) (eq-eqb a a refl) (text-whole t)
 
 pub file-whole : (x : File) → file-eq x x ≡ true
 file-whole x =
@@ -73,11 +70,11 @@ file-whole x =
     (opt-whole (x .revision))
 
 pub function-whole : (x : Function) → function-eq x x ≡ true
-function-whole x = both-of _ _ (both-of _ _ (opt-whole (x .name)) (eqb-whole (x .entry))) (eqb-whole (x .language))
+function-whole x = both-of _ _ (both-of _ _ (opt-whole (x .name)) (eq-eqb (x .entry) (x .entry) refl)) (eq-eqb (x .language) (x .language) refl)
 
 pub location-whole : (l : Location) → location-eq l l ≡ true
 location-whole nowhere = refl
-location-whole (at f n i c) = both-of _ _ (both-of _ _ (both-of _ _ (opt-whole f) (eqb-whole n)) (eqb-whole i)) (opt-whole c)
+location-whole (at f n i c) = both-of _ _ (both-of _ _ (both-of _ _ (opt-whole f) (eq-eqb n n refl)) (eq-eqb i i refl)) (opt-whole c)
 
 -- ── The invariant ──
 
@@ -127,8 +124,8 @@ storable-opt : (o : Option Text) → ((t : Text) → o ≡ some t → utf8 t ≡
 storable-opt none h = inl refl
 storable-opt (some t) h = inr (h t refl)
 
-store-texts : (ts : List Text) (t : Text) → Storable t → Texts ts → Texts (store ts t .table)
-unfolding store
+store-texts : (ts : List Text) (t : Text) → Storable t → Texts ts → Texts (intern-text ts t .table)
+unfolding intern-text
 store-texts ts [] u h = h
 store-texts ts (b ∷ t) u h = record {
   good = λ i a k. ⊎-elim (λ z. h .good i a z) (λ (p, e). (λ z. clash (sym e ∙ z), subst (λ (w : Text). utf8 w ≡ true) (sym e) (ok u))) (intern-new text-eq ts (b ∷ t) i a k);
@@ -142,8 +139,8 @@ store-texts ts (b ∷ t) u h = record {
     ok (inl e) = absurd (clash e)
     ok (inr e) = e
 
-six-texts : (ts : List Text) (x : Six Text) → Storable (x .name) → Storable (x .directory) → Storable (x .comp-dir) → Storable (x .srcsrv-name) → Storable (x .srcsrv-dir) → Storable (x .revision) → Texts ts → Texts (store-six ts x .table)
-unfolding store-six
+six-texts : (ts : List Text) (x : Six Text) → Storable (x .name) → Storable (x .directory) → Storable (x .comp-dir) → Storable (x .srcsrv-name) → Storable (x .srcsrv-dir) → Storable (x .revision) → Texts ts → Texts (intern-six ts x .table)
+unfolding intern-six
 six-texts ts x a b c d e f h = store-texts _ (x .revision) f (store-texts _ (x .srcsrv-dir) e (store-texts _ (x .srcsrv-name) d (store-texts _ (x .comp-dir) c (store-texts _ (x .directory) b (store-texts ts (x .name) a h)))))
 
 pub compact-nothing : Compact nothing
@@ -213,11 +210,8 @@ module _ (X : Setup) where
     ranges-low = λ j c e. go j c e (eq-or-ne j k);
   }
     where
-      some-eq : (p q : Location) → _≡_ {A = Option Location} (some p) (some q) → p ≡ q
-      some-eq p q r = cc
-
-      go : (j : ℕ) (c : Location) → range-at (put-range k l (s .ranges)) j ≡ some c → (j ≡ k) ⊎ (j ≢ k) → (j ≤ MAX) × Low c
-      go j c e (inl z) = (omega arith, subst Low (some-eq l c (sym (put-same k l (s .ranges)) ∙ subst (λ (i : ℕ). range-at (put-range k l (s .ranges)) i ≡ some c) z e)) w)
+      go : (j : ℕ) (c : Location) → range-at (range-put k l (s .ranges)) j ≡ some c → (j ≡ k) ⊎ (j ≢ k) → (j ≤ MAX) × Low c
+      go j c e (inl z) = (omega arith, subst Low (some-eq (sym (put-same k l (s .ranges)) ∙ subst (λ (i : ℕ). range-at (range-put k l (s .ranges)) i ≡ some c) z e)) w)
       go j c e (inr n) = h .ranges-low j c (sym (put-other k l (s .ranges) j n) ∙ e)
 
   add-compact : (s : Tables) (ts : List Text) (f : Function) → Texts ts → f .entry ≤ MAX → f .language ≤ MAX → Compact s

@@ -10,7 +10,7 @@ use Rattle.names.specs.Names.{undecorated, starts-with, contains, special, rfin
 use Rattle.model.specs.Basics.{before, place, sort, Entry, intern}
 use Rattle.model.specs.Rows.{MAX, Text, LineRow, FunctionRow, Given, tree-rows, symbol-row, boundaries}
 use Rattle.model.specs.Machine.{advanceM, set-atM, kid-spansM, unless-held, put-end, walkM, loopM, entryM, closingM, rowM, convertM, startM, named-symbolM, convert-symbolM, convert-opM, runM}
-use Rattle.model.specs.Converter.{Setup, Location, nowhere, at, Tables, nothing, store, store-six, range-at, put-range, begin-row, locate-line, begin-symbol, locate-symbol, enter-call, converted}
+use Rattle.model.specs.Converter.{Setup, Location, nowhere, at, Tables, nothing, intern-text, intern-six, range-at, range-put, begin-row, locate-line, begin-symbol, locate-symbol, enter-call, converted}
 
 abbrev setup : Setup
 setup = record { functions-on = false; symbols-on = false }
@@ -83,5 +83,5 @@ pub record Corners : Type 0 where
   pub straddles : starts (converted setup (sym 0xfffffff0 16 ∷ sym 0xfffffff8 7 ∷ [])) ≡ 0xfffffff0 ∷ 0xfffffff8 ∷ MAX ∷ []
 
 pub corners : Corners
-unfolding before place sort intern advanceM set-atM kid-spansM unless-held put-end walkM loopM entryM closingM rowM convertM startM named-symbolM convert-symbolM convert-opM runM store store-six range-at put-range begin-row locate-line begin-symbol locate-symbol enter-call utf8 chars charLen UTF8-char fits within undecorated starts-with contains special rfind cut sized parses number digits digit value prefixed
+unfolding before place sort intern advanceM set-atM kid-spansM unless-held put-end walkM loopM entryM closingM rowM convertM startM named-symbolM convert-symbolM convert-opM runM intern-text intern-six range-at range-put begin-row locate-line begin-symbol locate-symbol enter-call utf8 chars charLen UTF8-char fits within undecorated starts-with contains special rfind cut sized parses number digits digit value prefixed
 corners = record { m4 = refl; m5 = refl; cut-skips = refl; empty-stores = refl; skipped-marks = refl; walk-below = refl; not-visited = refl; end-cut = refl; number-is-cut = refl; not-utf8 = refl; switches = refl; not-replaced = refl; end-replaced = refl; nothing-changed = refl; straddles = refl }

@@ -9,17 +9,13 @@ use Prim.Native.Nat.{ℕ}
 use Rattle.model.specs.Basics.{_∈_, Deep}
 use Rattle.model.specs.Rows.{LineRow, FunctionRow, SymbolRow, Given, tree-rows, symbol-row, boundaries, skipped, function-end, symbol-skipped, symbol-end}
 use Rattle.model.specs.Machine.{Machine, convert-opM, runM, finishM}
-use Rattle.model.specs.Converter.{input, deep, op, Setup, Location, nowhere, at, Tables, nothing, is-nowhere, range-at, put-at, begin-row, locate-line, begin-symbol, locate-symbol, enter-call, later, cleared, plain, converted}
-use Rattle.model.specs.Counts.{Capacities, fits?}
+use Rattle.model.specs.Converter.{input, deep, op, Setup, Location, nowhere, at, Tables, nothing, is-nowhere, range-at, put-at, begin-row, locate-line, begin-symbol, locate-symbol, enter-call, later, cleared, ending, plain, converted}
+use Rattle.model.specs.Counts.{Capacities, plain-fits?}
 use Rattle.model.proofs.Spans.{map-∈}
 use Rattle.model.proofs.Chains.{false-true, Larger}
 use Rattle.model.proofs.Keeps.{Any, larger-refl, larger-trans, put-larger, ending-larger, begin-larger, locate-larger, enter-larger, begin-symbol-larger, locate-symbol-larger}
 use Rattle.model.proofs.Couple.{Couple, Limits, Next, Allowed, op-both, run-both, Alike, Single, single-preserves, finish-both}
 use Rattle.model.proofs.Grown.{exceeds-up, fits-nothing, Grown, grown-refl, grown-trans, put-grown, begin-grown, locate-grown, enter-grown, symbol-name-grown, symbol-location-grown, mark-grown}
-
--- s, with another last end
-abbrev pub ending : Tables → Option ℕ → Tables
-ending s o = record { texts = s .texts; files = s .files; functions = s .functions; calls = s .calls; ranges = s .ranges; last = o }
 
 -- what encodes what, in the tables s: `Enc s w`: the state w holds s. `Loc s l l′`, `Cal s c c′`, `Fun s r r′`, `Txt s p p′`: a location, a reference to a call location, to a function,
 -- to a symbol's text. `full w`: a table would have needed more rows or bytes than its capacity
@@ -35,23 +31,23 @@ module _ {R′ P′ L′ C′ W : Type 0} (K : Capacities) (E : Encoding R′ P�
   -- w is not full, and holds s, which fits
   pub record Holds (s : Tables) (w : W) : Type 0 where
     pub room : E .full w ≡ false
-    pub fits : fits? K s ≡ true
+    pub fits : plain-fits? K s ≡ true
     pub enc : E .Enc s w
 
   -- full, and rightly so
   abbrev pub Full : Tables → W → Type 0
-  Full s w = (E .full w ≡ true) × (fits? K s ≡ false)
+  Full s w = (E .full w ≡ true) × (plain-fits? K s ≡ false)
 
   -- u is where an operation leaves the other machine, and t where it leaves the plain one, with `r` to be shown of their answers: u holds t if that fits, and is full if it doesn't
   pub record Goes (t : Tables) (u : W) (r : Type 0) : Type 0 where
-    pub fitting : fits? K t ≡ true → (E .full u ≡ false) × E .Enc t u × r
-    pub exceeding : fits? K t ≡ false → E .full u ≡ true
+    pub fitting : plain-fits? K t ≡ true → (E .full u ≡ false) × E .Enc t u × r
+    pub exceeding : plain-fits? K t ≡ false → E .full u ≡ true
 
   -- an operation after another: where the first leaves no room, the second leaves none
   pub goes-then : {t v : Tables} {u x : W} {r r′ : Type 0} → Goes t u r → Grown t v → (E .full u ≡ true → E .full x ≡ true) → (Holds t u → r → Goes v x r′) → Goes v x r′
-  goes-then {t} {v} {u} {x} {r} {r′} g up sticky next = go (fits? K t) refl
+  goes-then {t} {v} {u} {x} {r} {r′} g up sticky next = go (plain-fits? K t) refl
     where
-      go : (b : Bool) → fits? K t ≡ b → Goes v x r′
+      go : (b : Bool) → plain-fits? K t ≡ b → Goes v x r′
       go true e = let (o, h, k) = g .fitting e in next (record { room = o; fits = e; enc = h }) k
       go false e = let f = exceeds-up K up e in record { fitting = λ z. false-true (sym f ∙ z); exceeding = λ z. sticky (g .exceeding e) }
 
@@ -133,9 +129,9 @@ module _ {R′ P′ L′ C′ W : Type 0} (K : Capacities) (E : Encoding R′ P�
     -- an operation: it was full and stays so, or goes as it should
     step : {s t : Tables} {w u : W} {r : Type 0} → Larger s t → Grown s t → (E .full w ≡ true → E .full u ≡ true) → (Holds s w → Goes t u r) → State s w → After s w t u × Or u r
     step a b sticky g (inl h) = (full-after h a b (sticky (h .0)), inl (sticky (h .0)))
-    step {s} {t} {w} {u} {r} a b sticky g (inr h) = go (fits? K t) refl (g h)
+    step {s} {t} {w} {u} {r} a b sticky g (inr h) = go (plain-fits? K t) refl (g h)
       where
-        go : (f : Bool) → fits? K t ≡ f → Goes t u r → After s w t u × Or u r
+        go : (f : Bool) → plain-fits? K t ≡ f → Goes t u r → After s w t u × Or u r
         go true e k = let (o, c, v) = k .fitting e in (record { ext = (a, b, sticky); state = inr (record { room = o; fits = e; enc = c }) }, inr v)
         go false e k = let f = k .exceeding e in (record { ext = (a, b, sticky); state = inl (f, e) }, inl f)
 

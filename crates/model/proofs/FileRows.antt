@@ -18,9 +18,9 @@ use Rattle.model.specs.Basics.{_∈_, Entry}
 use Rattle.model.specs.Rows.{MAX, Text, Given}
 use Rattle.model.specs.Converter.{Setup, File, Function, Location, nowhere, at, Tables, range-at, converted}
 use Rattle.model.specs.Frames.{read}
-use Rattle.model.specs.Counts.{text-size, text-bytes, text-offset, Capacities, Lent, fits?}
-use Rattle.model.specs.Written.{by-start, over, written, locations}
-use Rattle.model.specs.Words.{index-word, text-word, file-words, function-words, location-words, starts, string-section}
+use Rattle.model.specs.Counts.{text-size, text-bytes, text-offset, Capacities, Lent, plain-fits?}
+use Rattle.model.specs.Written.{by-start, over, as-written, locations}
+use Rattle.model.specs.FileWords.{index-word, text-word, file-words, function-words, location-words, starts, string-section}
 use Rattle.model.proofs.Intern.{At, at-append, at-map}
 use Rattle.model.proofs.Chains.{at-get, CallsDown, range-here, range-there}
 use Rattle.model.proofs.Always.{Within, InTables, starts-unique, callers-earlier, calls-within, ranges-within, names-within, files-within}
@@ -69,7 +69,7 @@ in-tables : (s : Tables) (r : List (Entry Location)) (l : Location) → InTables
 in-tables s r nowhere h = h
 in-tables s r (at f n i c) h = h
 
-module _ (X : Setup) (gs : List Given) (fitting : (g : Given) → g ∈ gs → GivenFits g) (K : Capacities) (lent : Lent K) (room : fits? K (converted X gs) ≡ true) where
+module _ (X : Setup) (gs : List Given) (fitting : (g : Given) → g ∈ gs → GivenFits g) (K : Capacities) (lent : Lent K) (room : plain-fits? K (converted X gs) ≡ true) where
   abbrev s : Tables
   s = converted X gs
 
@@ -80,7 +80,7 @@ module _ (X : Setup) (gs : List Given) (fitting : (g : Given) → g ∈ gs → G
   range-held i e h = sym (by-start-same (s .ranges) (e .key)) ∙ sorted-at 0 rows (by-start-sorted (s .ranges)) i e h .1
 
   -- EVERY LIST that 14 leaves and that fits
-  pub written-in-file : InFile (written s)
+  pub written-in-file : InFile (as-written s)
   written-in-file =
       let n : Fits K s = needs K s room in
       let c : Compact s = always-compact X gs fitting in
@@ -98,7 +98,7 @@ module _ (X : Setup) (gs : List Given) (fitting : (g : Given) → g ∈ gs → G
             ⊎-elim (λ k. (in-tables s rows l (calls-within X gs i l k), c .calls-low i l k))
             (λ (j, z, k). let (e, p, q) = at-map (λ (d : Entry Location). d .value) rows j l k in
             let held = range-held j e p in
-            subst (λ (m : Location). InTables (written s) m × Low m) q (in-tables s rows (e .value) (ranges-within X gs (e .key) (e .value) held), c .ranges-low (e .key) (e .value) held .1))
+            subst (λ (m : Location). InTables (as-written s) m × Low m) q (in-tables s rows (e .value) (ranges-within X gs (e .key) (e .value) held), c .ranges-low (e .key) (e .value) held .1))
             (at-append (s .calls) (map (λ (d : Entry Location). d .value) rows) i l h);
         callers-down = callers-earlier X gs;
         ascending = by-start-sorted (s .ranges);

@@ -12,8 +12,8 @@ use borrow.Author.Tests.{leb-true, le-leb}
 use Rattle.model.specs.Basics.{Entry, intern}
 use Rattle.model.specs.Rows.{Text, LineRow, FunctionRow, SymbolRow, Given}
 use Rattle.model.specs.Machine.{OpM, treeM, symbolM, unless-held, put-end, entryM, closingM, named-symbolM, convert-opM, runM}
-use Rattle.model.specs.Converter.{input, op, Setup, Six, File, Function, Location, nowhere, at, Tables, nothing, text-eq, file-eq, function-eq, location-eq, is-nowhere, store, store-six, function-name, symbol-name, line-texts, range-at, put-range, put-at, begin-row, locate-line, begin-symbol, locate-symbol, enter-call, plain, converted}
-use Rattle.model.specs.Counts.{Capacities, fits?, text-size, text-bytes}
+use Rattle.model.specs.Converter.{input, op, Setup, Six, File, Function, Location, nowhere, at, Tables, nothing, text-eq, file-eq, function-eq, location-eq, is-nowhere, intern-text, intern-six, function-name, symbol-name, line-texts, range-at, range-put, put-at, begin-row, locate-line, begin-symbol, locate-symbol, enter-call, plain, converted}
+use Rattle.model.specs.Counts.{Capacities, plain-fits?, text-size, text-bytes}
 use Rattle.model.proofs.Chains.{false-true, both-true, both-of}
 use Rattle.model.proofs.Couple.{Couple, Limits, Preserves, Allowed, run-both}
 use Rattle.model.proofs.Always.{blank}
@@ -62,24 +62,24 @@ record TextsGrown (ts us : List Text) : Type 0 where
   rows : length ts ≤ length us
   size : text-bytes ts ≤ text-bytes us
 
-store-grown : (ts : List Text) (t : Text) → TextsGrown ts (store ts t .table)
-unfolding store
+store-grown : (ts : List Text) (t : Text) → TextsGrown ts (intern-text ts t .table)
+unfolding intern-text
 store-grown ts [] = record { rows = omega arith; size = omega arith }
 store-grown ts (b ∷ t) = record { rows = intern-length text-eq ts (b ∷ t); size = intern-bytes ts (b ∷ t) }
 
 then-texts : {ts us vs : List Text} → TextsGrown ts us → TextsGrown us vs → TextsGrown ts vs
 then-texts p q = record { rows = omega (arith, p .rows, q .rows); size = omega (arith, p .size, q .size) }
 
-six-grown : (ts : List Text) (x : Six Text) → TextsGrown ts (store-six ts x .table)
-unfolding store-six
+six-grown : (ts : List Text) (x : Six Text) → TextsGrown ts (intern-six ts x .table)
+unfolding intern-six
 six-grown ts x = then-texts (store-grown ts (x .name)) (then-texts (store-grown _ (x .directory)) (then-texts (store-grown _ (x .comp-dir)) (then-texts (store-grown _ (x .srcsrv-name)) (then-texts (store-grown _ (x .srcsrv-dir)) (store-grown _ (x .revision))))))
 
-put-length : (k : ℕ) (l : Location) (t : List (Entry Location)) → length t ≤ length (put-range k l t)
-unfolding put-range
+put-length : (k : ℕ) (l : Location) (t : List (Entry Location)) → length t ≤ length (range-put k l t)
+unfolding range-put
 put-length k l [] = omega arith
 put-length k l (e ∷ es) = go (eqb k (e .key)) (put-length k l es)
   where
-    go : (b : Bool) → length es ≤ length (put-range k l es) → suc (length es) ≤ length (cond b (record { key = k; value = l } ∷ es) (e ∷ put-range k l es))
+    go : (b : Bool) → length es ≤ length (range-put k l es) → suc (length es) ≤ length (cond b (record { key = k; value = l } ∷ es) (e ∷ range-put k l es))
     go true h = omega arith
     go false h = omega arith
 
@@ -212,8 +212,8 @@ module _ (K : Capacities) where
     pub calls : length (s .calls) ≤ K .calls
     pub ranges : length (s .ranges) ≤ K .ranges
 
-  pub needs : (s : Tables) → fits? K s ≡ true → Fits s
-  unfolding fits?
+  pub needs : (s : Tables) → plain-fits? K s ≡ true → Fits s
+  unfolding plain-fits?
   needs s h =
       let (h₁, f) = both-true _ (leb (length (s .ranges)) (K .ranges)) h in
       let (h₂, e) = both-true _ (leb (length (s .calls)) (K .calls)) h₁ in
@@ -222,13 +222,13 @@ module _ (K : Capacities) where
       let (a, b) = both-true (leb (length (s .texts)) (K .texts)) (leb (text-bytes (s .texts)) (K .bytes)) h₄ in
       record { texts = leb-true _ _ a; bytes = leb-true _ _ b; files = leb-true _ _ c; functions = leb-true _ _ d; calls = leb-true _ _ e; ranges = leb-true _ _ f }
 
-  pub room : (s : Tables) → Fits s → fits? K s ≡ true
-  unfolding fits?
+  pub room : (s : Tables) → Fits s → plain-fits? K s ≡ true
+  unfolding plain-fits?
   room s n =
       both-of _ _ (both-of _ _ (both-of _ _ (both-of _ _ (both-of _ _ (le-leb _ _ (n .texts)) (le-leb _ _ (n .bytes))) (le-leb _ _ (n .files))) (le-leb _ _ (n .functions))) (le-leb _ _ (n .calls)))
       (le-leb _ _ (n .ranges))
 
-  pub fits-down : {s t : Tables} → Grown s t → fits? K t ≡ true → fits? K s ≡ true
+  pub fits-down : {s t : Tables} → Grown s t → plain-fits? K t ≡ true → plain-fits? K s ≡ true
   fits-down {s} {t} g h =
       let n = needs t h in
       room s
@@ -241,44 +241,44 @@ module _ (K : Capacities) where
         ranges = omega (arith, g .ranges, n .ranges);
       })
 
-  pub exceeds-up : {s t : Tables} → Grown s t → fits? K s ≡ false → fits? K t ≡ false
-  exceeds-up {s} {t} g h = go (fits? K t) refl
+  pub exceeds-up : {s t : Tables} → Grown s t → plain-fits? K s ≡ false → plain-fits? K t ≡ false
+  exceeds-up {s} {t} g h = go (plain-fits? K t) refl
     where
-      go : (b : Bool) → fits? K t ≡ b → fits? K t ≡ false
+      go : (b : Bool) → plain-fits? K t ≡ b → plain-fits? K t ≡ false
       go true e = false-true (sym h ∙ fits-down g e)
       go false e = e
 
-  pub fits-nothing : fits? K nothing ≡ true
+  pub fits-nothing : plain-fits? K nothing ≡ true
   fits-nothing = room nothing (record { texts = omega arith; bytes = omega arith; files = omega arith; functions = omega arith; calls = omega arith; ranges = omega arith })
 
   -- where one table changes and the others fit, only that one matters
-  only : (t : Tables) (p : Bool) → (p ≡ true → Fits t) → (Fits t → p ≡ true) → fits? K t ≡ p
-  only t p f g = go p (fits? K t) refl refl
+  only : (t : Tables) (p : Bool) → (p ≡ true → Fits t) → (Fits t → p ≡ true) → plain-fits? K t ≡ p
+  only t p f g = go p (plain-fits? K t) refl refl
     where
-      go : (a b : Bool) → p ≡ a → fits? K t ≡ b → fits? K t ≡ p
+      go : (a b : Bool) → p ≡ a → plain-fits? K t ≡ b → plain-fits? K t ≡ p
       go true b e z = room t (f e) ∙ sym e
       go false true e z = false-true (sym e ∙ g (needs t z))
       go false false e z = z ∙ sym e
 
-  module _ (s : Tables) (fit : fits? K s ≡ true) where
+  module _ (s : Tables) (fit : plain-fits? K s ≡ true) where
     abbrev n : Fits s
     n = needs s fit
 
-    pub fits-texts : (ts : List Text) → fits? K (record { texts = ts; files = s .files; functions = s .functions; calls = s .calls; ranges = s .ranges; last = s .last }) ≡ (leb (length ts) (K .texts) && leb (text-bytes ts) (K .bytes))
+    pub fits-texts : (ts : List Text) → plain-fits? K (record { texts = ts; files = s .files; functions = s .functions; calls = s .calls; ranges = s .ranges; last = s .last }) ≡ (leb (length ts) (K .texts) && leb (text-bytes ts) (K .bytes))
     fits-texts ts =
         only _ _
         (λ e. let (a, b) = both-true (leb (length ts) (K .texts)) _ e in
         record { texts = leb-true _ _ a; bytes = leb-true _ _ b; files = n .files; functions = n .functions; calls = n .calls; ranges = n .ranges })
         (λ h. both-of _ _ (le-leb _ _ (h .texts)) (le-leb _ _ (h .bytes)))
 
-    pub fits-files : (fs : List File) → fits? K (record { texts = s .texts; files = fs; functions = s .functions; calls = s .calls; ranges = s .ranges; last = s .last }) ≡ leb (length fs) (K .files)
+    pub fits-files : (fs : List File) → plain-fits? K (record { texts = s .texts; files = fs; functions = s .functions; calls = s .calls; ranges = s .ranges; last = s .last }) ≡ leb (length fs) (K .files)
     fits-files fs = only _ _ (λ e. record { texts = n .texts; bytes = n .bytes; files = leb-true _ _ e; functions = n .functions; calls = n .calls; ranges = n .ranges }) (λ h. le-leb _ _ (h .files))
 
-    pub fits-functions : (fs : List Function) → fits? K (record { texts = s .texts; files = s .files; functions = fs; calls = s .calls; ranges = s .ranges; last = s .last }) ≡ leb (length fs) (K .functions)
+    pub fits-functions : (fs : List Function) → plain-fits? K (record { texts = s .texts; files = s .files; functions = fs; calls = s .calls; ranges = s .ranges; last = s .last }) ≡ leb (length fs) (K .functions)
     fits-functions fs = only _ _ (λ e. record { texts = n .texts; bytes = n .bytes; files = n .files; functions = leb-true _ _ e; calls = n .calls; ranges = n .ranges }) (λ h. le-leb _ _ (h .functions))
 
-    pub fits-calls : (cs : List Location) → fits? K (record { texts = s .texts; files = s .files; functions = s .functions; calls = cs; ranges = s .ranges; last = s .last }) ≡ leb (length cs) (K .calls)
+    pub fits-calls : (cs : List Location) → plain-fits? K (record { texts = s .texts; files = s .files; functions = s .functions; calls = cs; ranges = s .ranges; last = s .last }) ≡ leb (length cs) (K .calls)
     fits-calls cs = only _ _ (λ e. record { texts = n .texts; bytes = n .bytes; files = n .files; functions = n .functions; calls = leb-true _ _ e; ranges = n .ranges }) (λ h. le-leb _ _ (h .calls))
 
-    pub fits-ranges : (rs : List (Entry Location)) → fits? K (record { texts = s .texts; files = s .files; functions = s .functions; calls = s .calls; ranges = rs; last = s .last }) ≡ leb (length rs) (K .ranges)
+    pub fits-ranges : (rs : List (Entry Location)) → plain-fits? K (record { texts = s .texts; files = s .files; functions = s .functions; calls = s .calls; ranges = rs; last = s .last }) ≡ leb (length rs) (K .ranges)
     fits-ranges rs = only _ _ (λ e. record { texts = n .texts; bytes = n .bytes; files = n .files; functions = n .functions; calls = n .calls; ranges = leb-true _ _ e }) (λ h. le-leb _ _ (h .ranges))

@@ -10,7 +10,7 @@ use Rattle.text.specs.Utf8.{utf8, chars, charLen, UTF8-char, fits, within}
 use Rattle.model.specs.Basics.{_∈_, here, there, before, place, sort, intern}
 use Rattle.model.specs.Rows.{MAX, LineRow, FunctionRow, SymbolRow, Given, tree-rows, symbol-row, line-size}
 use Rattle.model.specs.Machine.{advanceM, set-atM, kid-spansM, unless-held, put-end, walkM, loopM, entryM, closingM, rowM, convertM, startM, named-symbolM, convert-symbolM, convert-opM, runM}
-use Rattle.model.specs.Converter.{store, store-six, range-at, put-range, begin-row, locate-line, begin-symbol, locate-symbol, enter-call, converted}
+use Rattle.model.specs.Converter.{intern-text, intern-six, range-at, range-put, begin-row, locate-line, begin-symbol, locate-symbol, enter-call, converted}
 use Rattle.model.specs.Frames.{Frame, callers, frames-of, better, best, frames-at}
 use Rattle.model.specs.Premises.{inlinees, RowWell, InlineeWell, TreeWell, WellNested, SymbolClear, Separate, AllSeparate, line-at, nested-at}
 use Rattle.model.proofs.Spans.{∈-elim}
@@ -138,7 +138,7 @@ unfolding nested-at line-at utf8 chars charLen UTF8-char fits within
 list-1003 = demand plain-setup list list-well list-separate root-row (inlinee-row ∷ []) (there here) 0x1003 (λ e. let bad : _≡_ {A = ℕ} 0 1 = cc in omega arith) .0
 
 list-computed : frames-at (converted plain-setup list) 0x1003 ≡ frame pos MAX 50 prs ∷ frame trk 0x1000 10 ars ∷ []
-unfolding before place sort intern advanceM set-atM kid-spansM unless-held put-end walkM loopM entryM closingM rowM convertM startM named-symbolM convert-symbolM convert-opM runM store store-six range-at put-range begin-row locate-line begin-symbol locate-symbol enter-call callers frames-of better best frames-at utf8 chars charLen UTF8-char fits within
+unfolding before place sort intern advanceM set-atM kid-spansM unless-held put-end walkM loopM entryM closingM rowM convertM startM named-symbolM convert-symbolM convert-opM runM intern-text intern-six range-at range-put begin-row locate-line begin-symbol locate-symbol enter-call callers frames-of better best frames-at utf8 chars charLen UTF8-char fits within
 list-computed = refl
 
 abbrev no-directory : ℕ → ℕ → Frame

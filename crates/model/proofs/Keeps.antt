@@ -10,13 +10,13 @@ use lib.ListN.{length}
 use lib.Dec.{ltb}
 use Rattle.model.specs.Basics.{Entry, intern}
 use Rattle.model.specs.Rows.{MAX, cut32, Text, LineRow, FunctionRow, SymbolRow}
-use Rattle.model.specs.Converter.{Setup, Six, File, Function, Location, at, Tables, nothing, file-eq, function-eq, location-eq, store, store-six, range-at, put-range, later, cleared, function-name, symbol-name, line-texts, entry-of, put-at, begin-row, locate-line, begin-symbol, locate-symbol, enter-call, plain}
+use Rattle.model.specs.Converter.{Setup, Six, File, Function, Location, at, Tables, nothing, file-eq, function-eq, location-eq, intern-text, intern-six, range-at, range-put, later, cleared, function-name, symbol-name, line-texts, entry-of, put-at, begin-row, locate-line, begin-symbol, locate-symbol, enter-call, ending, plain}
 use Rattle.model.specs.Frames.{Frame, known, known-six}
 use Rattle.model.proofs.Maps.{eq-or-ne}
 use Rattle.model.proofs.Means.{Means}
 use Rattle.model.proofs.Simulate.{Relates, Laws}
 use Rattle.model.proofs.Intern.{At, Grows, intern-at, intern-grows, intern-new}
-use Rattle.model.proofs.Chains.{file-eq-ok, function-eq-ok, location-eq-ok, Reads, reads-grows, SixReads, six-grows, store-grows, store-reads, six-store-grows, six-store-reads, Larger, no-file, a-file, Chain, off, Caller, root, into, chain-larger, caller-larger, push, Down, CallsDown, chain-down, yes-nowhere, no-nowhere, put-same, put-other, Unique, put-unique}
+use Rattle.model.proofs.Chains.{some-eq, file-eq-ok, function-eq-ok, location-eq-ok, Reads, reads-grows, SixReads, six-grows, store-grows, store-reads, six-store-grows, six-store-reads, Larger, no-file, a-file, Chain, off, Caller, root, into, chain-larger, caller-larger, push, Down, CallsDown, chain-down, yes-nowhere, no-nowhere, put-same, put-other, Unique, put-unique}
 
 abbrev LastHeld : Option ℕ → List (Entry Location) → Type 0
 LastHeld o t = (a : ℕ) → o ≡ some a → (l : Location) × (range-at t a ≡ some l)
@@ -31,9 +31,6 @@ larger-trans p q = record {
   functions = λ i a h. q .functions i a (p .functions i a h);
   calls = λ i a h. q .calls i a (p .calls i a h);
 }
-
-some-eq : {A : Type 0} {p q : A} → _≡_ {A = Option A} (some p) (some q) → p ≡ q
-some-eq r = cc
 
 module _ (Fine : List Frame → Type 0) where
   -- l stands for frames, which are fine: so all the indexes on its way lie in their tables
@@ -81,12 +78,12 @@ module _ (Fine : List Frame → Type 0) where
       ranges-in = λ j c e. stands-larger put-larger c (old j c e (eq-or-ne j k));
     }
       where
-        held : (a : ℕ) → s .last ≡ some a → (a ≡ k) ⊎ (a ≢ k) → (m : Location) × (range-at (put-range k l (s .ranges)) a ≡ some m)
+        held : (a : ℕ) → s .last ≡ some a → (a ≡ k) ⊎ (a ≢ k) → (m : Location) × (range-at (range-put k l (s .ranges)) a ≡ some m)
         held a e (inl z) = (l, rw z (put-same k l (s .ranges)))
         held a e (inr n) = let (m, h) = o .last-held a e in (m, put-other k l (s .ranges) a n ∙ h)
 
-        old : (j : ℕ) (c : Location) → range-at (put-range k l (s .ranges)) j ≡ some c → (j ≡ k) ⊎ (j ≢ k) → Stands s c
-        old j c e (inl z) = subst (Stands s) (some-eq (sym (put-same k l (s .ranges)) ∙ subst (λ (i : ℕ). range-at (put-range k l (s .ranges)) i ≡ some c) z e)) st
+        old : (j : ℕ) (c : Location) → range-at (range-put k l (s .ranges)) j ≡ some c → (j ≡ k) ⊎ (j ≢ k) → Stands s c
+        old j c e (inl z) = subst (Stands s) (some-eq (sym (put-same k l (s .ranges)) ∙ subst (λ (i : ℕ). range-at (range-put k l (s .ranges)) i ≡ some c) z e)) st
         old j c e (inr n) = o .ranges-in j c (sym (put-other k l (s .ranges) j n) ∙ e)
 
   -- ── Texts, files and functions ──
@@ -141,9 +138,6 @@ module _ (Fine : List Frame → Type 0) where
     }
 
   -- ── The last end ──
-
-  abbrev ending : Tables → Option ℕ → Tables
-  ending s e = record { texts = s .texts; files = s .files; functions = s .functions; calls = s .calls; ranges = s .ranges; last = e }
 
   pub ending-larger : (s : Tables) (e : Option ℕ) → Larger s (ending s e)
   ending-larger s e = record { texts = λ i a h. h; files = λ i a h. h; functions = λ i a h. h; calls = λ i a h. h }
@@ -203,13 +197,13 @@ module _ (Fine : List Frame → Type 0) where
     pub begin-ordered : (q : FunctionRow) (s : Tables) → Ordered s → Ordered (begin-row X q s .1)
     unfolding begin-row
     begin-ordered q s o =
-        let t = store (s .texts) (function-name X q) in
+        let t = intern-text (s .texts) (function-name X q) in
         add-ordered s (t .table) (record { name = t .ref; entry = entry-of q; language = q .language }) _ (store-grows (s .texts) (function-name X q)) (store-reads (s .texts) (function-name X q)) o
 
     pub begin-made : (q : FunctionRow) (s : Tables) → Made (begin-row X q s .1) q (begin-row X q s .0)
     unfolding begin-row
     begin-made q s =
-        let t = store (s .texts) (function-name X q) in
+        let t = intern-text (s .texts) (function-name X q) in
         let f : Function = record { name = t .ref; entry = entry-of q; language = q .language } in
         record { row = f; stands = intern-at function-eq function-eq-ok (s .functions) f; named = store-reads (s .texts) (function-name X q); entry-is = refl; language-is = refl }
 
@@ -231,7 +225,7 @@ module _ (Fine : List Frame → Type 0) where
       pub locate-ordered : Ordered s → Ordered (locate-line q r n c s .1)
       unfolding locate-line
       locate-ordered o =
-          let t = store-six (s .texts) (line-texts q n) in
+          let t = intern-six (s .texts) (line-texts q n) in
           grown-ordered s (t .table) (intern file-eq (s .files) (t .ref) .table) (s .functions)
           (grown-larger s _ _ (s .functions) (six-store-grows (s .texts) (line-texts q n)) (intern-grows file-eq (s .files) _) (λ i a h. h))
           (λ i h a. inl a)
@@ -249,7 +243,7 @@ module _ (Fine : List Frame → Type 0) where
             entry-is = m .entry-is;
             language-is = m .language-is;
             number-is = refl;
-            file-is = a-file (intern-at file-eq file-eq-ok (s .files) (store-six (s .texts) (line-texts q n) .ref)) (six-store-reads (s .texts) (line-texts q n));
+            file-is = a-file (intern-at file-eq file-eq-ok (s .files) (intern-six (s .texts) (line-texts q n) .ref)) (six-store-reads (s .texts) (line-texts q n));
           })
           k
 

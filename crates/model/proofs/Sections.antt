@@ -13,9 +13,9 @@ use Rattle.model.specs.Basics.{_∈_, Entry}
 use Rattle.model.specs.Rows.{MAX, Text, Given}
 use Rattle.model.specs.Converter.{Setup, Six, File, Function, Location, nowhere, at, Tables, is-nowhere, converted}
 use Rattle.model.specs.Frames.{Frame, read, read-six, file-at, function-at, frame-of, caller-of, frames-at}
-use Rattle.model.specs.Counts.{Capacities, Lent, fits?}
-use Rattle.model.specs.Written.{written, locations, count, met?, follow, frames-from, looked-up}
-use Rattle.model.specs.Words.{index-word, text-word, file-words, function-words, location-words, starts, string-section}
+use Rattle.model.specs.Counts.{Capacities, Lent, plain-fits?}
+use Rattle.model.specs.Written.{as-written, locations, count, met?, follow, frames-from, looked-up}
+use Rattle.model.specs.FileWords.{index-word, text-word, file-words, function-words, location-words, starts, string-section}
 use Rattle.model.proofs.Intern.{At}
 use Rattle.model.proofs.Chains.{six-path, frame-path}
 use Rattle.model.proofs.Always.{Within, InTables}
@@ -241,5 +241,5 @@ module _ (s : Tables) (w : InFile s) where
       go false (suc i) = ap (from-words z) (first i) ∙ from-is (length (s .calls) + i)
 
 -- EVERY LIST that 14 leaves and that fits, EVERY ADDRESS: the words of the file give the plain tables' frames
-pub words-looked-up : (X : Setup) (gs : List Given) → ((g : Given) → g ∈ gs → GivenFits g) → (K : Capacities) → Lent K → fits? K (converted X gs) ≡ true → (x : ℕ) → lookup-words (sections (written (converted X gs))) x ≡ frames-at (converted X gs) x
-words-looked-up X gs fitting K lent room x = lookup-is (written (converted X gs)) (written-in-file X gs fitting K lent room) x ∙ written-looked-up X gs x
+pub words-looked-up : (X : Setup) (gs : List Given) → ((g : Given) → g ∈ gs → GivenFits g) → (K : Capacities) → Lent K → plain-fits? K (converted X gs) ≡ true → (x : ℕ) → lookup-words (sections (as-written (converted X gs))) x ≡ frames-at (converted X gs) x
+words-looked-up X gs fitting K lent room x = lookup-is (as-written (converted X gs)) (written-in-file X gs fitting K lent room) x ∙ written-looked-up X gs x

@@ -9,10 +9,10 @@ use Rattle.text.specs.Utf8.{utf8, chars, charLen, UTF8-char, fits, within}
 use Rattle.model.specs.Basics.{before, place, sort, Entry, intern}
 use Rattle.model.specs.Rows.{MAX, Text, LineRow, FunctionRow, Given, tree-rows}
 use Rattle.model.specs.Machine.{advanceM, set-atM, kid-spansM, unless-held, put-end, walkM, loopM, entryM, closingM, rowM, convertM, startM, named-symbolM, convert-symbolM, convert-opM, runM}
-use Rattle.model.specs.Converter.{Setup, File, Location, nowhere, at, store, store-six, range-at, put-range, begin-row, locate-line, begin-symbol, locate-symbol, enter-call, converted}
+use Rattle.model.specs.Converter.{Setup, File, Location, nowhere, at, intern-text, intern-six, range-at, range-put, begin-row, locate-line, begin-symbol, locate-symbol, enter-call, converted}
 use Rattle.model.specs.Frames.{Frame, callers, frames-of, better, best, frames-at}
 use Rattle.model.specs.Counts.{text-size, text-offset}
-use Rattle.model.specs.Written.{place-range, by-start, written, count, met?, follow, frames-from, looked-up}
+use Rattle.model.specs.Written.{place-range, by-start, as-written, count, met?, follow, frames-from, looked-up}
 
 abbrev pub plain-setup : Setup
 plain-setup = record { functions-on = false; symbols-on = false }
@@ -67,14 +67,14 @@ pub record Worked : Type 0 where
         last = some 0x1010;
       }
   -- the starts of the file, and its 25 bytes of texts
-  pub starts : map (λ (e : Entry Location). e .key) (written (converted plain-setup worked) .ranges) ≡ 0x1000 ∷ 0x1002 ∷ 0x1006 ∷ 0x1008 ∷ 0x1010 ∷ []
+  pub starts : map (λ (e : Entry Location). e .key) (as-written (converted plain-setup worked) .ranges) ≡ 0x1000 ∷ 0x1002 ∷ 0x1006 ∷ 0x1008 ∷ 0x1010 ∷ []
   pub offsets : map (text-offset (converted plain-setup worked .texts)) (0 ∷ 1 ∷ 2 ∷ 3 ∷ 4 ∷ 5 ∷ 6 ∷ []) ≡ 0 ∷ 4 ∷ 9 ∷ 13 ∷ 16 ∷ 20 ∷ 25 ∷ []
   -- M1, M2, M3 and other addresses: in the plain tables, and in those of the file
   pub frames : map (frames-at (converted plain-setup worked)) (0x0fff ∷ 0x1000 ∷ 0x1003 ∷ 0x1007 ∷ 0x100f ∷ 0x1010 ∷ [])
       ≡ [] ∷ (frame trk 0x1000 10 ars ∷ []) ∷ (frame pos MAX 50 prs ∷ frame trk 0x1000 10 ars ∷ []) ∷ (frame trk 0x1000 10 ars ∷ []) ∷ (frame trk 0x1000 11 ars ∷ []) ∷ [] ∷ []
-  pub looked-up : map (looked-up (written (converted plain-setup worked))) (0x0fff ∷ 0x1000 ∷ 0x1003 ∷ 0x1007 ∷ 0x100f ∷ 0x1010 ∷ 0x1_0000_0000 ∷ [])
+  pub looked-up : map (looked-up (as-written (converted plain-setup worked))) (0x0fff ∷ 0x1000 ∷ 0x1003 ∷ 0x1007 ∷ 0x100f ∷ 0x1010 ∷ 0x1_0000_0000 ∷ [])
       ≡ [] ∷ (frame trk 0x1000 10 ars ∷ []) ∷ (frame pos MAX 50 prs ∷ frame trk 0x1000 10 ars ∷ []) ∷ (frame trk 0x1000 10 ars ∷ []) ∷ (frame trk 0x1000 11 ars ∷ []) ∷ [] ∷ [] ∷ []
 
 pub worked-file : Worked
-unfolding before place sort intern advanceM set-atM kid-spansM unless-held put-end walkM loopM entryM closingM rowM convertM startM named-symbolM convert-symbolM convert-opM runM store store-six range-at put-range begin-row locate-line begin-symbol locate-symbol enter-call callers frames-of better best frames-at place-range by-start count met? follow frames-from looked-up encoded-in encoded text-size utf8 chars charLen UTF8-char fits within
+unfolding before place sort intern advanceM set-atM kid-spansM unless-held put-end walkM loopM entryM closingM rowM convertM startM named-symbolM convert-symbolM convert-opM runM intern-text intern-six range-at range-put begin-row locate-line begin-symbol locate-symbol enter-call callers frames-of better best frames-at place-range by-start count met? follow frames-from looked-up encoded-in encoded text-size utf8 chars charLen UTF8-char fits within
 worked-file = record { tables = refl; starts = refl; offsets = refl; frames = refl; looked-up = refl }

@@ -15,20 +15,17 @@ use Rattle.model.specs.Rows.{MAX, FunctionRow, Given, tree-rows}
 use Rattle.model.specs.Converter.{Setup, Location, at, Tables, range-at, converted}
 use Rattle.model.specs.Frames.{Frame, frame-of, caller-of, frames-of, best, frames-at}
 use Rattle.model.specs.Premises.{WellNested, AllSeparate, nested-at}
-use Rattle.model.specs.Written.{place-range, by-start, over, written, locations, count, met?, follow, frames-from, looked-up}
+use Rattle.model.specs.Written.{place-range, by-start, over, as-written, locations, count, met?, follow, frames-from, looked-up}
 use Rattle.model.proofs.Maps.{lt-or-ge, eq-or-ne}
 use Rattle.model.proofs.Spans.{∈-elim}
 use Rattle.model.proofs.Intern.{At, at-length, at-elem}
-use Rattle.model.proofs.Chains.{Larger, Chain, off, top, deeper, chain-larger, Down, CallsDown, frame-found, frames-found, range-here, range-there, best-is, best-answers, Answers, Unique}
+use Rattle.model.proofs.Chains.{none-some, some-eq, Larger, Chain, off, top, deeper, chain-larger, Down, CallsDown, frame-found, frames-found, range-here, range-there, best-is, best-answers, Answers, Unique}
 use Rattle.model.proofs.Demand.{demand}
 use Rattle.model.proofs.Always.{always, frames-short}
 
 -- ── In order of start ──
 
 module _ {L : Type 0} where
-  none-some : {A : Type 0} {l : L} → _≡_ {A = Option L} none (some l) → A
-  none-some e = let bad : _≡_ {A = ℕ} 0 1 = cc in absurd (omega arith)
-
   -- strictly ascending, from b on
   abbrev pub Sorted : ℕ → List (Entry L) → Type 0
   Sorted b [] = Unit {0}
@@ -115,9 +112,6 @@ module _ {L : Type 0} where
   none-low b [] s x h = refl
   none-low b (e ∷ es) s x h = range-there e es x (omega (arith, s .0)) ∙ none-low (suc (e .key)) es (s .1) x (omega (arith, s .0))
 
-  some-eq : (p q : L) → _≡_ {A = Option L} (some p) (some q) → p ≡ q
-  some-eq p q r = cc
-
   entry-path : (d e : Entry L) → d .key ≡ e .key → d .value ≡ e .value → d ≡ e
   entry-path d e p q = λ i. record { key = p i; value = q i }
 
@@ -142,7 +136,7 @@ module _ {L : Type 0} where
           (lt-or-ge (d .key) (e .key))
 
       values : d .value ≡ e .value
-      values = some-eq (d .value) (e .value) (sym at-d ∙ range-here e es (d .key) keys)
+      values = some-eq (sym at-d ∙ range-here e es (d .key) keys)
 
       tails : (x : ℕ) → range-at ds x ≡ range-at es x
       tails x = go (eq-or-ne x (d .key))
@@ -267,14 +261,14 @@ module _ (X : Setup) (gs : List Given) where
         go false z = rw (z, looked-up, frames-at) (found-both (count rows x) refl (count-spec 0 rows sorted x))
 
   -- THE FILE'S LOOKUP IS THE PLAIN ONE
-  pub written-looked-up : (x : ℕ) → looked-up (written (converted X gs)) x ≡ frames-at (converted X gs) x
+  pub written-looked-up : (x : ℕ) → looked-up (as-written (converted X gs)) x ≡ frames-at (converted X gs) x
   written-looked-up x = over-looked-up (by-start (converted X gs .ranges)) (λ k. sym (by-start-same (converted X gs .ranges) k)) (by-start-sorted (converted X gs .ranges)) x
 
   -- DEMAND 3, of the tables as a file has them
   pub written-demand : ((g : Given) → g ∈ gs → WellNested g) → AllSeparate gs → (q : FunctionRow) (rs : List FunctionRow) → tree-rows q rs ∈ gs → (x : ℕ)
-      → let found = nested-at X x (q ∷ rs) in found ≢ [] → (looked-up (written (converted X gs)) x ≡ reverse (items found)) × (depths found ≡ upto 0 (length found))
+      → let found = nested-at X x (q ∷ rs) in found ≢ [] → (looked-up (as-written (converted X gs)) x ≡ reverse (items found)) × (depths found ≡ upto 0 (length found))
   written-demand well separate q rs i x h = let d = demand X gs well separate q rs i x h in (written-looked-up x ∙ d .0, d .1)
 
   -- K7, of these: with no row deeper than D, no lookup gives more than D + 1 frames, whether or not the trees are well nested
-  pub written-short : (D : ℕ) → ((q : FunctionRow) (rs : List FunctionRow) → tree-rows q rs ∈ gs → (r : FunctionRow) → r ∈ rs → r .depth ≤ D) → (x : ℕ) → length (looked-up (written (converted X gs)) x) ≤ suc D
+  pub written-short : (D : ℕ) → ((q : FunctionRow) (rs : List FunctionRow) → tree-rows q rs ∈ gs → (r : FunctionRow) → r ∈ rs → r .depth ≤ D) → (x : ℕ) → length (looked-up (as-written (converted X gs)) x) ≤ suc D
   written-short D shallow x = rw (written-looked-up x) (frames-short X gs D shallow x)

@@ -79,4 +79,8 @@ pub record Interned (A : Type 0) : Type 0 where
 
 unfoldable pub intern : {A : Type 0} → (A → A → Bool) → List A → A → Interned A
 intern eq [] a = record { index = 0; table = a ∷ [] }
-intern eq (x ∷ xs) a = elim (eq x a) [ true ↦ record { index = 0; table = x ∷ xs } | false ↦ let r = intern eq xs a in record { index = suc (r .index); table = x ∷ r .table } ]
+intern eq (x ∷ xs) a =
+    elim (eq x a) [
+      | true ↦ record { index = 0; table = x ∷ xs }
+      | false ↦ let r = intern eq xs a in record { index = suc (r .index); table = x ∷ r .table }
+    ]

@@ -8,7 +8,8 @@ use lib.Dec.{ltb, eqb}
 use Rattle.text.specs.Utf8.{utf8}
 use Rattle.names.specs.Names.{undecorated}
 use Rattle.model.specs.Basics.{Deep, Entry, intern}
-use Rattle.model.specs.Rows.{MAX, cut32, Text, LineRow, FunctionRow, SymbolRow, Given, tree-rows, symbol-row, function-end, skipped, boundaries, symbol-skipped, symbol-end}
+use Rattle.model.specs.Rows.{MAX, cut32, Text, LineRow, FunctionRow, SymbolRow, Given, tree-rows, symbol-row}
+use Rattle.model.specs.Rows.{function-end, skipped, boundaries, symbol-skipped, symbol-end}
 use Rattle.model.specs.Machine.{Input, Machine, OpM, treeM, symbolM, runM}
 
 -- ── What the loops read of the rows ──
@@ -117,20 +118,23 @@ pub record Stored (A : Type 0) : Type 0 where
   pub table : List Text
 
 -- "A text is stored once"; "an empty text takes offset MAX and reads as absent"
-unfoldable pub store : List Text → Text → Stored (Option ℕ)
-store ts [] = record { ref = none; table = ts }
-store ts (b ∷ t) = let r = intern text-eq ts (b ∷ t) in record { ref = some (r .index); table = r .table }
+unfoldable pub intern-text : List Text → Text → Stored (Option ℕ)
+intern-text ts [] = record { ref = none; table = ts }
+intern-text ts (b ∷ t) = let r = intern text-eq ts (b ∷ t) in record { ref = some (r .index); table = r .table }
 
 -- "Texts are stored name, directory, compilation directory, srcsrv name, srcsrv directory, revision"
-unfoldable pub store-six : List Text → Six Text → Stored File
-store-six ts x =
-    let a = store ts (x .name) in
-    let b = store (a .table) (x .directory) in
-    let c = store (b .table) (x .comp-dir) in
-    let d = store (c .table) (x .srcsrv-name) in
-    let e = store (d .table) (x .srcsrv-dir) in
-    let f = store (e .table) (x .revision) in
-    record { ref = record { name = a .ref; directory = b .ref; comp-dir = c .ref; srcsrv-name = d .ref; srcsrv-dir = e .ref; revision = f .ref }; table = f .table }
+unfoldable pub intern-six : List Text → Six Text → Stored File
+intern-six ts x =
+    let a = intern-text ts (x .name) in
+    let b = intern-text (a .table) (x .directory) in
+    let c = intern-text (b .table) (x .comp-dir) in
+    let d = intern-text (c .table) (x .srcsrv-name) in
+    let e = intern-text (d .table) (x .srcsrv-dir) in
+    let f = intern-text (e .table) (x .revision) in
+    record {
+      ref = record { name = a .ref; directory = b .ref; comp-dir = c .ref; srcsrv-name = d .ref; srcsrv-dir = e .ref; revision = f .ref };
+      table = f .table;
+    }
 
 -- an absent text and an empty one are one value before anything is stored
 abbrev pub or-empty : Option Text → Text
@@ -170,9 +174,9 @@ module _ {L : Type 0} where
   range-at (e ∷ es) k = cond (eqb k (e .key)) (some (e .value)) (range-at es k)
 
   -- the last one put wins, and keeps the place of the first
-  unfoldable pub put-range : ℕ → L → List (Entry L) → List (Entry L)
-  put-range k l [] = record { key = k; value = l } ∷ []
-  put-range k l (e ∷ es) = cond (eqb k (e .key)) (record { key = k; value = l } ∷ es) (e ∷ put-range k l es)
+  unfoldable pub range-put : ℕ → L → List (Entry L) → List (Entry L)
+  range-put k l [] = record { key = k; value = l } ∷ []
+  range-put k l (e ∷ es) = cond (eqb k (e .key)) (record { key = k; value = l } ∷ es) (e ∷ range-put k l es)
 
 -- the greater end
 abbrev pub later : Option ℕ → ℕ → Option ℕ
@@ -187,20 +191,25 @@ cleared (some a) y = cond (ltb y a) (some a) none
 -- ── What the loops do to the tables ────────────────────────────────────────────────────────────────────────────────────
 
 abbrev pub put-at : ℕ → Location → Tables → Tables
-put-at k l s = record { texts = s .texts; files = s .files; functions = s .functions; calls = s .calls; ranges = put-range k l (s .ranges); last = s .last }
+put-at k l s = record { texts = s .texts; files = s .files; functions = s .functions; calls = s .calls; ranges = range-put k l (s .ranges); last = s .last }
+
+-- s, with another last end
+abbrev pub ending : Tables → Option ℕ → Tables
+ending s e = record { texts = s .texts; files = s .files; functions = s .functions; calls = s .calls; ranges = s .ranges; last = e }
 
 -- a function row
-abbrev pub add-function : List Text → Function → Tables → ℕ × Tables
-add-function ts f s =
+abbrev pub enter-function : List Text → Function → Tables → ℕ × Tables
+enter-function ts f s =
     let i = intern function-eq (s .functions) f in
     (i .index, record { texts = ts; files = s .files; functions = i .table; calls = s .calls; ranges = s .ranges; last = s .last })
 
 -- a line's texts, its file, and its location; "Line numbers too" are cut
 unfoldable pub locate-line : FunctionRow → ℕ → LineRow → Option ℕ → Tables → Location × Tables
 locate-line q r n c s =
-    let t = store-six (s .texts) (line-texts q n) in
+    let t = intern-six (s .texts) (line-texts q n) in
     let i = intern file-eq (s .files) (t .ref) in
-    (at (some (i .index)) (cut32 (n .number)) r c, record { texts = t .table; files = i .table; functions = s .functions; calls = s .calls; ranges = s .ranges; last = s .last })
+    let u : Tables = record { texts = t .table; files = i .table; functions = s .functions; calls = s .calls; ranges = s .ranges; last = s .last } in
+    (at (some (i .index)) (cut32 (n .number)) r c, u)
 
 -- a call location
 unfoldable pub enter-call : Location → Tables → Option ℕ × Tables
@@ -210,17 +219,19 @@ enter-call l s =
 
 -- a symbol's function, of language MAX, and its location
 unfoldable pub locate-symbol : SymbolRow → Option ℕ → Tables → Location × Tables
-locate-symbol y p s = let f = add-function (s .texts) (record { name = p; entry = y .address; language = MAX }) s in (at none 0 (f .0) none, f .1)
+locate-symbol y p s = let f = enter-function (s .texts) (record { name = p; entry = y .address; language = MAX }) s in (at none 0 (f .0) none, f .1)
 
 module _ (X : Setup) where
   -- a row's name, and its function
   unfoldable pub begin-row : FunctionRow → Tables → ℕ × Tables
-  begin-row q s = let t = store (s .texts) (function-name X q) in add-function (t .table) (record { name = t .ref; entry = entry-of q; language = q .language }) s
+  begin-row q s =
+      let t = intern-text (s .texts) (function-name X q) in
+      enter-function (t .table) (record { name = t .ref; entry = entry-of q; language = q .language }) s
 
   -- a symbol's name: stored even where its location is not
   unfoldable pub begin-symbol : SymbolRow → Tables → Option ℕ × Tables
   begin-symbol y s =
-      let t = store (s .texts) (symbol-name X y) in
+      let t = intern-text (s .texts) (symbol-name X y) in
       (t .ref, record { texts = t .table; files = s .files; functions = s .functions; calls = s .calls; ranges = s .ranges; last = s .last })
 
   abbrev pub plain : Machine FunctionRow LineRow SymbolRow ℕ (Option ℕ) Location (Option ℕ) Tables
@@ -237,8 +248,8 @@ module _ (X : Setup) where
     sym-begin = begin-symbol;
     sym-locate = locate-symbol;
     last = λ s. s .last;
-    mark-end = λ e s. record { texts = s .texts; files = s .files; functions = s .functions; calls = s .calls; ranges = s .ranges; last = later (s .last) e };
-    mark-symbol = λ y s. record { texts = s .texts; files = s .files; functions = s .functions; calls = s .calls; ranges = s .ranges; last = cleared (s .last) y };
+    mark-end = λ e s. ending s (later (s .last) e);
+    mark-symbol = λ y s. ending s (cleared (s .last) y);
   }
 
   -- the tables after a list of accepted calls

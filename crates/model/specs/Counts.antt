@@ -40,8 +40,8 @@ pub record Lent (K : Capacities) : Type 0 where
 
 -- 17 is "a table would need more rows or bytes after this call than its capacity": this is `false` then
 module _ (K : Capacities) where
-  unfoldable pub fits? : Tables → Bool
-  fits? s =
+  unfoldable pub plain-fits? : Tables → Bool
+  plain-fits? s =
       leb (length (s .texts)) (K .texts)
       && leb (text-bytes (s .texts)) (K .bytes)
       && leb (length (s .files)) (K .files)

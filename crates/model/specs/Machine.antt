@@ -20,7 +20,8 @@ pub record Input (Q N Y : Type 0) : Type 0 where
   pub sym-addr : Y → ℕ
   pub sym-end : Y → Option ℕ
 
--- what the loops ask of the tables. Locations are L, references to call locations C, what a row keeps while its lines are walked R, and what a symbol's text became P
+-- what the loops ask of the tables. Locations are L, references to call locations C, what a row keeps while its lines are walked R,
+-- and what a symbol's text became P
 pub record Machine (Q N Y R P L C S : Type 0) : Type 0 where
   pub get : S → ℕ → Option L  -- what the ranges hold at a start
   pub put : ℕ → L → S → S
@@ -75,7 +76,8 @@ module _ {C : Type 0} where
   set-atM d cs ctx = λ j. cond (eqb j d) cs (ctx j)
 
 module _ {Q N Y : Type 0} (I : Input Q N Y) where
-  -- the inlinee ranges of a row at depth d, from the rows after it: the lines of its inlinees, of skipped ones too ("yet its lines still mark its caller's inlinee ranges")
+  -- the inlinee ranges of a row at depth d, from the rows after it: the lines of its inlinees, of skipped ones too
+  -- ("yet its lines still mark its caller's inlinee ranges")
   unfoldable pub kid-spansM : ℕ → List (Deep Q) → List Span
   kid-spansM d [] = []
   kid-spansM d (r ∷ rs) =
@@ -90,8 +92,8 @@ module _ {Q N Y R P L C S : Type 0} (I : Input Q N Y) (M : Machine Q N Y R P L C
   unfoldable pub put-end : ℕ → S → S
   put-end a s = elim (M .get s a) [ none ↦ M .put a (M .none-loc) s | some w ↦ s ]
 
-  -- the inner walk over one line, whose location is l and whose end is e; it stands at a. "Per line, the inner walk hands out the address at which it stopped, never
-  -- below the line's end; on the way it may fall below the line's start and insert a range there"
+  -- the inner walk over one line, whose location is l and whose end is e; it stands at a. "Per line, the inner walk hands out the address at which
+  -- it stopped, never below the line's end; on the way it may fall below the line's start and insert a range there"
   unfoldable pub walkM : L → ℕ → ℕ → List Span → S → WalkedM C S
   walkM l e a [] s =
       elim (ltb a e) [
@@ -111,7 +113,8 @@ module _ {Q N Y R P L C S : Type 0} (I : Input Q N Y) (M : Machine Q N Y R P L C
         | false ↦ record { state = s; calls = []; left = r ∷ rs; at = a }
       ]
 
-  -- the loop over the lines of the row q. "Following lines whose address, cut to 32 bits (not clamped), is below it are skipped": `at` is where the walk before stopped
+  -- the loop over the lines of the row q. "Following lines whose address, cut to 32 bits (not clamped), is below it are skipped": `at` is where the
+  -- walk before stopped
   unfoldable pub loopM : Q → R → List N → C → List (Ref C) → List Span → ℕ → S → LoopedM C S
   loopM q r [] w cs rs at s = record { state = s; calls = [] }
   loopM q r (n ∷ ns) w cs rs at s =

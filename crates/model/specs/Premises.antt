@@ -108,14 +108,21 @@ line-at (n ∷ ns) x = cond (coversb (reach n) x) (some n) (line-at ns x)
 module _ (X : Setup) where
   -- "name (undecorated where that is on), entry (for an inlinee MAX), language, the covering line's number, and six texts, absent where empty"
   abbrev pub wanted : FunctionRow → LineRow → Frame
-  wanted q n = record { name = known (function-name X q); entry = entry-of q; language = q .language; number = n .number; file = some (known-six (line-texts q n)) }
+  wanted q n = record {
+    name = known (function-name X q);
+    entry = entry-of q;
+    language = q .language;
+    number = n .number;
+    file = some (known-six (line-texts q n));
+  }
 
   -- of the rows that have a line covering x, in their order, the depth and the frame
   unfoldable pub nested-at : ℕ → List FunctionRow → List (Deep Frame)
   nested-at x [] = []
   nested-at x (q ∷ rs) = elim (line-at (q .lines) x) [ none ↦ nested-at x rs | some n ↦ record { depth = q .depth; item = wanted q n } ∷ nested-at x rs ]
 
-  -- the same by recursion on the tree: of the rows at depth d, up to the first that is less deep, the one that has a line covering x, below what its inlinees give
+  -- the same by recursion on the tree: of the rows at depth d, up to the first that is less deep, the one that has a line covering x, below what
+  -- its inlinees give
   unfoldable pub stack-of : ℕ → ℕ → List FunctionRow → List Frame
   stack-of x d [] = []
   stack-of x d (q ∷ rs) =

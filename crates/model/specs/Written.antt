@@ -27,8 +27,8 @@ module _ {L : Type 0} where
 abbrev pub over : Tables → List (Entry Location) → Tables
 over s r = record { texts = s .texts; files = s .files; functions = s .functions; calls = s .calls; ranges = r; last = s .last }
 
-abbrev pub written : Tables → Tables
-written s = over s (by-start (s .ranges))
+abbrev pub as-written : Tables → Tables
+as-written s = over s (by-start (s .ranges))
 
 -- "call locations followed by range locations"
 abbrev pub locations : Tables → List Location

@@ -23,7 +23,7 @@ use Rattle.symcache.specs.Strings.{sectionOf}
 use Rattle.symcache.proofs.ReaderLaws.{then-tables, opened-accepted}
 use Rattle.model.proofs.FileRows.{ascending-next}
 use Rattle.model.proofs.Sections.{Sections, function-read}
-use Rattle.read_back.specs.Bytes.{header-of, file-bytes, Readable}
+use Rattle.read_back.specs.Bytes.{sections-header, file-bytes, Readable}
 use Rattle.read_back.proofs.RowsOfWords.{table-size, row-there, file-of, function-of, location-of, file-row, function-row, location-row}
 
 -- ── Multiples of 8 ──
@@ -98,7 +98,7 @@ module _ (id : List ℕ) (a : ℕ) (z : Sections) (ok : Readable id a z) (rest :
   F = file-bytes id a z ++ rest
 
   abbrev h : Header
-  h = header-of id a z
+  h = sections-header id a z
 
   abbrev pub c : SymCache
   c = layoutOf h

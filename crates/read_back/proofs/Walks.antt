@@ -34,7 +34,7 @@ use Rattle.model.proofs.Chains.{six-path}
 use Rattle.model.proofs.FileRows as file-rows
 use Rattle.model.proofs.FileRows.{Ascending, text-at, outside}
 use Rattle.model.proofs.Sections.{Sections, word, shown-file, file-read, function-read, frame-read, follow-words, empty-row, from-words, count-words, lookup-words}
-use Rattle.read_back.specs.Bytes.{header-of, file-bytes, Readable}
+use Rattle.read_back.specs.Bytes.{sections-header, file-bytes, Readable}
 use Rattle.read_back.specs.Shown.{part-of, text-shown, file-shown, Shown, shown, name-or, with-stand-in, Walked, ends, goes, Found}
 use Rattle.read_back.proofs.RowsOfWords.{location-of}
 use Rattle.read_back.proofs.FileRead.{parsed-file, start-there, opened-file, location-there, function-there, function-outside, file-there, file-outside, section-there, part-there}
@@ -214,7 +214,7 @@ module _ (id : List ℕ) (a : ℕ) (z : Sections) (ok : Readable id a z) (rest d
   F = file-bytes id a z ++ rest
 
   abbrev c : SymCache
-  c = layoutOf (header-of id a z)
+  c = layoutOf (sections-header id a z)
 
   is : parsed F ≡ gives c
   is = parsed-file id a z ok rest

@@ -17,9 +17,9 @@ use Rattle.model.specs.Rows.{MAX, Text, Given}
 use Rattle.model.specs.Converter.{Tables, converted}
 use Rattle.model.specs.Frames as plain
 use Rattle.model.specs.Frames.{frames-at}
-use Rattle.model.specs.Counts.{text-size, Capacities, Lent, fits?}
-use Rattle.model.specs.Written.{place-range, by-start, written}
-use Rattle.model.specs.Words.{string-section}
+use Rattle.model.specs.Counts.{text-size, Capacities, Lent, plain-fits?}
+use Rattle.model.specs.Written.{place-range, by-start, as-written}
+use Rattle.model.specs.FileWords.{string-section}
 use Rattle.model.proofs.Spans.{∈-elim}
 use Rattle.model.proofs.Compact.{LineFits, RowFits, GivenFits}
 use Rattle.model.proofs.Worked.{plain-setup, trk, pos, ars, prs, line, root-row, inlinee-row, worked, frame, worked-file}
@@ -29,7 +29,7 @@ use Rattle.read_back.specs.Shown.{with-stand-in, Found}
 use Rattle.read_back.proofs.Written.{file-shows}
 
 abbrev bytes : Tables → List ℕ
-bytes s = file-bytes (replicate 32 0) 0 (sections (written s))
+bytes s = file-bytes (replicate 32 0) 0 (sections (as-written s))
 
 -- THE BYTES ARE THE ORIGINAL'S
 pub worked-bytes : bytes (converted plain-setup worked) ≡ original.worked
@@ -65,9 +65,9 @@ capacities = record { texts = 6; bytes = 25; files = 2; functions = 2; calls = 1
 lent : Lent capacities
 lent = record { texts = omega arith; bytes = omega arith; files = omega arith; functions = omega arith; calls = omega arith; ranges = omega arith }
 
-room : fits? capacities (converted plain-setup worked) ≡ true
-unfolding fits? text-size encoded-in encoded
-room = ap (fits? capacities) (worked-file .tables) ∙ refl
+room : plain-fits? capacities (converted plain-setup worked) ≡ true
+unfolding plain-fits? text-size encoded-in encoded
+room = ap (plain-fits? capacities) (worked-file .tables) ∙ refl
 
 -- ── What they show ──
 

@@ -11,10 +11,10 @@ use Rattle.model.specs.Rows.{MAX, LineRow, FunctionRow, Given, tree-rows}
 use Rattle.model.specs.Converter.{Setup, Location, nowhere, at, Tables, converted}
 use Rattle.model.specs.Frames as plain
 use Rattle.model.specs.Frames.{frames-at}
-use Rattle.model.specs.Counts.{Capacities, Lent, fits?}
+use Rattle.model.specs.Counts.{Capacities, Lent, plain-fits?}
 use Rattle.model.specs.Premises.{reach, WellNested, AllSeparate, nested-at}
-use Rattle.model.specs.Written.{written, locations}
-use Rattle.model.specs.Words.{file-words, function-words, location-words}
+use Rattle.model.specs.Written.{as-written, locations}
+use Rattle.model.specs.FileWords.{file-words, function-words, location-words}
 use Rattle.model.proofs.Intern.{At}
 use Rattle.model.proofs.Compact.{GivenFits}
 use Rattle.model.proofs.Demand.{demand-root}
@@ -24,7 +24,7 @@ use Rattle.model.proofs.FileRows.{InFile, written-in-file, file-low, function-l
 use Rattle.model.proofs.Sections.{sections, lookup-words, words-looked-up}
 use Rattle.symcache.specs.Answers.{gives}
 use Rattle.symcache.specs.Reader.{layoutOf, opened}
-use Rattle.read_back.specs.Bytes.{header-of, file-bytes, Rows, Readable}
+use Rattle.read_back.specs.Bytes.{sections-header, file-bytes, Rows, Readable}
 use Rattle.read_back.specs.Shown.{shown, with-stand-in, Found}
 use Rattle.read_back.proofs.FileRead.{opened-file}
 use Rattle.read_back.proofs.Walks.{found-words}
@@ -70,21 +70,21 @@ pub tables-shown : (id : List ℕ) (a : ℕ) (s : Tables) → InFile s → lengt
 tables-shown id a s w size small rest d x = found-words id a (sections s) (sections-readable id a s w size small) rest d x
 
 -- EVERY LIST of accepted calls that 14 leaves and that fits the lent tables; a debug id of 32 bytes, any architecture
-module _ (X : Setup) (gs : List Given) (fitting : (g : Given) → g ∈ gs → GivenFits g) (K : Capacities) (lent : Lent K) (room : fits? K (converted X gs) ≡ true)
+module _ (X : Setup) (gs : List Given) (fitting : (g : Given) → g ∈ gs → GivenFits g) (K : Capacities) (lent : Lent K) (room : plain-fits? K (converted X gs) ≡ true)
     (id : List ℕ) (a : ℕ) (size : length id ≡ 32) (small : a < 2 ^ 32) (rest d : List ℕ) (x : ℕ) where
   -- its file's bytes, with anything after them
   abbrev pub file : List ℕ
-  file = file-bytes id a (sections (written (converted X gs))) ++ rest
+  file = file-bytes id a (sections (as-written (converted X gs))) ++ rest
 
   -- EVERY ADDRESS shows the frames of the plain tables
   pub file-shows : Found file d x (map (with-stand-in d) (frames-at (converted X gs) x))
   file-shows =
       subst (λ (v : List plain.Frame). Found file d x (map (with-stand-in d) v)) (words-looked-up X gs fitting K lent room x)
-      (tables-shown id a (written (converted X gs)) (written-in-file X gs fitting K lent room) size small rest d x)
+      (tables-shown id a (as-written (converted X gs)) (written-in-file X gs fitting K lent room) size small rest d x)
 
   -- no call refuses it
-  pub file-opened : opened file ≡ gives (layoutOf (header-of id a (sections (written (converted X gs)))))
-  file-opened = opened-file id a _ (sections-readable id a (written (converted X gs)) (written-in-file X gs fitting K lent room) size small) rest
+  pub file-opened : opened file ≡ gives (layoutOf (sections-header id a (sections (as-written (converted X gs)))))
+  file-opened = opened-file id a _ (sections-readable id a (as-written (converted X gs)) (written-in-file X gs fitting K lent room) size small) rest
 
   -- K7: with no row deeper than D, `next` gives at most D + 1 frames, whether or not the trees are well nested
   pub file-short : (D : ℕ) → ((q : FunctionRow) (rs : List FunctionRow) → tree-rows q rs ∈ gs → (r : FunctionRow) → r ∈ rs → r .depth ≤ D) → length (file-shows .frames) ≤ suc D

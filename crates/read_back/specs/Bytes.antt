@@ -11,15 +11,15 @@ use Rattle.model.proofs.FileRows.{Ascending}
 use Rattle.model.proofs.Sections.{Sections}
 
 -- the header that tells of the sections
-abbrev pub header-of : List ℕ → ℕ → Sections → Header
-header-of id a z = header id a (length (z .files)) (length (z .functions)) (length (z .locations)) (length (z .starts)) (length (z .strings))
+abbrev pub sections-header : List ℕ → ℕ → Sections → Header
+sections-header id a z = header id a (length (z .files)) (length (z .functions)) (length (z .locations)) (length (z .starts)) (length (z .strings))
 
 -- "bytes 53 59 4D 43, version 9, header, then files, functions, call locations followed by range locations, range starts, texts, each on a multiple of 8.
 -- Nothing follows the texts." Only the range starts can end off a multiple of 8
 unfoldable pub file-bytes : List ℕ → ℕ → Sections → List ℕ
 file-bytes id a z =
     versionInfoBytes version-info
-    ++ (headerBytes (header-of id a z)
+    ++ (headerBytes (sections-header id a z)
     ++ (tableBytes words (z .files)
     ++ (tableBytes words (z .functions)
     ++ (tableBytes words (z .locations)
@@ -35,7 +35,7 @@ Rows n (r ∷ rs) = ((length r ≡ n) × Words r) × Rows n rs
 -- rows of 24, 16 and 16 bytes, starts that ascend strictly, a location for each of them, a debug id of 32 bytes, and a header whose numbers have 32 bits each
 pub record Readable (id : List ℕ) (a : ℕ) (z : Sections) : Type 0 where
   pub id-size : length id ≡ 32
-  pub numbers : Words (headerWords (header-of id a z))
+  pub numbers : Words (headerWords (sections-header id a z))
   pub files : Rows 6 (z .files)
   pub functions : Rows 4 (z .functions)
   pub locations : Rows 4 (z .locations)

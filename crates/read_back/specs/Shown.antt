@@ -58,8 +58,8 @@ with-stand-in d f = record { name = name-or d (f .name); entry = f .entry; langu
 -- `next` on the file s from the cursor k on gives these frames one by one, and then the end; no call refuses
 pub data Walked (s : List ℕ) : SourceLocations → List Frame → Type 0 where
   ends : {k : SourceLocations} → stepped s k ≡ gives none → Walked s k []
-  goes : {k n : SourceLocations} {f : Frame} {fs : List Frame}
-      → stepped s k ≡ gives (some (record { frame = f; next = n })) → Walked s n fs → Walked s k (f ∷ fs)
+  goes : {k n : SourceLocations} {f : Frame} {fs : List Frame} → stepped s k ≡ gives (some (record { frame = f; next = n }))
+      → Walked s n fs → Walked s k (f ∷ fs)
 
 -- looking up x in the file s and iterating `next` shows exactly vs
 pub record Found (s d : List ℕ) (x : ℕ) (vs : List Shown) : Type 0 where

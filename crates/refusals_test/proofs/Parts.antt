@@ -4,7 +4,7 @@ use mathlib.Core.Path.{_≡_, sym}
 use mathlib.Core.List.{List}
 use lib.ListN.{length, take}
 use lib.Seq.{length-take-le}
-use Rattle.io.specs.Counts.{Counts}
+use Rattle.model.specs.Counts.{Counts}
 
 pub counts : (n : ℕ) (t : List ℕ) → n ≤ length t → Counts n t
 counts n t h = (h, sym (length-take-le n t h))

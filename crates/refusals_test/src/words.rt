@@ -1,5 +1,5 @@
 // Words of lent slices, and their comparison.
-ghost use Rattle.io.specs.Counts.{Counts};
+ghost use Rattle.model.specs.Counts.{Counts};
 
 pub(crate) fn low(n: u64) -> u32 {
     (n % 4294967296) as u32
