@@ -1,7 +1,7 @@
 // Reading ahead: before any text of a tree is stored, its first functions are looked at in the tables. Each step is made for all of them, so that what one has to wait for is fetched
 // from memory while the others are. What is read goes to scratch memory, four words a function, and nothing of it is used.
-use crate::scratch::set_word;
-use crate::scratch::word;
+use crate::stack::set_word;
+use crate::stack::word;
 use crate::tree::entry_pc;
 use tables::Row;
 

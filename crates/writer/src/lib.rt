@@ -2,5 +2,5 @@
 mod ahead;
 pub mod calls;
 mod lines;
-mod scratch;
+mod stack;
 mod tree;

@@ -40,7 +40,7 @@ returns c =
     let g = c .before .before .before .before .before .before .gather in
     let r = c .before .before .sort-pairs in
     ranges-sorted (a .s .now) (g .last .0) (r .last .0) (a .at) (g .result) (kid-spans (columns (a .functions64 .now) (a .functions32 .now) (a .lines64 .now) (a .lines32 .now) []) (a .depth) (a .i) (a .first))
-    (g .ensures .0) (g .ensures .1) (c .before .before .before .before .before .before .before .before .before .before .before .before .before .pre .0) (r .ensures)
+    (g .ensures .0) (g .ensures .1) (c .before .before .before .before .before .before .before .before .before .before .before .before .before .pre .room) (r .ensures)
 
 pub sorted-ranges-spec : {M : Type 1} → statement M
 sorted-ranges-spec =

@@ -8,8 +8,8 @@ use borrow.Author.Needs.{needs}
 use Rattle.rows.specs.Columns.{columns}
 use Rattle.scratch.proofs.Gathered.{Pushed, pushed-none, pushed-all}
 use Rattle.writer.proofs.ScratchLaws.{line-pushed}
-use Rattle.writer.proofs.scratch.push_lines.Statement.{statement}
-use Rattle.writer.proofs.scratch.push_lines.Tie as tie
+use Rattle.writer.proofs.stack.push_lines.Statement.{statement}
+use Rattle.writer.proofs.stack.push_lines.Tie as tie
 
 abbrev Inv-loop : tie.InvT-loop
 Inv-loop s₀ at lines64 lines32 first count i₀ s i =

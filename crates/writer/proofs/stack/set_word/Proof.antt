@@ -2,8 +2,8 @@
 use mathlib.Core.Path.{sym}
 use lib.Seq.{set-out}
 use borrow.Author.Needs.{needs}
-use Rattle.writer.proofs.scratch.set_word.Statement.{statement}
-use Rattle.writer.proofs.scratch.set_word.Tie as tie
+use Rattle.writer.proofs.stack.set_word.Statement.{statement}
+use Rattle.writer.proofs.stack.set_word.Tie as tie
 
 mul-s : tie.Need-mul-s
 mul-s c = search needs

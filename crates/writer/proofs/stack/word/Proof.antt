@@ -2,8 +2,8 @@
 use mathlib.Core.Path.{sym}
 use lib.ListN.{List·getD-eq-default}
 use borrow.Author.Needs.{needs}
-use Rattle.writer.proofs.scratch.word.Statement.{statement}
-use Rattle.writer.proofs.scratch.word.Tie as tie
+use Rattle.writer.proofs.stack.word.Statement.{statement}
+use Rattle.writer.proofs.stack.word.Tie as tie
 
 mul-result : tie.Need-mul-result
 mul-result c = search needs

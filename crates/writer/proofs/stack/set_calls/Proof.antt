@@ -1,8 +1,8 @@
 -- `set_calls` meets its contract: four words one after the other are `setCalls`.
 use Rattle.writer.proofs.ScratchLaws.{calls-stored}
 use borrow.Author.Needs.{needs}
-use Rattle.writer.proofs.scratch.set_calls.Statement.{statement}
-use Rattle.writer.proofs.scratch.set_calls.Tie as tie
+use Rattle.writer.proofs.stack.set_calls.Statement.{statement}
+use Rattle.writer.proofs.stack.set_calls.Tie as tie
 
 mul-k : tie.Need-mul-k
 mul-k c = search needs

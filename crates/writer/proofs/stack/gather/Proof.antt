@@ -7,8 +7,8 @@ use lib.ListN.{length}
 use borrow.Author.Needs.{needs}
 use Rattle.rows.specs.Columns.{columns}
 use Rattle.writer.proofs.ScratchLaws.{Gathers, gathers-begin, gathers-stop, gathers-end, gathers-pass, gathers-push, gathers-room, lines-fit}
-use Rattle.writer.proofs.scratch.gather.Statement.{statement}
-use Rattle.writer.proofs.scratch.gather.Tie as tie
+use Rattle.writer.proofs.stack.gather.Statement.{statement}
+use Rattle.writer.proofs.stack.gather.Tie as tie
 
 abbrev Inv-loop : tie.InvT-loop
 Inv-loop s₀ at functions64 functions32 lines64 lines32 i first depth rows r₀ line₀ n₀ s r line n =
@@ -21,7 +21,7 @@ abbrev μ-loop : tie.MeasureT-loop
 loop-holds : tie.Need-loop-holds Inv-loop μ-loop
 loop-holds c =
     let a = c .before .before .before .before .before .args in
-    gathers-begin (columns (a .functions64 .now) (a .functions32 .now) (a .lines64 .now) (a .lines32 .now) []) (a .depth) (a .at) (a .i) (a .first) (a .s .now) (c .before .before .before .before .before .pre .1) (c .before .before .before .before .before .pre .3)
+    gathers-begin (columns (a .functions64 .now) (a .functions32 .now) (a .lines64 .now) (a .lines32 .now) []) (a .depth) (a .at) (a .i) (a .first) (a .s .now) (c .before .before .before .before .before .pre .inside) (c .before .before .before .before .before .pre .first-is)
 
 function-row-requires : tie.Need-function-row-requires Inv-loop μ-loop
 function-row-requires c κs = search needs
@@ -39,10 +39,10 @@ add-if2 : tie.Need-add-if2 Inv-loop μ-loop
 add-if2 c = omega arith
 
 mul-push-lines : tie.Need-mul-push-lines Inv-loop μ-loop
-mul-push-lines c = omega (arith, c .before .before .before .before .before .loop .inv .going .count, c .before .before .before .before .before .before .before .before .before .before .before .pre .0)
+mul-push-lines c = omega (arith, c .before .before .before .before .before .loop .inv .going .count, c .before .before .before .before .before .before .before .before .before .before .before .pre .room)
 
 add-push-lines : tie.Need-add-push-lines Inv-loop μ-loop
-add-push-lines c = omega (arith, c .before .before .before .before .before .loop .inv .going .count, c .before .before .before .before .before .before .before .before .before .before .before .pre .0)
+add-push-lines c = omega (arith, c .before .before .before .before .before .loop .inv .going .count, c .before .before .before .before .before .before .before .before .before .before .before .pre .room)
 
 push-lines-requires : tie.Need-push-lines-requires Inv-loop μ-loop
 push-lines-requires c κs =
@@ -52,14 +52,14 @@ push-lines-requires c κs =
     let e = q .ensures in
     let h = c .before .before .before .before .loop-test .taken in
     let r = gathers-room (columns (a .functions64 .now) (a .functions32 .now) (a .lines64 .now) (a .lines32 .now) []) (a .depth) (a .at) (a .i) (a .first) (a .s .now) (l .s) (l .r) (l .line) (l .n) (l .inv) (q .result) e h (c .before .if2 .taken) in
-    let f = c .before .before .before .before .before .before .before .before .before .before .before .pre .4 (l .r) h in
-    (omega (arith, r, l .inv .len, c .before .before .before .before .before .before .before .before .before .before .before .pre .0), lines-fit (columns (a .functions64 .now) (a .functions32 .now) (a .lines64 .now) (a .lines32 .now) []) (l .r) (l .line) (q .result) e (l .inv .line-is) f)
+    let f = c .before .before .before .before .before .before .before .before .before .before .before .pre .within (l .r) h in
+    (omega (arith, r, l .inv .len, c .before .before .before .before .before .before .before .before .before .before .before .pre .room), lines-fit (columns (a .functions64 .now) (a .functions32 .now) (a .lines64 .now) (a .lines32 .now) []) (l .r) (l .line) (q .result) e (l .inv .line-is) f)
 
 cast-n : tie.Need-cast-n Inv-loop μ-loop
 cast-n c = omega arith
 
 add-n : tie.Need-add-n Inv-loop μ-loop
-add-n c = omega (arith, c .before .before .before .before .before .before .before .before .loop .inv .going .count, c .before .before .before .before .before .before .before .before .before .before .before .before .before .before .pre .0)
+add-n c = omega (arith, c .before .before .before .before .before .before .before .before .loop .inv .going .count, c .before .before .before .before .before .before .before .before .before .before .before .before .before .before .pre .room)
 
 cast-line : tie.Need-cast-line Inv-loop μ-loop
 cast-line c = omega arith
@@ -69,7 +69,7 @@ add-line c =
     let a = c .before .before .before .before .before .before .before .before .before .before .args in
     let l = c .before .before .before .before .loop in
     let q = c .before .before .function-row in
-    let f : l .line + q .result .lines ≤ length (a .lines64 .now) / 3 = lines-fit (columns (a .functions64 .now) (a .functions32 .now) (a .lines64 .now) (a .lines32 .now) []) (l .r) (l .line) (q .result) (q .ensures) (l .inv .line-is) (c .before .before .before .before .before .before .before .before .before .before .pre .4 (l .r) (c .before .before .before .loop-test .taken)) in
+    let f : l .line + q .result .lines ≤ length (a .lines64 .now) / 3 = lines-fit (columns (a .functions64 .now) (a .functions32 .now) (a .lines64 .now) (a .lines32 .now) []) (l .r) (l .line) (q .result) (q .ensures) (l .inv .line-is) (c .before .before .before .before .before .before .before .before .before .before .pre .within (l .r) (c .before .before .before .loop-test .taken)) in
     omega (arith, f, c .before .before .before .before .before .before .before .before .before .before .good)
 
 add-r : tie.Need-add-r Inv-loop μ-loop
