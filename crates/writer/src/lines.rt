@@ -129,6 +129,9 @@ pub(crate) fn process_lines(
     while next_line < lines {
         let line = rows::line_row(lines64, lines32, first_line + next_line as usize);
         next_line += 1;
+        let line_range = rows::line_boundaries(line.address, line.has_size, line.size);
+        let line_range_start = line_range.start;
+        let line_range_end = line_range.end;
 
         // Skip any lines that start before current_address.
         // Such lines can exist if the debug information is faulty, or if the compiler created
@@ -139,10 +142,6 @@ pub(crate) fn process_lines(
         if address < current_address {
             continue;
         }
-
-        let line_range = rows::line_boundaries(line.address, line.has_size, line.size);
-        let line_range_start = line_range.start;
-        let line_range_end = line_range.end;
 
         // Find the call location for this line.
         call_location_iter = find_call_location(s, others, call_location_iter, line_range_start);

@@ -19,13 +19,13 @@ use Rattle.writer.proofs.lines.process_lines.Statement.{statement}
 use Rattle.writer.proofs.lines.process_lines.Tie as tie
 
 abbrev Inv-loop2 : tie.InvT-loop2
-Inv-loop2 string-bytes strings files call-locations₀ ranges₀ s₀ lines64 lines32 text first-line function-idx comp-dir lines others at len next-line iter next-inline₀ now₀ current-address₀ address start end location call-locations ranges s next-inline now current-address =
+Inv-loop2 string-bytes strings files call-locations₀ ranges₀ s₀ lines64 lines32 text first-line function-idx comp-dir lines others at len next-line iter next-inline₀ now₀ current-address₀ start end address location call-locations ranges s next-inline now current-address =
     (length call-locations ≡ length call-locations₀)
     × (length ranges ≡ length ranges₀)
     × ((X : Setup) (g : List ℕ) → Inner input (over-words X) at len location end s₀ next-inline₀ current-address₀ (words now₀ string-bytes strings files g call-locations₀ ranges₀) s next-inline current-address (words now string-bytes strings files g call-locations ranges))
 
 abbrev μ-loop2 : tie.MeasureT-loop2
-μ-loop2 string-bytes strings files call-locations₀ ranges₀ s₀ lines64 lines32 text first-line function-idx comp-dir lines others at len next-line iter next-inline₀ now₀ current-address₀ address start end location call-locations ranges s next-inline now current-address =
+μ-loop2 string-bytes strings files call-locations₀ ranges₀ s₀ lines64 lines32 text first-line function-idx comp-dir lines others at len next-line iter next-inline₀ now₀ current-address₀ start end address location call-locations ranges s next-inline now current-address =
     len - next-inline
 
 abbrev Inv-loop : tie.InvT-loop
@@ -72,10 +72,13 @@ abbrev found : Located → tie.After-find-call-location Inv-loop2 μ-loop2 Inv-l
 found c = c .before .before .before .before
 
 abbrev met : Located → tie.Else1 Inv-loop2 μ-loop2 Inv-loop μ-loop
-met c = found c .before .before .before
+met c = found c .before .before
+
+abbrev bounds : Located → tie.After-line-boundaries Inv-loop2 μ-loop2 Inv-loop μ-loop
+bounds c = met c .before .before
 
 abbrev row : Located → tie.After-line-row Inv-loop2 μ-loop2 Inv-loop μ-loop
-row c = met c .before .before
+row c = bounds c .before
 
 abbrev lines : Located → Lines
 lines c = row c .before .before
@@ -133,7 +136,7 @@ words-self c g =
 abbrev StoppedAt : Located → Setup → List ℕ → List ℕ → ℕ → ℕ → Words → Type 0
 StoppedAt c X g s t stop w =
     let r = start (lines c) .args .inlinee-ranges in
-    let b = found c .before .before .line-boundaries .result in
+    let b = bounds c .line-boundaries .result in
     Stopped input (over-words X) (r .at) (r .len) (c .locate-line .result .location) (b .end) (lines c .loop .s) (lines c .loop .next-inline) (b .start) (words-located c g) s t stop w
 
 -- then the loop goes on to the next line
@@ -143,7 +146,7 @@ goes-on : (c : Located) (X : Setup) (f64 f32 g : List ℕ) (i : ℕ) → lines c
 goes-on c X f64 f32 g i e s t stop w d =
     let l = lines c .loop in
     let n = row c .line-row in
-    let b = found c .before .before .line-boundaries in
+    let b = bounds c .line-boundaries in
     let f = found c .find-call-location in
     line-walked (fixed-of (start (lines c)) X f64 f32 g i) (l .s) (l .next-line) (l .call-location-iter) (l .next-inline) (l .current-address) (words-of (lines c) g)
     (l .inv .6 X f64 f32 g i e) (row c .before .loop-test .taken) (n .result) (n .ensures) (l .inv .5 .apart) (b .result) (b .ensures) (met c .if1 .left)
@@ -195,8 +198,8 @@ add-next-line c = omega (arith, c .before .loop-test .taken, start (c .before .b
 -- the line is skipped
 loop-again : tie.Need-loop-again Inv-loop2 μ-loop2 Inv-loop μ-loop
 loop-again c =
-    let l = c .before .before .before .before in
-    let n = c .before .before .line-row in
+    let n = c .before .before .before in
+    let l = n .before .before in
     let a = start l .args in (
       l .loop .inv .0,
       l .loop .inv .1,
@@ -204,10 +207,10 @@ loop-again c =
       l .loop .inv .3,
       l .loop .inv .4,
       keeps-skipped (a .function .lines) (a .own .others .at) (a .own .others .len) (a .inlinee-ranges .at) (a .inlinee-ranges .len) (a .s .now)
-          (l .loop .s) (l .loop .next-line) (l .loop .call-location-iter .«next_call_location») (l .loop .next-inline) (l .loop .inv .5) (c .before .before .before .loop-test .taken),
+          (l .loop .s) (l .loop .next-line) (l .loop .call-location-iter .«next_call_location») (l .loop .next-inline) (l .loop .inv .5) (n .before .loop-test .taken),
       λ X f64 f32 g i e.
           line-passed (fixed-of (start l) X f64 f32 g i) (l .loop .s) (l .loop .next-line) (l .loop .call-location-iter) (l .loop .next-inline) (l .loop .current-address) (words-of l g)
-          (l .loop .inv .6 X f64 f32 g i e) (c .before .before .before .loop-test .taken) (n .result) (n .ensures) (c .if1 .taken),
+          (l .loop .inv .6 X f64 f32 g i e) (n .before .loop-test .taken) (n .line-row .result) (n .line-row .ensures) (c .if1 .taken),
     )
 
 find-call-location-requires : tie.Need-find-call-location-requires Inv-loop2 μ-loop2 Inv-loop μ-loop
@@ -221,7 +224,7 @@ loop2-holds : tie.Need-loop2-holds Inv-loop2 μ-loop2 Inv-loop μ-loop
 loop2-holds c =
     let d = located-six (c .before .before) in
     let r = start (lines d) .args .inlinee-ranges in
-    let b = found d .before .before .line-boundaries .result in
+    let b = bounds d .line-boundaries .result in
     let l = lines d .loop in (
       refl,
       refl,
@@ -240,7 +243,7 @@ loop2-again c =
     let m = walk o in
     let d = located m in
     let r = start (lines d) .args .inlinee-ranges in
-    let b = found d .before .before .line-boundaries .result in
+    let b = bounds d .line-boundaries .result in
     let t = d .locate-line .last in (
       k .insert-call-location .kept .1 .0 ∙ m .loop2 .inv .0,
       p .insert-self-range .kept .1 .0 ∙ m .loop2 .inv .1,
@@ -259,7 +262,7 @@ loop-again-2 c =
     let m = c .before in
     let d = located m in
     let r = start (lines d) .args .inlinee-ranges in
-    let b = found d .before .before .line-boundaries .result in
+    let b = bounds d .line-boundaries .result in
     let l = lines d .loop in
     let q = d .locate-line .kept .1 in (
       q .0 ∙ l .inv .0,
@@ -282,7 +285,7 @@ loop-again-3 c =
     let m = o .before .before in
     let d = located m in
     let r = start (lines d) .args .inlinee-ranges in
-    let b = found d .before .before .line-boundaries .result in
+    let b = bounds d .line-boundaries .result in
     let l = lines d .loop in
     let t = d .locate-line .last in
     let q = d .locate-line .kept .1 in (
@@ -308,7 +311,7 @@ loop-again-4 c =
     let m = walk o in
     let d = located m in
     let r = start (lines d) .args .inlinee-ranges in
-    let b = found d .before .before .line-boundaries .result in
+    let b = bounds d .line-boundaries .result in
     let l = lines d .loop in
     let t = d .locate-line .last in
     let q = d .locate-line .kept .1 in (
@@ -352,10 +355,10 @@ process-lines-spec =
     add-line-row
     (λ c κs. search needs)
     add-next-line
-    (λ c. omega arith)
-    (λ c. omega (arith, c .before .before .before .loop-test .taken))
-    loop-again
     (λ c κs. search needs)
+    (λ c. omega arith)
+    (λ c. omega (arith, c .before .before .before .before .loop-test .taken))
+    loop-again
     find-call-location-requires
     (λ c κs. search needs)
     loop2-holds
