@@ -72,7 +72,8 @@ kid-spans k d i j = kid-spansM input d (map deep (rowsFrom k i (functionRows k -
 abbrev pub LinesWithin : List ℕ → List ℕ → List ℕ → Type 0
 LinesWithin f64 f32 l64 = (r : ℕ) → r < length f64 / 2 → total (λ (i : ℕ). functionRow f64 f32 i .lines) r + functionRow f64 f32 r .lines ≤ length l64 / 3
 
--- what a row at depth d leaves, where the call locations up to its own depth end at pair `top`: the state, the call locations of the next depth from there on, and no other word changed below
+-- what a row at depth d leaves, where the call locations up to its own depth end at pair `top`: the state, the call locations of
+-- the next depth from there on, and no other word changed below
 pub record RowDone {S : Type 0} (base d top n : ℕ) (o : LoopedM ℕ S) (s s′ : List ℕ) (w : S) : Type 0 where
   pub state : w ≡ o .state
   pub calls : callsOf s′ base (suc d) ≡ o .calls

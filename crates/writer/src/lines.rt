@@ -41,7 +41,10 @@ fn find_call_location(
     line_range_start: u32,
 ) -> CallLocationIter
     requires { ⌜ (others .at + others .len * 2 ≤ length (now s)) × (iter .«next_call_location» ≤ others .len) ⌝ }
-    ensures { λ r. ⌜ (r .«next_call_location» ≤ others .len) × (advanceM «line_range_start» (iter .«current_call_location») (refs-from (now (s .entry)) others (iter .«next_call_location»)) ≡ cursor-at (now (s .entry)) others r) ⌝ }
+    ensures { λ r. ⌜ (
+        let left = refs-from (now (s .entry)) others (iter .«next_call_location») in
+        (r .«next_call_location» ≤ others .len)
+        × (advanceM «line_range_start» (iter .«current_call_location») left ≡ cursor-at (now (s .entry)) others r)) ⌝ }
 {
     let at = others.at;
     let len = others.len;
@@ -72,7 +75,10 @@ fn insert_self_range(
     inline_start: u32,
     source_location: SourceLocation,
 ) -> State
-    ensures { λ r. ⌜ ((x i f g c : List ℕ) → let before = words state x i f g c (now (ranges .entry)) in words r x i f g c (now (ranges .exit)) ≡ cond (ltb «current_address» «inline_start») (put-range «current_address» «source_location» before) before) ⌝ }
+    ensures { λ r. ⌜ ((x i f g c : List ℕ) →
+        let before = words state x i f g c (now (ranges .entry)) in
+        let after = words r x i f g c (now (ranges .exit)) in
+        after ≡ cond (ltb «current_address» «inline_start») (put-range «current_address» «source_location» before) before) ⌝ }
 {
     if current_address < inline_start {
         return insert_range(state, ranges, current_address, source_location);
@@ -86,8 +92,8 @@ pub(crate) struct Lines {
     pub callee_call_locations: usize,
 }
 
-// The lines of a function, whose first line row is `first_line`. Its inlinee ranges are pairs of start and end, sorted by start; each that a line covers becomes a pair of start and
-// call location.
+// The lines of a function, whose first line row is `first_line`. Its inlinee ranges are pairs of start and end, sorted by start;
+// each that a line covers becomes a pair of start and call location.
 pub(crate) fn process_lines(
     state: State,
     string_bytes: &mut [u8],
@@ -106,7 +112,14 @@ pub(crate) fn process_lines(
     inlinee_ranges: Pairs,
 ) -> Lines
     requires { ⌜ LinesReady function «first_line» own «inlinee_ranges» (length (now lines64) / 3) (length (now s)) ⌝ }
-    ensures { λ r. ⌜ ((X : Setup) (f64 f32 g : List ℕ) (i : ℕ) → function ≡ functionRow f64 f32 i → let before = words state (now («string_bytes» .entry)) (now (strings .entry)) (now (files .entry)) g (now («call_locations» .entry)) (now (ranges .entry)) in let after = words (r .state) (now («string_bytes» .exit)) (now (strings .exit)) (now (files .exit)) g (now («call_locations» .exit)) (now (ranges .exit)) in let k = columns f64 f32 (now (lines64 .entry)) (now (lines32 .entry)) (now (text .entry)) in LinesLeft X k i «first_line» «function_idx» own «inlinee_ranges» (now (s .entry)) (now (s .exit)) before after (r .«callee_call_locations»)) ⌝ }
+    ensures { λ r. ⌜ ((X : Setup) (f64 f32 g : List ℕ) (i : ℕ) → function ≡ functionRow f64 f32 i →
+        let k = columns f64 f32 (now (lines64 .entry)) (now (lines32 .entry)) (now (text .entry)) in
+        let before = words state (now («string_bytes» .entry)) (now (strings .entry)) (now (files .entry)) g
+        (now («call_locations» .entry)) (now (ranges .entry)) in
+        let after = words (r .state) (now («string_bytes» .exit)) (now (strings .exit)) (now (files .exit)) g
+        (now («call_locations» .exit)) (now (ranges .exit)) in
+        let made = r .«callee_call_locations» in
+        LinesLeft X k i «first_line» «function_idx» own «inlinee_ranges» (now (s .entry)) (now (s .exit)) before after made) ⌝ }
 {
     let comp_dir = comp_dir_part(text, function.comp_dir);
     let lines = function.lines;

@@ -1,6 +1,7 @@
-// Scratch memory of a tree call: 32-bit words. For each depth from 1 on, four words: where the call locations of that depth's functions begin, and how many there are, 64 bits
-// each. After them pairs of words: stacked, the call locations of each depth on the path from the root (address, number), and on top of them the inlinee ranges of the function
-// at hand (start, end), which become the call locations of its inlinees one by one.
+// Scratch memory of a tree call: 32-bit words. For each depth from 1 on, four words: where the call locations of that depth's
+// functions begin, and how many there are, 64 bits each. After them pairs of words: stacked, the call locations of each depth on the
+// path from the root (address, number), and on top of them the inlinee ranges of the function at hand (start, end), which become the
+// call locations of its inlinees one by one.
 ghost use mathlib.Core.Path.{_≡_};
 ghost use mathlib.Core.List.{List, []};
 ghost use Prim.Native.Nat.{ℕ, _+_, _*_, _/_, _≤_, _<_};
@@ -71,7 +72,9 @@ pub(crate) fn set_calls(s: &mut [u32], d: u32, start: usize, len: usize)
 // The boundaries of `count` line rows from row `first` on, as pairs from word `at` on.
 fn push_lines(s: &mut [u32], at: usize, lines64: &[u64], lines32: &[u32], first: usize, count: u32)
     requires { ⌜ (at + count * 2 ≤ length (now s)) × (first + count ≤ length (now lines64) / 3) ⌝ }
-    ensures { λ _. ⌜ ((f g t : List ℕ) → let k = columns f g (now (lines64 .entry)) (now (lines32 .entry)) t in now (s .exit) ≡ sets (now (s .entry)) at (pairWords (line-spans k first count))) ⌝ }
+    ensures { λ _. ⌜ ((f g t : List ℕ) →
+        let k = columns f g (now (lines64 .entry)) (now (lines32 .entry)) t in
+        now (s .exit) ≡ sets (now (s .entry)) at (pairWords (line-spans k first count))) ⌝ }
 {
     let mut i: u32 = 0;
     while i < count {
@@ -84,7 +87,8 @@ fn push_lines(s: &mut [u32], at: usize, lines64: &[u64], lines32: &[u32], first:
     }
 }
 
-// The inlinee ranges of a function at `depth`: the lines of the rows one deeper, among the rows from i on up to the next that is not deeper. As pairs from word `at` on; answers how many.
+// The inlinee ranges of a function at `depth`: the lines of the rows one deeper, among the rows from i on up to the next that is
+// not deeper. As pairs from word `at` on; answers how many.
 pub(crate) fn gather(
     s: &mut [u32],
     at: usize,
@@ -97,7 +101,10 @@ pub(crate) fn gather(
     depth: u32,
 ) -> usize
     requires { ⌜ GatherReady (columns (now functions64) (now functions32) (now lines64) (now lines32) []) (length (now s)) at i first depth ⌝ }
-    ensures { λ r. ⌜ (let k = columns (now (functions64 .entry)) (now (functions32 .entry)) (now (lines64 .entry)) (now (lines32 .entry)) [] in let spans = kid-spans k depth i first in (r ≡ length spans) × (now (s .exit) ≡ sets (now (s .entry)) at (pairWords spans))) ⌝ }
+    ensures { λ r. ⌜ (
+        let k = columns (now (functions64 .entry)) (now (functions32 .entry)) (now (lines64 .entry)) (now (lines32 .entry)) [] in
+        let spans = kid-spans k depth i first in
+        (r ≡ length spans) × (now (s .exit) ≡ sets (now (s .entry)) at (pairWords spans))) ⌝ }
 {
     let rows = functions64.len() / 2;
     let mut r = i;

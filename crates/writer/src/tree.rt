@@ -30,7 +30,8 @@ ghost use Rattle.rows.specs.Columns.{columns, functionRow, functionAt, textOf, 
 ghost use Rattle.rows.specs.Refusals.{firstLine, refusalOf};
 ghost use Rattle.steps.specs.Words.{words, gave, begin-named, over-words};
 ghost use Rattle.scratch.specs.Scratch.{refsAt, callsOf, topOf, kid-spans, LinesWithin};
-ghost use Rattle.writer.specs.Walk.{OwnCalls, GatherReady, Sorted, VisitReady, InProgress, calls-of, RowLeft, RowConverted, TreeConverted};
+ghost use Rattle.writer.specs.Walk.{calls-of, OwnCalls, GatherReady, Sorted, InProgress, VisitReady};
+ghost use Rattle.writer.specs.Walk.{RowLeft, RowConverted, TreeConverted};
 ghost use Rattle.symbols.specs.Symbols.{switches};
 
 // Functions of size 0, and those whose address is too large for 32 bits, are skipped.
@@ -70,7 +71,12 @@ fn begin_row(
     text: &[u8],
     q: FunctionRow,
 ) -> Indexed
-    ensures { λ r. ⌜ ((f c n : List ℕ) → gave (r .index) (words (r .state) (now («string_bytes» .exit)) (now (strings .exit)) f (now (functions .exit)) c n) ≡ begin-named (cond undecorate (undecorated (textOf (now (text .entry)) (q .name))) (textOf (now (text .entry)) (q .name))) (cond (q .inline) MAX (q .address % 4294967296)) (q .language) (words state (now («string_bytes» .entry)) (now (strings .entry)) f (now (functions .entry)) c n)) ⌝ }
+    ensures { λ r. ⌜ ((f c n : List ℕ) →
+        let name = textOf (now (text .entry)) (q .name) in
+        let before = words state (now («string_bytes» .entry)) (now (strings .entry)) f (now (functions .entry)) c n in
+        let after = words (r .state) (now («string_bytes» .exit)) (now (strings .exit)) f (now (functions .exit)) c n in
+        gave (r .index) after
+        ≡ begin-named (cond undecorate (undecorated name) name) (cond (q .inline) MAX (q .address % 4294967296)) (q .language) before) ⌝ }
 {
     let part = q.name;
     let name = rows::part(text, part);
@@ -89,7 +95,11 @@ fn begin_row(
 
 // The bare minimum of information at a function's entry, if there isn't any.
 fn insert_entry(state: State, ranges: &mut [u32], q: FunctionRow, function_idx: u32) -> State
-    ensures { λ r. ⌜ ((X : Setup) (p : ModelRow) (x i f g c : List ℕ) → p .address ≡ q .address → p .inline ≡ q .inline → q .address ≤ MAX → words r x i f g c (now (ranges .exit)) ≡ entryM input (over-words X) p «function_idx» (words state x i f g c (now (ranges .entry)))) ⌝ }
+    ensures { λ r. ⌜ ((X : Setup) (p : ModelRow) (x i f g c : List ℕ) →
+        let before = words state x i f g c (now (ranges .entry)) in
+        let after = words r x i f g c (now (ranges .exit)) in
+        p .address ≡ q .address → p .inline ≡ q .inline → q .address ≤ MAX
+        → after ≡ entryM input (over-words X) p «function_idx» before) ⌝ }
 {
     if q.inline {
         return state;
@@ -106,7 +116,11 @@ fn insert_entry(state: State, ranges: &mut [u32], q: FunctionRow, function_idx: 
 
 // After a function's own lines: its entry, the last end, and the empty mapping at its end.
 fn close_function(state: State, ranges: &mut [u32], q: FunctionRow, function_idx: u32) -> State
-    ensures { λ r. ⌜ ((X : Setup) (p : ModelRow) (x i f g c : List ℕ) → p .address ≡ q .address → p .size ≡ q .size → p .inline ≡ q .inline → q .address ≤ MAX → words r x i f g c (now (ranges .exit)) ≡ closingM input (over-words X) p «function_idx» (words state x i f g c (now (ranges .entry)))) ⌝ }
+    ensures { λ r. ⌜ ((X : Setup) (p : ModelRow) (x i f g c : List ℕ) →
+        let before = words state x i f g c (now (ranges .entry)) in
+        let after = words r x i f g c (now (ranges .exit)) in
+        p .address ≡ q .address → p .size ≡ q .size → p .inline ≡ q .inline → q .address ≤ MAX
+        → after ≡ closingM input (over-words X) p «function_idx» before) ⌝ }
 {
     let entered = insert_entry(state, ranges, q, function_idx);
     let end = function_end(q);
@@ -179,7 +193,9 @@ fn sorted_ranges(
     depth: u32,
 ) -> usize
     requires { ⌜ GatherReady (columns (now functions64) (now functions32) (now lines64) (now lines32) []) (length (now s)) at i first depth ⌝ }
-    ensures { λ r. ⌜ (let k = columns (now (functions64 .entry)) (now (functions32 .entry)) (now (lines64 .entry)) (now (lines32 .entry)) [] in Sorted at (kid-spans k depth i first) r (now (s .entry)) (now (s .exit))) ⌝ }
+    ensures { λ r. ⌜ (
+        let k = columns (now (functions64 .entry)) (now (functions32 .entry)) (now (lines64 .entry)) (now (lines32 .entry)) [] in
+        Sorted at (kid-spans k depth i first) r (now (s .entry)) (now (s .exit))) ⌝ }
 {
     let spans = gather(
         s,
@@ -225,7 +241,14 @@ fn visit_row(
     own: Own,
 ) -> State
     requires { ⌜ VisitReady (columns (now functions64) (now functions32) (now lines64) (now lines32) (now text)) (length (now s)) base row own ⌝ }
-    ensures { λ r. ⌜ ((Y : Bool) (a : ℕ) → let k = columns (now (functions64 .entry)) (now (functions32 .entry)) (now (lines64 .entry)) (now (lines32 .entry)) (now (text .entry)) in let before = words state (now («string_bytes» .entry)) (now (strings .entry)) (now (files .entry)) (now (functions .entry)) (now («call_locations» .entry)) (now (ranges .entry)) in let after = words r (now («string_bytes» .exit)) (now (strings .exit)) (now (files .exit)) (now (functions .exit)) (now («call_locations» .exit)) (now (ranges .exit)) in RowLeft (switches undecorate Y) k base (row .i) (row .«first_line») (own .top) (calls-of (now (s .entry)) a (own .«call_locations»)) (now (s .entry)) (now (s .exit)) before after) ⌝ }
+    ensures { λ r. ⌜ ((Y : Bool) (a : ℕ) →
+        let k = columns (now (functions64 .entry)) (now (functions32 .entry)) (now (lines64 .entry)) (now (lines32 .entry)) (now (text .entry)) in
+        let before = words state (now («string_bytes» .entry)) (now (strings .entry)) (now (files .entry))
+        (now (functions .entry)) (now («call_locations» .entry)) (now (ranges .entry)) in
+        let after = words r (now («string_bytes» .exit)) (now (strings .exit)) (now (files .exit))
+        (now (functions .exit)) (now («call_locations» .exit)) (now (ranges .exit)) in
+        let calls = calls-of (now (s .entry)) a (own .«call_locations») in
+        RowLeft (switches undecorate Y) k base (row .i) (row .«first_line») (own .top) calls (now (s .entry)) (now (s .exit)) before after) ⌝ }
 {
     let function = row.function;
     let at = base + own.top * 2;
@@ -305,7 +328,13 @@ fn process_row(
     row: InProgressFunction,
 ) -> State
     requires { ⌜ InProgress (columns (now functions64) (now functions32) (now lines64) (now lines32) (now text)) (now s) base row ⌝ }
-    ensures { λ r. ⌜ ((Y : Bool) → let k = columns (now (functions64 .entry)) (now (functions32 .entry)) (now (lines64 .entry)) (now (lines32 .entry)) (now (text .entry)) in let before = words state (now («string_bytes» .entry)) (now (strings .entry)) (now (files .entry)) (now (functions .entry)) (now («call_locations» .entry)) (now (ranges .entry)) in let after = words r (now («string_bytes» .exit)) (now (strings .exit)) (now (files .exit)) (now (functions .exit)) (now («call_locations» .exit)) (now (ranges .exit)) in RowConverted (switches undecorate Y) k base row (now (s .entry)) (now (s .exit)) before after) ⌝ }
+    ensures { λ r. ⌜ ((Y : Bool) →
+        let k = columns (now (functions64 .entry)) (now (functions32 .entry)) (now (lines64 .entry)) (now (lines32 .entry)) (now (text .entry)) in
+        let before = words state (now («string_bytes» .entry)) (now (strings .entry)) (now (files .entry))
+        (now (functions .entry)) (now («call_locations» .entry)) (now (ranges .entry)) in
+        let after = words r (now («string_bytes» .exit)) (now (strings .exit)) (now (files .exit))
+        (now (functions .exit)) (now («call_locations» .exit)) (now (ranges .exit)) in
+        RowConverted (switches undecorate Y) k base row (now (s .entry)) (now (s .exit)) before after) ⌝ }
 {
     let function = row.function;
     let own = own_calls(s, base, function.depth);
@@ -352,7 +381,13 @@ fn process_rows(
     text: &[u8],
 ) -> State
     requires { ⌜ refusalOf (columns (now functions64) (now functions32) (now lines64) (now lines32) (now text)) (length (now s)) ≡ 0 ⌝ }
-    ensures { λ r. ⌜ ((Y : Bool) → let k = columns (now (functions64 .entry)) (now (functions32 .entry)) (now (lines64 .entry)) (now (lines32 .entry)) (now (text .entry)) in let before = words state (now («string_bytes» .entry)) (now (strings .entry)) (now (files .entry)) (now (functions .entry)) (now («call_locations» .entry)) (now (ranges .entry)) in let after = words r (now («string_bytes» .exit)) (now (strings .exit)) (now (files .exit)) (now (functions .exit)) (now («call_locations» .exit)) (now (ranges .exit)) in TreeConverted (switches undecorate Y) k before after) ⌝ }
+    ensures { λ r. ⌜ ((Y : Bool) →
+        let k = columns (now (functions64 .entry)) (now (functions32 .entry)) (now (lines64 .entry)) (now (lines32 .entry)) (now (text .entry)) in
+        let before = words state (now («string_bytes» .entry)) (now (strings .entry)) (now (files .entry))
+        (now (functions .entry)) (now («call_locations» .entry)) (now (ranges .entry)) in
+        let after = words r (now («string_bytes» .exit)) (now (strings .exit)) (now (files .exit))
+        (now (functions .exit)) (now («call_locations» .exit)) (now (ranges .exit)) in
+        TreeConverted (switches undecorate Y) k before after) ⌝ }
 {
     let rows = functions64.len() / 2;
     let base = rows * 4;
@@ -409,7 +444,13 @@ pub(crate) fn process_tree(
     text: &[u8],
 ) -> State
     requires { ⌜ refusalOf (columns (now functions64) (now functions32) (now lines64) (now lines32) (now text)) (length (now s)) ≡ 0 ⌝ }
-    ensures { λ r. ⌜ ((Y : Bool) → let k = columns (now (functions64 .entry)) (now (functions32 .entry)) (now (lines64 .entry)) (now (lines32 .entry)) (now (text .entry)) in let before = words state (now («string_bytes» .entry)) (now (strings .entry)) (now (files .entry)) (now (functions .entry)) (now («call_locations» .entry)) (now (ranges .entry)) in let after = words r (now («string_bytes» .exit)) (now (strings .exit)) (now (files .exit)) (now (functions .exit)) (now («call_locations» .exit)) (now (ranges .exit)) in TreeConverted (switches undecorate Y) k before after) ⌝ }
+    ensures { λ r. ⌜ ((Y : Bool) →
+        let k = columns (now (functions64 .entry)) (now (functions32 .entry)) (now (lines64 .entry)) (now (lines32 .entry)) (now (text .entry)) in
+        let before = words state (now («string_bytes» .entry)) (now (strings .entry)) (now (files .entry))
+        (now (functions .entry)) (now («call_locations» .entry)) (now (ranges .entry)) in
+        let after = words r (now («string_bytes» .exit)) (now (strings .exit)) (now (files .exit))
+        (now (functions .exit)) (now («call_locations» .exit)) (now (ranges .exit)) in
+        TreeConverted (switches undecorate Y) k before after) ⌝ }
 {
     read_ahead(
         undecorate,

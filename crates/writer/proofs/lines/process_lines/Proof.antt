@@ -37,7 +37,7 @@ Inv-loop string-bytes₀ strings₀ files₀ call-locations₀ ranges₀ s₀ li
     × (length ranges ≡ length ranges₀)
     × Kept lines others at len s₀ s next-line iter next-inline
     × ((X : Setup) (f64 f32 g : List ℕ) (i : ℕ) → comp-dir ≡ dirPart (columns f64 f32 lines64 lines32 text) i
-        → Goes (fixed (columns f64 f32 lines64 lines32 text) i first-line function-idx lines others (iter₀ .«current_call_location») at len s₀ X (words now₀ string-bytes₀ strings₀ files₀ g call-locations₀ ranges₀)) s next-line iter next-inline current-address (words now string-bytes strings files g call-locations ranges))
+    → Goes (fixed (columns f64 f32 lines64 lines32 text) i first-line function-idx lines others (iter₀ .«current_call_location») at len s₀ X (words now₀ string-bytes₀ strings₀ files₀ g call-locations₀ ranges₀)) s next-line iter next-inline current-address (words now string-bytes strings files g call-locations ranges))
 
 abbrev μ-loop : tie.MeasureT-loop
 μ-loop string-bytes₀ strings₀ files₀ call-locations₀ ranges₀ s₀ lines64 lines32 text first-line function-idx comp-dir lines others at len next-line₀ iter₀ next-inline₀ now₀ current-address₀ string-bytes strings files call-locations ranges s next-line iter next-inline now current-address =
