@@ -33,7 +33,7 @@ use Rattle.memory.specs.Record.{usable?, beginOf}
 use Rattle.writer.specs.Calls.{finished, treeOf}
 use Rattle.serialize.specs.Sections.{file-row, function-row, call-row, entries, in-order, entry-location, location-row, start-row}
 use Rattle.serialize.specs.File.{Wrote, wrote, written-file, serializeOf}
-use Rattle.symcache.proofs.Worked as original
+use Rattle.read_back.proofs.WorkedBytes as original
 use Rattle.read_back.specs.Shown.{Shown, with-stand-in, Found}
 use Rattle.demand3.specs.Lists.{Call, tree, write, Standing, next, run, by-value, beginning}
 use Rattle.demand3.specs.Demand3.{Premises, Reopened, file-written}

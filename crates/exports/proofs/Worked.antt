@@ -8,7 +8,7 @@ use Rattle.raw.specs.Rows.{max32, versionInfoAt, headerAt, fileAt, functionAt, 
 use Rattle.symcache.specs.Answers.{refuseIf, andThen}
 use Rattle.symcache.specs.Reader.{aligned, layoutOf, tested, parsed, ascendingFrom, ascending, opened}
 use Rattle.symcache.specs.Lookup.{countIn, searchIn, foundAmong, usable, foundIn, locationIn, functionIn, fileIn, walkAt, lookedUp, met, frameIn, ended, stepIn, stepped}
-use Rattle.symcache.proofs.Worked.{worked}
+use Rattle.read_back.proofs.WorkedBytes.{worked}
 use Rattle.memory.specs.Memory.{memory}
 use Rattle.memory.specs.Record.{beginOf}
 use Rattle.c_words.specs.Record.{wordsOf}

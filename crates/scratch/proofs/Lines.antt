@@ -79,87 +79,77 @@ module _ {R P L S : Type 0} (M : Machine FunctionRow LineRow SymbolRow R P L ℕ
       pub record Outer (s : List ℕ) (j c passed t below : ℕ) (w : S) : Type 0 where
         pub state : to-come s j c passed t below w .state ≡ whole .state
         pub calls : refsAt s at t ++ to-come s j c passed t below w .calls ≡ whole .calls
-        pub kept : take at s ≡ take at s₀
-        pub len : length s ≡ length s₀
-        pub few : t ≤ n
-        pub done : j ≤ lines
-        pub passes : passed ≤ count
-        pub room : at + n * 2 ≤ length s₀
-        pub apart : b + count * 2 ≤ at
 
-      pub starts : at + n * 2 ≤ length s₀ → b + count * 2 ≤ at → Outer s₀ 0 c₀ 0 0 0 w₀
-      starts h g =
+      pub starts : Outer s₀ 0 c₀ 0 0 0 w₀
+      starts =
           let e : first + 0 ≡ first = omega arith in
           let f : lines - 0 ≡ lines = omega arith in
           let z : to-come s₀ 0 c₀ 0 0 0 w₀ ≡ whole = rw (e, f, pairs-whole s₀ b count, pairs-whole s₀ at n) refl in
           let y : refsAt s₀ at 0 ≡ [] = ap (map ref-of) (pairs-zero s₀ at) in
-          record {
-            state = ap (λ (o : LoopedM ℕ S). o .state) z;
-            calls = rw y (ap (λ (o : LoopedM ℕ S). o .calls) z);
-            kept = refl;
-            len = refl;
-            few = omega arith;
-            done = omega arith;
-            passes = omega arith;
-            room = h;
-            apart = g;
-          }
+          record { state = ap (λ (o : LoopedM ℕ S). o .state) z; calls = rw y (ap (λ (o : LoopedM ℕ S). o .calls) z) }
 
-      module _ (s : List ℕ) (j c passed t below : ℕ) (w : S) (i : Outer s j c passed t below w) (h : j < lines) where
-        abbrev line : LineRow
-        line = lineAt k (first + j)
+      module _ (s : List ℕ) (j c passed t below : ℕ) (w : S) (i : Outer s j c passed t below w) where
+        module _ (h : j < lines) where
+          abbrev line : LineRow
+          line = lineAt k (first + j)
 
-        pub line-skipped : cut32 (line .address) < below → Outer s (j + 1) c passed t below w
-        line-skipped g =
-            let z : to-come s j c passed t below w ≡ to-come s (j + 1) c passed t below w = rw (lines-next k first lines j h) (loop-skips line _ c _ _ below w g) in
+          pub line-skipped : cut32 (line .address) < below → Outer s (j + 1) c passed t below w
+          line-skipped g =
+              let z : to-come s j c passed t below w ≡ to-come s (j + 1) c passed t below w = rw (lines-next k first lines j h) (loop-skips line _ c _ _ below w g) in
+              record {
+                state = ap (λ (o : LoopedM ℕ S). o .state) (sym z) ∙ i .state;
+                calls = ap (λ (o : LoopedM ℕ S). refsAt s at t ++ o .calls) (sym z) ∙ i .calls;
+              }
+
+          -- the cursor moved on, the line was located, and the walk over it stopped
+          pub line-done : b + count * 2 ≤ at → below ≤ cut32 (line .address)
+              → (c′ passed′ : ℕ) → passed′ ≤ count
+              → advanceM (boundaries line .from) c (refsAt s (b + passed * 2) (count - passed)) ≡ record { now = c′; next = refsAt s (b + passed′ * 2) (count - passed′) }
+              → (l : L) (w₁ : S) → M .locate q r line c′ w ≡ (l, w₁)
+              → (s′ : List ℕ) (t′ stop : ℕ) (w′ : S) → Stopped input M at n l (boundaries line .to) s t (boundaries line .from) w₁ s′ t′ stop w′
+              → Outer s′ (j + 1) c′ passed′ t′ stop w′
+          line-done apart g c′ passed′ p x l w₁ y s′ t′ stop w′ d =
+              let o = walkM input M l (boundaries line .to) (boundaries line .from) (pairsAt s (at + t * 2) (n - t)) w₁ in
+              let u : pairsAt s′ (b + passed′ * 2) (count - passed′) ≡ pairsAt s (b + passed′ * 2) (count - passed′) = pairs-kept s s′ (b + passed′ * 2) (count - passed′) at (d .kept) (omega arith) in
+              let v = to-come s′ (j + 1) c′ passed′ t′ stop w′ in
+              let z : to-come s j c passed t below w ≡ record { state = v .state; calls = o .calls ++ v .calls } =
+              rw (lines-next k first lines j h, u, d .stop, d .left, d .state) (loop-does line _ c _ _ below w g ∙ rw (x, y) refl) in
+              record {
+                state = ap (λ (o : LoopedM ℕ S). o .state) (sym z) ∙ i .state;
+                calls =
+                    ap (λ (e : List (Ref ℕ)). e ++ v .calls) (d .calls)
+                    ∙ append-assoc (refsAt s at t) (o .calls) (v .calls)
+                    ∙ ap (λ (o : LoopedM ℕ S). refsAt s at t ++ o .calls) (sym z)
+                    ∙ i .calls;
+              }
+
+        pub ended : lines ≤ j → take at s ≡ take at s₀ → t ≤ n → Lined at n whole s₀ s w t
+        ended h kept few =
+            let z : to-come s j c passed t below w ≡ record { state = w; calls = [] } = rw (lines-done k first lines j h) (loop-ends c _ _ below w) in
             record {
               state = ap (λ (o : LoopedM ℕ S). o .state) (sym z) ∙ i .state;
-              calls = ap (λ (o : LoopedM ℕ S). refsAt s at t ++ o .calls) (sym z) ∙ i .calls;
-              kept = i .kept;
-              len = i .len;
-              few = i .few;
-              done = omega arith;
-              passes = i .passes;
-              room = i .room;
-              apart = i .apart;
+              calls = sym (append-nil (refsAt s at t)) ∙ ap (λ (o : LoopedM ℕ S). refsAt s at t ++ o .calls) (sym z) ∙ i .calls;
+              few = few;
+              kept = kept;
             }
 
-        -- the cursor moved on, the line was located, and the walk over it stopped
-        pub line-done : below ≤ cut32 (line .address)
-            → (c′ passed′ : ℕ) → passed′ ≤ count
-            → advanceM (boundaries line .from) c (refsAt s (b + passed * 2) (count - passed)) ≡ record { now = c′; next = refsAt s (b + passed′ * 2) (count - passed′) }
-            → (l : L) (w₁ : S) → M .locate q r line c′ w ≡ (l, w₁)
-            → (s′ : List ℕ) (t′ stop : ℕ) (w′ : S) → Stopped input M at n l (boundaries line .to) s t (boundaries line .from) w₁ s′ t′ stop w′
-            → Outer s′ (j + 1) c′ passed′ t′ stop w′
-        line-done g c′ passed′ p x l w₁ y s′ t′ stop w′ d =
-            let o = walkM input M l (boundaries line .to) (boundaries line .from) (pairsAt s (at + t * 2) (n - t)) w₁ in
-            let u : pairsAt s′ (b + passed′ * 2) (count - passed′) ≡ pairsAt s (b + passed′ * 2) (count - passed′) =
-            pairs-kept s s′ (b + passed′ * 2) (count - passed′) at (d .kept) (omega (arith, i .apart)) in
-            let v = to-come s′ (j + 1) c′ passed′ t′ stop w′ in
-            let z : to-come s j c passed t below w ≡ record { state = v .state; calls = o .calls ++ v .calls } =
-            rw (lines-next k first lines j h, u, d .stop, d .left, d .state) (loop-does line _ c _ _ below w g ∙ rw (x, y) refl) in
-            record {
-              state = ap (λ (o : LoopedM ℕ S). o .state) (sym z) ∙ i .state;
-              calls =
-                  ap (λ (e : List (Ref ℕ)). e ++ v .calls) (d .calls)
-                  ∙ append-assoc (refsAt s at t) (o .calls) (v .calls)
-                  ∙ ap (λ (o : LoopedM ℕ S). refsAt s at t ++ o .calls) (sym z)
-                  ∙ i .calls;
-              kept = d .kept ∙ i .kept;
-              len = d .len ∙ i .len;
-              few = d .few;
-              done = omega arith;
-              passes = p;
-              room = i .room;
-              apart = i .apart;
-            }
+-- and the numbers: scratch memory below the inlinee ranges, and how far each of the three lists is
+module _ (lines b count at n : ℕ) (s₀ : List ℕ) where
+  pub record Keeps (s : List ℕ) (j passed t : ℕ) : Type 0 where
+    pub kept : take at s ≡ take at s₀
+    pub len : length s ≡ length s₀
+    pub few : t ≤ n
+    pub done : j ≤ lines
+    pub passes : passed ≤ count
+    pub room : at + n * 2 ≤ length s₀
+    pub apart : b + count * 2 ≤ at
 
-      pub ended : (s : List ℕ) (j c passed t below : ℕ) (w : S) → Outer s j c passed t below w → lines ≤ j → Lined at n whole s₀ s w t
-      ended s j c passed t below w i h =
-          let z : to-come s j c passed t below w ≡ record { state = w; calls = [] } = rw (lines-done k first lines j h) (loop-ends c _ _ below w) in
-          record {
-            state = ap (λ (o : LoopedM ℕ S). o .state) (sym z) ∙ i .state;
-            calls = sym (append-nil (refsAt s at t)) ∙ ap (λ (o : LoopedM ℕ S). refsAt s at t ++ o .calls) (sym z) ∙ i .calls;
-            few = i .few;
-            kept = i .kept;
-          }
+  pub keeps-start : at + n * 2 ≤ length s₀ → b + count * 2 ≤ at → Keeps s₀ 0 0 0
+  keeps-start h g = record { kept = refl; len = refl; few = omega arith; done = omega arith; passes = omega arith; room = h; apart = g }
+
+  module _ (s : List ℕ) (j passed t : ℕ) (i : Keeps s j passed t) (h : j < lines) where
+    pub keeps-skipped : Keeps s (j + 1) passed t
+    keeps-skipped = record { kept = i .kept; len = i .len; few = i .few; done = omega arith; passes = i .passes; room = i .room; apart = i .apart }
+
+    pub keeps-done : (passed′ : ℕ) → passed′ ≤ count → (s′ : List ℕ) (t′ : ℕ) → take at s′ ≡ take at s → length s′ ≡ length s → t′ ≤ n → Keeps s′ (j + 1) passed′ t′
+    keeps-done passed′ p s′ t′ d l m = record { kept = d ∙ i .kept; len = l ∙ i .len; few = m; done = omega arith; passes = p; room = i .room; apart = i .apart }

@@ -1,49 +1,17 @@
 -- THE WALK OVER ONE LINE, turn by turn: what is still to come, from where the walk stands, is what was to come from where it began.
-use mathlib.Core.Path.{_≡_, refl, sym, ap, _∙_, subst}
-use mathlib.Core.Bool.{true, false, cond, true≢false, false≢true}
-use mathlib.Core.Logic.{_⊎_, inl, inr, ⊎-elim}
+use mathlib.Core.Path.{_≡_, refl, sym, ap, _∙_}
+use mathlib.Core.Bool.{cond}
 use mathlib.Core.List.{List, [], _∷_, _++_, append-assoc, append-nil}
 use Prim.Native.Nat.{ℕ, _+_, _*_, _-_, _≤_, _<_}
 use native.Mathlib.Omega.{arith}
 use lib.Dec.{ltb}
 use lib.ListN.{length, getD, set, take, length-set}
 use lib.Seq.{getD-set-same, getD-set-other, take-set-le}
-use borrow.Author.Tests.{lt-ltb, le-ltb, le-leb, lt-leb}
+use borrow.Author.Tests.{lt-ltb, le-ltb}
 use Rattle.model.specs.Basics.{Span}
 use Rattle.model.specs.Machine.{Input, Machine, Ref, WalkedM, walkM}
-use Rattle.model.proofs.Maps.{lt-or-ge}
-use Rattle.scratch.specs.Scratch.{pairsAt, refsAt, Turned, turned, taking, turn}
+use Rattle.scratch.specs.Scratch.{pairsAt, refsAt}
 use Rattle.scratch.proofs.Pairs.{pairAt, pairs-above, pairs-below, pairs-next, pairs-none, refs-more}
-
--- ── A turn, case by case ──
-
-module _ {Q N Y R P L S : Type 0} (M : Machine Q N Y R P L ℕ S) (l : L) (e b n t a : ℕ) (s : List ℕ) (w : S) where
-  -- the inlinee range at hand, and the state after the line's own range
-  abbrev from : ℕ
-  from = getD s (b + t * 2) 0
-
-  abbrev to : ℕ
-  to = getD s (b + t * 2 + 1) 0
-
-  abbrev own-range : S
-  own-range = cond (ltb a from) (M .put a l w) w
-
-  pub turn-past : e ≤ a → turn M l e b n t a s w ≡ turned w s t a true
-  unfolding turn
-  turn-past h = rw (le-leb e a h)
-
-  module _ (h : a < e) where
-    pub turn-last : n ≤ t → turn M l e b n t a s w ≡ turned (M .put a l w) s t e true
-    unfolding turn
-    turn-last g = rw (lt-leb e a h, le-leb n t g)
-
-    pub turn-stops : t < n → e ≤ from → turn M l e b n t a s w ≡ turned own-range s t e true
-    unfolding turn taking
-    turn-stops g k = rw (lt-leb e a h, lt-leb n t g, le-leb e from k)
-
-    pub turn-takes : t < n → from < e → turn M l e b n t a s w ≡ turned (M .enter l own-range .1) (set s (b + t * 2 + 1) (M .enter l own-range .0)) (t + 1) to false
-    unfolding turn taking
-    turn-takes g k = rw (lt-leb e a h, lt-leb n t g, lt-leb e from k)
 
 module _ {Q N Y R P L S : Type 0} (I : Input Q N Y) (M : Machine Q N Y R P L ℕ S) where
   -- ── The walk, case by case ──
@@ -147,40 +115,37 @@ module _ {Q N Y R P L S : Type 0} (I : Input Q N Y) (M : Machine Q N Y R P L ℕ
                 room = i .room;
               }
 
-        -- a turn stops, or takes one more pair
-        abbrev Does : Turned S → Type 0
-        Does o =
-            ((o .done ≡ true) × Stopped (o .scratch) (o .taken) (o .address) (o .state))
-            ⊎ ((o .done ≡ false) × (t < n) × (o .taken ≡ t + 1) × Inner (o .scratch) (o .taken) (o .address) (o .state))
+        -- ── One turn, with the values that the code has ──
 
-        does : Does (turn M l e b n t a s w)
-        does = ⊎-elim (λ (h : a < e). ⊎-elim (one h) (none h) (lt-or-ge t n)) past (lt-or-ge a e)
-          where
-            past : e ≤ a → Does (turn M l e b n t a s w)
-            past h = subst Does (sym (turn-past M l e b n t a s w h)) (inl (refl, stops w a (walk-past l e a w _ h)))
+        -- the line is at its end
+        pub line-ends : e ≤ a → Stopped s t a w
+        line-ends h = stops w a (walk-past l e a w _ h)
 
-            none : a < e → n ≤ t → Does (turn M l e b n t a s w)
-            none h g =
-                let z : pairsAt s (b + t * 2) (n - t) ≡ [] = pairs-none s (b + t * 2) n t g in
-                subst Does (sym (turn-last M l e b n t a s w h g)) (inl (refl, stops (M .put a l w) e (rw z (walk-last l e a w h))))
+        -- no inlinee range is left: the rest is the line's own
+        pub no-range-left : a < e → n ≤ t → (w′ : S) → w′ ≡ M .put a l w → Stopped s t e w′
+        no-range-left h g w′ f = stops w′ e (rw (f, pairs-none s (b + t * 2) n t g) (walk-last l e a w h))
 
-            one : a < e → t < n → Does (turn M l e b n t a s w)
-            one h g =
-                let r = pairAt s (b + t * 2) in
-                let rs = pairsAt s (b + (t + 1) * 2) (n - (t + 1)) in
-                let z : pairsAt s (b + t * 2) (n - t) ≡ r ∷ rs = pairs-next s b n t g in
-                ⊎-elim
-                (λ k. subst Does (sym (turn-takes M l e b n t a s w h g k))
-                (inr (refl, g, refl, goes-on g (M .enter l (own-range M l e b n t a s w) .1) (M .enter l (own-range M l e b n t a s w) .0) (rw z (walk-takes l e a w r rs h k)))))
-                (λ k. subst Does (sym (turn-stops M l e b n t a s w h g k)) (inl (refl, stops (own-range M l e b n t a s w) e (rw z (walk-stops l e a w r rs h k)))))
-                (lt-or-ge (getD s (b + t * 2) 0) e)
+        -- the next inlinee range starts at `from`, and what lies before it is the line's own
+        module _ (h : a < e) (g : t < n) (from : ℕ) (f : from ≡ getD s (b + t * 2) 0) (w₁ : S) (o : w₁ ≡ cond (ltb a from) (M .put a l w) w) where
+          own-is : w₁ ≡ own l e a w (pairAt s (b + t * 2)) (pairsAt s (b + (t + 1) * 2) (n - (t + 1))) h
+          own-is = rw f at o
 
-        module _ (o : Turned S) (f : o ≡ turn M l e b n t a s w) where
-          pub turn-done : o .done ≡ true → Stopped (o .scratch) (o .taken) (o .address) (o .state)
-          turn-done d = ⊎-elim (λ x. x .1) (λ x. absurd (true≢false (sym d ∙ x .0))) (subst Does (sym f) does)
+          -- it starts at or after the line's end
+          pub range-after : e ≤ from → Stopped s t e w₁
+          range-after p =
+              stops w₁ e (rw (own-is, pairs-next s b n t g) (walk-stops l e a w (pairAt s (b + t * 2)) (pairsAt s (b + (t + 1) * 2) (n - (t + 1))) h (rw f at p)))
 
-          pub turn-less : o .done ≡ false → (t < n) × (o .taken ≡ t + 1)
-          turn-less d = ⊎-elim (λ x. absurd (false≢true (sym d ∙ x .0))) (λ x. (x .1, x .2)) (subst Does (sym f) does)
+          -- the line covers it: it becomes a call location, and the walk goes on from its end
+          pub range-taken : from < e → (to v : ℕ) (w₂ : S) (s₁ : List ℕ)
+              → to ≡ getD s (b + t * 2 + 1) 0 → (v, w₂) ≡ M .enter l w₁ → s₁ ≡ set s (b + t * 2 + 1) v
+              → Inner s₁ (t + 1) to w₂
+          range-taken p to v w₂ s₁ q c z =
+              let k : (v, w₂) ≡ M .enter l (own l e a w (pairAt s (b + t * 2)) (pairsAt s (b + (t + 1) * 2) (n - (t + 1))) h) = rw own-is at c in
+              rw (z, q)
+              (goes-on g w₂ v
+              (rw (pairs-next s b n t g, ap (λ (x : ℕ × S). x .0) k, ap (λ (x : ℕ × S). x .1) k)
+              (walk-takes l e a w (pairAt s (b + t * 2)) (pairsAt s (b + (t + 1) * 2) (n - (t + 1))) h (rw f at p))))
 
-          pub turn-more : o .done ≡ false → Inner (o .scratch) (o .taken) (o .address) (o .state)
-          turn-more d = ⊎-elim (λ x. absurd (false≢true (sym d ∙ x .0))) (λ x. x .3) (subst Does (sym f) does)
+-- one more is taken
+pub falls-more : {n t : ℕ} → t < n → n - (t + 1) < n - t
+falls-more h = omega arith

@@ -1,15 +1,13 @@
 -- Scratch memory of a tree call, in words. The public contracts say only that it is zero at the end; the functions in between go by these.
 use mathlib.Core.Path.{_≡_}
-use mathlib.Core.Bool.{Bool, true, false, cond}
 use mathlib.Core.Logic.{_⊎_}
 use mathlib.Core.List.{List, [], _∷_, map}
 use Prim.Native.Nat.{ℕ, zero, suc, _+_, _*_, _-_, _/_, _%_, _≤_, _<_}
-use lib.Dec.{ltb, leb}
-use lib.ListN.{length, getD, set, take}
+use lib.ListN.{length, getD, take}
 use lib.Seq.{sets}
 use Rattle.model.specs.Basics.{Span}
 use Rattle.model.specs.Rows.{MAX, boundaries}
-use Rattle.model.specs.Machine.{Machine, Ref, LoopedM, kid-spansM}
+use Rattle.model.specs.Machine.{Ref, LoopedM, kid-spansM}
 use Rattle.model.specs.Converter.{input, deep}
 use Rattle.rows.specs.Columns.{Columns, functionRows, functionRow, linesFrom, rowsFrom}
 use Rattle.rows.specs.Refusals.{total}
@@ -51,31 +49,7 @@ unfoldable pub topOf : List ℕ → ℕ → ℕ
 topOf s zero = 0
 topOf s (suc d) = startAt s d + lenAt s d
 
--- ── A turn of the walk over one line ───────────────────────────────────────────────────────────────────────────────────
-
-pub record Turned (S : Type 0) : Type 0 where
-  pub state : S
-  pub scratch : List ℕ
-  pub taken : ℕ
-  pub address : ℕ
-  pub done : Bool
-
-abbrev pub turned : {S : Type 0} → S → List ℕ → ℕ → ℕ → Bool → Turned S
-turned w s t a d = record { state = w; scratch = s; taken = t; address = a; done = d }
-
-module _ {Q N Y R P L S : Type 0} (M : Machine Q N Y R P L ℕ S) where
-  -- with the next inlinee range at hand, (from, to), and the state after the line's own range: past the line, or one more call location in the range's place
-  unfoldable pub taking : L → ℕ → ℕ → ℕ → ℕ → ℕ → List ℕ → S → Turned S
-  taking l e at t from to s w =
-      cond (leb e from) (turned w s t e true)
-      (turned (M .enter l w .1) (set s (at + t * 2 + 1) (M .enter l w .0)) (t + 1) to false)
-
-  -- the walk stands at `a` in a line that ends at `e`, whose location is l; `t` of the n inlinee ranges from word `at` on are taken
-  unfoldable pub turn : L → ℕ → ℕ → ℕ → ℕ → ℕ → List ℕ → S → Turned S
-  turn l e at n t a s w =
-      cond (leb e a) (turned w s t a true)
-      (cond (leb n t) (turned (M .put a l w) s t e true)
-      (taking l e at t (getD s (at + t * 2) 0) (getD s (at + t * 2 + 1) 0) s (cond (ltb a (getD s (at + t * 2) 0)) (M .put a l w) w)))
+-- ── The lines of a row ─────────────────────────────────────────────────────────────────────────────────────────────────
 
 -- what the loop over the lines of a row leaves: the state, the call locations in place of the inlinee ranges taken, and nothing changed below them
 pub record Lined {S : Type 0} (at n : ℕ) (o : LoopedM ℕ S) (s s′ : List ℕ) (w : S) (m : ℕ) : Type 0 where
@@ -98,8 +72,8 @@ kid-spans k d i j = kid-spansM input d (map deep (rowsFrom k i (functionRows k -
 abbrev pub LinesWithin : List ℕ → List ℕ → List ℕ → Type 0
 LinesWithin f64 f32 l64 = (r : ℕ) → r < length f64 / 2 → total (λ (i : ℕ). functionRow f64 f32 i .lines) r + functionRow f64 f32 r .lines ≤ length l64 / 3
 
--- what a row at depth d leaves, where the call locations up to its own depth end at pair `top`: the state, the call locations of the next depth from
--- there on, and no other word changed below
+-- what a row at depth d leaves, where the call locations up to its own depth end at pair `top`: the state, the call locations of
+-- the next depth from there on, and no other word changed below
 pub record RowDone {S : Type 0} (base d top n : ℕ) (o : LoopedM ℕ S) (s s′ : List ℕ) (w : S) : Type 0 where
   pub state : w ≡ o .state
   pub calls : callsOf s′ base (suc d) ≡ o .calls

@@ -1,5 +1,6 @@
-// Reading ahead: before any text of a tree is stored, its first functions are looked at in the tables. Each step is made for all of them, so that what one has to wait for is fetched
-// from memory while the others are. What is read goes to scratch memory, four words a function, and nothing of it is used.
+// Reading ahead: before any text of a tree is stored, its first functions are looked at in the tables. Each step is made for all of
+// them, so that what one has to wait for is fetched from memory while the others are. What is read goes to scratch memory, four words
+// a function, and nothing of it is used.
 use crate::stack::set_word;
 use crate::stack::word;
 use crate::tree::entry_pc;
@@ -76,7 +77,7 @@ fn function_link(
     let q = rows::function_row(functions64, functions32, i as usize);
     let row = Row {
         a: word(s, k),
-        b: 4294967295,
+        b: u32::MAX,
         c: entry_pc(q),
         d: q.language,
         e: 0,

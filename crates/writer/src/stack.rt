@@ -1,6 +1,7 @@
-// Scratch memory of a tree call: 32-bit words. For each depth from 1 on, four words: where the call locations of that depth's functions begin, and how many there are, 64 bits
-// each. After them pairs of words: stacked, the call locations of each depth on the path from the root (address, number), and on top of them the inlinee ranges of the function
-// at hand (start, end), which become the call locations of its inlinees one by one.
+// Scratch memory of a tree call: 32-bit words. For each depth from 1 on, four words: where the call locations of that depth's
+// functions begin, and how many there are, 64 bits each. After them pairs of words: stacked, the call locations of each depth on the
+// path from the root (address, number), and on top of them the inlinee ranges of the function at hand (start, end), which become the
+// call locations of its inlinees one by one.
 ghost use mathlib.Core.Path.{_≡_};
 ghost use mathlib.Core.List.{List, []};
 ghost use Prim.Native.Nat.{ℕ, _+_, _*_, _/_, _≤_, _<_};
@@ -8,8 +9,8 @@ ghost use lib.ListN.{length, getD, set};
 ghost use lib.Seq.{sets};
 ghost use Rattle.sorting.specs.Pairs.{pairWords};
 ghost use Rattle.rows.specs.Columns.{columns};
-ghost use Rattle.rows.specs.Refusals.{firstLine};
-ghost use Rattle.scratch.specs.Scratch.{startAt, lenAt, setCalls, line-spans, kid-spans, LinesWithin};
+ghost use Rattle.scratch.specs.Scratch.{startAt, lenAt, setCalls, line-spans, kid-spans};
+ghost use Rattle.writer.specs.Walk.{GatherReady};
 
 // The word at j, 0 past the end.
 pub(crate) fn word(s: &[u32], j: usize) -> u32
@@ -28,6 +29,12 @@ pub(crate) fn set_word(s: &mut [u32], j: usize, v: u32)
     if j < s.len() {
         s[j] = v;
     }
+}
+
+// Pairs of words: `len` of them, from word `at` on.
+pub(crate) struct Pairs {
+    pub at: usize,
+    pub len: usize,
 }
 
 // The call locations of a depth: pairs from `start` on, `len` of them.
@@ -65,7 +72,9 @@ pub(crate) fn set_calls(s: &mut [u32], d: u32, start: usize, len: usize)
 // The boundaries of `count` line rows from row `first` on, as pairs from word `at` on.
 fn push_lines(s: &mut [u32], at: usize, lines64: &[u64], lines32: &[u32], first: usize, count: u32)
     requires { ⌜ (at + count * 2 ≤ length (now s)) × (first + count ≤ length (now lines64) / 3) ⌝ }
-    ensures { λ _. ⌜ ((f g t : List ℕ) → now (s .exit) ≡ sets (now (s .entry)) at (pairWords (line-spans (columns f g (now (lines64 .entry)) (now (lines32 .entry)) t) first count))) ⌝ }
+    ensures { λ _. ⌜ ((f g t : List ℕ) →
+        let k = columns f g (now (lines64 .entry)) (now (lines32 .entry)) t in
+        now (s .exit) ≡ sets (now (s .entry)) at (pairWords (line-spans k first count))) ⌝ }
 {
     let mut i: u32 = 0;
     while i < count {
@@ -78,7 +87,8 @@ fn push_lines(s: &mut [u32], at: usize, lines64: &[u64], lines32: &[u32], first:
     }
 }
 
-// The inlinee ranges of a function at `depth`: the lines of the rows one deeper, among the rows from i on up to the next that is not deeper. As pairs from word `at` on; answers how many.
+// The inlinee ranges of a function at `depth`: the lines of the rows one deeper, among the rows from i on up to the next that is
+// not deeper. As pairs from word `at` on; answers how many.
 pub(crate) fn gather(
     s: &mut [u32],
     at: usize,
@@ -90,8 +100,11 @@ pub(crate) fn gather(
     first: usize,
     depth: u32,
 ) -> usize
-    requires { ⌜ (at + length (kid-spans (columns (now functions64) (now functions32) (now lines64) (now lines32) []) depth i first) * 2 ≤ length (now s)) × (i ≤ length (now functions64) / 2) × (depth < 65536) × (first ≡ firstLine (columns (now functions64) (now functions32) (now lines64) (now lines32) []) i) × LinesWithin (now functions64) (now functions32) (now lines64) ⌝ }
-    ensures { λ r. ⌜ (r ≡ length (kid-spans (columns (now (functions64 .entry)) (now (functions32 .entry)) (now (lines64 .entry)) (now (lines32 .entry)) []) depth i first)) × (now (s .exit) ≡ sets (now (s .entry)) at (pairWords (kid-spans (columns (now (functions64 .entry)) (now (functions32 .entry)) (now (lines64 .entry)) (now (lines32 .entry)) []) depth i first))) ⌝ }
+    requires { ⌜ GatherReady (columns (now functions64) (now functions32) (now lines64) (now lines32) []) (length (now s)) at i first depth ⌝ }
+    ensures { λ r. ⌜ (
+        let k = columns (now (functions64 .entry)) (now (functions32 .entry)) (now (lines64 .entry)) (now (lines32 .entry)) [] in
+        let spans = kid-spans k depth i first in
+        (r ≡ length spans) × (now (s .exit) ≡ sets (now (s .entry)) at (pairWords spans))) ⌝ }
 {
     let rows = functions64.len() / 2;
     let mut r = i;

@@ -13,20 +13,8 @@ Inv-loop undecorate string-bytes strings functions ranges s₀ functions64 funct
 abbrev μ-loop : tie.MeasureT-loop
 μ-loop undecorate string-bytes strings functions ranges s₀ functions64 functions32 text n step₀ s step = 6 - step
 
-few-requires : tie.Need-few-requires Inv-loop μ-loop
-few-requires c κs = search needs
-
 loop-holds : tie.Need-loop-holds Inv-loop μ-loop
 loop-holds c = (omega arith, refl)
-
-look-at-all-requires : tie.Need-look-at-all-requires Inv-loop μ-loop
-look-at-all-requires c κs = search needs
-
-add-step : tie.Need-add-step Inv-loop μ-loop
-add-step c = omega arith
-
-loop-less : tie.Need-loop-less Inv-loop μ-loop
-loop-less c = omega arith
 
 loop-again : tie.Need-loop-again Inv-loop μ-loop
 loop-again c = (omega arith, c .before .before .look-at-all .kept .1 .1 .1 .1 .1 .1 .0 ∙ c .before .before .before .before .before .loop .inv .1)
@@ -34,8 +22,15 @@ loop-again c = (omega arith, c .before .before .look-at-all .kept .1 .1 .1 .1 .1
 same-length : tie.Need-same-length Inv-loop μ-loop
 same-length c = c .before .loop .inv .1
 
-returns : tie.Need-returns Inv-loop μ-loop
-returns c = search needs
-
 pub read-ahead-spec : {M : Type 1} → statement M
-read-ahead-spec = tie.close (tie.spec Inv-loop μ-loop few-requires loop-holds look-at-all-requires add-step loop-less loop-again same-length returns)
+read-ahead-spec =
+    tie.close
+    (tie.spec
+    Inv-loop
+    μ-loop
+    (λ c κs. search needs)
+    loop-holds
+    (λ c κs. search needs) (λ c. omega arith) (λ c. omega arith)
+    loop-again
+    same-length
+    (λ c. search needs))

@@ -18,65 +18,35 @@ Inv-loop s₀ at lines64 lines32 first count i₀ s i =
 abbrev μ-loop : tie.MeasureT-loop
 μ-loop s₀ at lines64 lines32 first count i₀ s i = count - i
 
+abbrev start : tie.At-loop Inv-loop μ-loop → tie.Start Inv-loop μ-loop
+start c = c .before .before .before .before
+
+abbrev bounded : tie.After-set-word Inv-loop μ-loop → tie.After-line-boundaries Inv-loop μ-loop
+bounded c = c .before .before
+
 loop-holds : tie.Need-loop-holds Inv-loop μ-loop
 loop-holds c =
-    let a = c .before .before .before .args in (omega arith, refl, λ f g t. pushed-none (columns f g (a .lines64 .now) (a .lines32 .now) t) (a .first) (a .count) (a .at) (a .s .now))
-
-cast-k : tie.Need-cast-k Inv-loop μ-loop
-cast-k c = omega arith
-
-add-line-row : tie.Need-add-line-row Inv-loop μ-loop
-add-line-row c = omega arith
-
-line-row-requires : tie.Need-line-row-requires Inv-loop μ-loop
-line-row-requires c κs = search needs
-
-line-boundaries-requires : tie.Need-line-boundaries-requires Inv-loop μ-loop
-line-boundaries-requires c κs = search needs
-
-mul-set-word : tie.Need-mul-set-word Inv-loop μ-loop
-mul-set-word c = omega arith
-
-add-set-word : tie.Need-add-set-word Inv-loop μ-loop
-add-set-word c = omega arith
-
-set-word-requires : tie.Need-set-word-requires Inv-loop μ-loop
-set-word-requires c κs = search needs
-
-mul-set-word-2 : tie.Need-mul-set-word-2 Inv-loop μ-loop
-mul-set-word-2 c = omega arith
-
-add-set-word-2 : tie.Need-add-set-word-2 Inv-loop μ-loop
-add-set-word-2 c = omega arith
-
-add-set-word-3 : tie.Need-add-set-word-3 Inv-loop μ-loop
-add-set-word-3 c = omega arith
-
-set-word-requires-2 : tie.Need-set-word-requires-2 Inv-loop μ-loop
-set-word-requires-2 c κs = search needs
-
-add-i : tie.Need-add-i Inv-loop μ-loop
-add-i c = omega arith
-
-loop-less : tie.Need-loop-less Inv-loop μ-loop
-loop-less c = omega arith
+    let a = c .before .before .before .args in
+    (omega arith, refl, λ f g t. pushed-none (columns f g (a .lines64 .now) (a .lines32 .now) t) (a .first) (a .count) (a .at) (a .s .now))
 
 loop-again : tie.Need-loop-again Inv-loop μ-loop
 loop-again c =
-    let a = c .before .before .before .before .before .before .before .before .before .before .before .before .before .before .before .args in
-    let l = c .before .before .before .before .before .before .before .before .before .before .before .loop in
-    let h = c .before .before .before .before .before .before .before .before .before .before .loop-test .taken in (
+    let two = c .before .before .set-word2 in
+    let one = c .before .before .before .before .before .before in
+    let b = bounded one in
+    let m = b .before .before .before in
+    let a = start m .args in
+    let l = m .loop in (
       omega arith,
-      c .before .before .set-word2 .kept .0 ∙ c .before .before .before .before .before .before .set-word .kept .0 ∙ l .inv .1,
-      λ f g t. line-pushed (columns f g (a .lines64 .now) (a .lines32 .now) t) (a .first) (a .count) (a .at) (a .s .now) (l .s) _ _ (l .i) _ _ (c .before .before .before .before .before .before .before .before .before .line-row .ensures) (c .before .before .before .before .before .before .before .before .line-boundaries .ensures) (c .before .before .before .before .before .before .set-word .ensures) (c .before .before .set-word2 .ensures) h (l .inv .2 f g t),
+      two .kept .0 ∙ one .set-word .kept .0 ∙ l .inv .1,
+      λ f g t.
+          line-pushed (columns f g (a .lines64 .now) (a .lines32 .now) t) (a .first) (a .count) (a .at) (a .s .now) (l .s) _ _ (l .i) _ _ (b .before .line-row .ensures) (b .line-boundaries .ensures)
+          (one .set-word .ensures) (two .ensures) (b .before .before .loop-test .taken) (l .inv .2 f g t),
     )
-
-same-length : tie.Need-same-length Inv-loop μ-loop
-same-length c = c .before .loop .inv .1
 
 returns : tie.Need-returns Inv-loop μ-loop
 returns c =
-    let a = c .before .before .before .before .before .args in
+    let a = start (c .before) .args in
     let l = c .before .loop in
     λ f g t. pushed-all (columns f g (a .lines64 .now) (a .lines32 .now) t) (a .first) (a .count) (a .at) (a .s .now) (l .s) (l .i) (c .loop-test .left) (l .inv .2 f g t)
 
@@ -87,19 +57,9 @@ push-lines-spec =
     Inv-loop
     μ-loop
     loop-holds
-    cast-k
-    add-line-row
-    line-row-requires
-    line-boundaries-requires
-    mul-set-word
-    add-set-word
-    set-word-requires
-    mul-set-word-2
-    add-set-word-2
-    add-set-word-3
-    set-word-requires-2
-    add-i
-    loop-less
+    (λ c. omega arith) (λ c. omega arith) (λ c κs. search needs) (λ c κs. search needs) (λ c. omega arith)
+    (λ c. omega arith) (λ c κs. search needs) (λ c. omega arith) (λ c. omega arith) (λ c. omega arith)
+    (λ c κs. search needs) (λ c. omega arith) (λ c. omega arith)
     loop-again
-    same-length
+    (λ c. c .before .loop .inv .1)
     returns)

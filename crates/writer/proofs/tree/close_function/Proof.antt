@@ -7,39 +7,25 @@ use borrow.Author.Needs.{needs}
 use Rattle.writer.proofs.tree.close_function.Statement.{statement}
 use Rattle.writer.proofs.tree.close_function.Tie as tie
 
-insert-entry-requires : tie.Need-insert-entry-requires
-insert-entry-requires c κs = search needs
-
-function-end-requires : tie.Need-function-end-requires
-function-end-requires c κs = search needs
-
-mark-end-requires : tie.Need-mark-end-requires
-mark-end-requires c κs = search needs
-
-insert-end-requires : tie.Need-insert-end-requires
-insert-end-requires c κs = search needs
-
-same-length : tie.Need-same-length
-same-length c = search needs
+abbrev entered : tie.After-mark-end → tie.After-insert-entry
+entered c = c .before .before .before .before
 
 returns : tie.Need-returns
 returns c =
-    let a = c .before .before .before .before .before .before .before .before .before .before .before .args in
-    let n = c .before .before .before .before .before .before .before .before .insert-entry in
-    let e = c .before .before .before .before .before .function-end in
-    let m = c .before .before .before .before .mark-end in
+    let k = c .before .before .before .before in
+    let a = entered k .before .before .before .args in
+    let n = entered k .insert-entry in
+    let e = k .before .function-end in
+    let m = k .mark-end in
     let r = c .before .before .insert-end in
     λ X p x i f g k ea es ei h.
     closing X p (a .function-idx) (words (a .state) x i f g k (a .ranges .now)) (e .result) (words (n .result) x i f g k (n .last .1 .0)) (words (m .result) x i f g k (n .last .1 .0))
-    (words (r .result) x i f g k (r .last .1 .0)) (n .ensures X p x i f g k ea ei h) (end-is p (a .q) (e .ensures) ea es) (ap (λ (z : State). words z x i f g k (n .last .1 .0)) (m .ensures)) (r .ensures X x i f g k)
+    (words (r .result) x i f g k (r .last .1 .0)) (n .ensures X p x i f g k ea ei h) (end-is p (a .q) (e .ensures) ea es)
+    (ap (λ (z : State). words z x i f g k (n .last .1 .0)) (m .ensures)) (r .ensures X x i f g k)
 
 pub close-function-spec : {M : Type 1} → statement M
 close-function-spec =
     tie.close
     (tie.spec
-    insert-entry-requires
-    function-end-requires
-    mark-end-requires
-    insert-end-requires
-    same-length
+    (λ c κs. search needs) (λ c κs. search needs) (λ c κs. search needs) (λ c κs. search needs) (λ c. search needs)
     returns)

@@ -12,15 +12,6 @@ returns c =
     let a = c .before .before .args in
     λ X p x i f g k ea ei h. entry-inline X p (a .function-idx) (words (a .state) x i f g k (a .ranges .now)) (ei ∙ c .if1 .taken)
 
-cast-entry : tie.Need-cast-entry
-cast-entry c = search needs
-
-insert-source-location-requires : tie.Need-insert-source-location-requires
-insert-source-location-requires c κs = search needs
-
-same-length : tie.Need-same-length
-same-length c = search needs
-
 returns-2 : tie.Need-returns-2
 returns-2 c =
     let a = c .before .before .before .before .before .before .before .args in
@@ -31,4 +22,4 @@ returns-2 c =
 
 pub insert-entry-spec : {M : Type 1} → statement M
 insert-entry-spec =
-    tie.close (tie.spec returns cast-entry insert-source-location-requires same-length returns-2)
+    tie.close (tie.spec returns (λ c. search needs) (λ c κs. search needs) (λ c. search needs) returns-2)

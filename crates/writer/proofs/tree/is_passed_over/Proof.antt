@@ -7,14 +7,8 @@ use borrow.Author.Needs.{needs}
 use Rattle.writer.proofs.tree.is_passed_over.Statement.{statement}
 use Rattle.writer.proofs.tree.is_passed_over.Tie as tie
 
-is-skipped-requires : tie.Need-is-skipped-requires
-is-skipped-requires c κs = search needs
-
 returns : tie.Need-returns
 returns c = let a = c .before .before .args in passed-test (a .some) (cond (eqb (a .q .size) 0) true (ltb MAX (a .q .address))) (c .before .if1 .taken) (c .is-skipped .ensures)
 
-returns-2 : tie.Need-returns-2
-returns-2 c = search needs
-
 pub is-passed-over-spec : {M : Type 1} → statement M
-is-passed-over-spec = tie.close (tie.spec is-skipped-requires returns returns-2)
+is-passed-over-spec = tie.close (tie.spec (λ c κs. search needs) returns (λ c. search needs))

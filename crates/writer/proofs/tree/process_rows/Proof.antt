@@ -5,9 +5,9 @@ use mathlib.Core.Bool.{Bool, true}
 use native.Mathlib.Omega.{arith}
 use lib.ListN.{length}
 use borrow.Author.Needs.{needs}
-use Rattle.rows.specs.Columns.{columns}
-use Rattle.rows.proofs.Accepted.{accepted}
-use Rattle.memory.specs.Memory.{words}
+use Rattle.rows.specs.Columns.{Columns, columns}
+use Rattle.rows.proofs.Accepted.{Accepted, accepted}
+use Rattle.memory.specs.Memory.{Words, words}
 use Rattle.steps.specs.Steps.{over-words}
 use Rattle.scratch.proofs.Tree.{Rowing, starts, ends}
 use Rattle.steps.specs.Symbols.{switches}
@@ -29,80 +29,97 @@ abbrev μ-loop : tie.MeasureT-loop
 μ-loop undecorate string-bytes₀ strings₀ files₀ functions₀ call-locations₀ ranges₀ s₀ functions64 functions32 lines64 lines32 text rows base now₀ first₀ i₀ string-bytes strings files functions call-locations ranges s now first i =
     rows - i
 
-mul-base : tie.Need-mul-base Inv-loop μ-loop
-mul-base c = omega (arith, c .before .before .before .before .before .before .before .before .before .before .before .before .good .1 .1 .1 .1 .1 .1 .1 .1 .1 .0)
+-- ── Places ──
+
+abbrev Start : Type 0
+Start = tie.Start Inv-loop μ-loop
+
+abbrev Rows : Type 0
+Rows = tie.At-loop Inv-loop μ-loop
+
+abbrev start-seven : tie.After-slice-known7 Inv-loop μ-loop → Start
+start-seven c = c .before .before .before .before .before .before .before
+
+abbrev start-all : tie.After-shared-slice-known5 Inv-loop μ-loop → Start
+start-all c = start-seven (c .before .before .before .before .before)
+
+abbrev start : Rows → Start
+start c = start-all (c .before)
+
+abbrev read : tie.After-process-row Inv-loop μ-loop → tie.After-function-row Inv-loop μ-loop
+read c = c .before .before .before .before .before .before .before .before
+
+abbrev rows : tie.After-function-row Inv-loop μ-loop → Rows
+rows c = c .before .before
+
+abbrev processed-six : tie.After-slice-known10 Inv-loop μ-loop → tie.After-process-row Inv-loop μ-loop
+processed-six c = c .before .before .before .before .before .before
+
+abbrev processed : tie.After-slice-known14 Inv-loop μ-loop → tie.After-process-row Inv-loop μ-loop
+processed c = processed-six (c .before .before .before .before .before .before .before .before)
+
+-- ── What is known there ──
+
+abbrev columns-of : Start → Columns
+columns-of c = let a = c .args in columns (a .functions64 .now) (a .functions32 .now) (a .lines64 .now) (a .lines32 .now) (a .text .now)
+
+abbrev words-first : Start → Words
+words-first c = let a = c .args in words (a .state) (a .string-bytes .now) (a .strings .now) (a .files .now) (a .functions .now) (a .call-locations .now) (a .ranges .now)
+
+abbrev words-of : Rows → Words
+words-of c = let l = c .loop in words (l .now) (l .string-bytes) (l .strings) (l .files) (l .functions) (l .call-locations) (l .ranges)
+
+ok : (c : Start) → Accepted (columns-of c) (length (c .args .s .now))
+ok c = accepted (columns-of c) (length (c .args .s .now)) (c .pre)
+
+-- the line rows up to the next row lie within the line rows
+low : (c : tie.After-function-row Inv-loop μ-loop) → rows c .loop .first-line + c .function-row .result .lines ≤ length (start (rows c) .args .lines64 .now) / 3
+low c =
+    let o = start (rows c) in
+    let l = rows c .loop in
+    first-low (columns-of o) (length (o .args .s .now)) (switches (o .args .undecorate) true) (words-first o) (ok o) (l .s) (l .i) (l .first-line) (words-of (rows c)) (l .inv .6 true) (c .before .loop-test .taken)
+    (c .function-row .result) (c .function-row .ensures)
 
 loop-holds : tie.Need-loop-holds Inv-loop μ-loop
 loop-holds c =
-    let a = c .before .before .before .before .before .before .before .before .before .before .before .before .args in
-    (refl, refl, refl, refl, refl, refl, λ Y. starts (over-words (switches (a .undecorate) Y)) (columns (a .functions64 .now) (a .functions32 .now) (a .lines64 .now) (a .lines32 .now) (a .text .now)) (length (a .s .now)) (words (a .state) (a .string-bytes .now) (a .strings .now) (a .files .now) (a .functions .now) (a .call-locations .now) (a .ranges .now)) (accepted (columns (a .functions64 .now) (a .functions32 .now) (a .lines64 .now) (a .lines32 .now) (a .text .now)) (length (a .s .now)) (c .before .before .before .before .before .before .before .before .before .before .before .before .pre)) refl (a .s .now) refl)
+    let o = start-all c in
+    (refl, refl, refl, refl, refl, refl, λ Y. starts (over-words (switches (o .args .undecorate) Y)) (columns-of o) (length (o .args .s .now)) (words-first o) (ok o) refl (o .args .s .now) refl)
 
 process-row-requires : tie.Need-process-row-requires Inv-loop μ-loop
 process-row-requires c κs =
-    let a = c .before .before .before .before .before .before .before .before .before .before .before .before .before .before .before .before .before .before .before .before .before .args in
-    let l = c .before .before .before .before .before .before .before .before .loop in
-    row-ready (columns (a .functions64 .now) (a .functions32 .now) (a .lines64 .now) (a .lines32 .now) (a .text .now)) (length (a .s .now)) (switches (a .undecorate) true) (words (a .state) (a .string-bytes .now) (a .strings .now) (a .files .now) (a .functions .now) (a .call-locations .now) (a .ranges .now)) (accepted (columns (a .functions64 .now) (a .functions32 .now) (a .lines64 .now) (a .lines32 .now) (a .text .now)) (length (a .s .now)) (c .before .before .before .before .before .before .before .before .before .before .before .before .before .before .before .before .before .before .before .before .before .pre)) (l .s) (l .i) (l .first) (words (l .now) (l .string-bytes) (l .strings) (l .files) (l .functions) (l .call-locations) (l .ranges)) (l .inv .6 true) (c .before .before .before .before .before .before .before .loop-test .taken)
-
-function-row-requires : tie.Need-function-row-requires Inv-loop μ-loop
-function-row-requires c κs = search needs
-
-cast-first : tie.Need-cast-first Inv-loop μ-loop
-cast-first c = omega arith
-
-add-first : tie.Need-add-first Inv-loop μ-loop
-add-first c =
-    let a = c .before .before .before .before .before .before .before .before .before .before .before .before .before .before .before .before .before .before .before .before .before .before .before .before .before .before .before .before .before .before .before .before .before .before .before .before .before .before .args in
-    let l = c .before .before .before .before .before .before .before .before .before .before .before .before .before .before .before .before .before .before .before .before .before .before .before .before .before .loop in
-    let f : l .first + c .before .function-row .result .lines ≤ length (a .lines64 .now) / 3 = first-low (columns (a .functions64 .now) (a .functions32 .now) (a .lines64 .now) (a .lines32 .now) (a .text .now)) (length (a .s .now)) (switches (a .undecorate) true) (words (a .state) (a .string-bytes .now) (a .strings .now) (a .files .now) (a .functions .now) (a .call-locations .now) (a .ranges .now)) (accepted (columns (a .functions64 .now) (a .functions32 .now) (a .lines64 .now) (a .lines32 .now) (a .text .now)) (length (a .s .now)) (c .before .before .before .before .before .before .before .before .before .before .before .before .before .before .before .before .before .before .before .before .before .before .before .before .before .before .before .before .before .before .before .before .before .before .before .before .before .before .pre)) (l .s) (l .i) (l .first) (words (l .now) (l .string-bytes) (l .strings) (l .files) (l .functions) (l .call-locations) (l .ranges)) (l .inv .6 true) (c .before .before .before .before .before .before .before .before .before .before .before .before .before .before .before .before .before .before .before .before .before .before .before .before .loop-test .taken) (c .before .function-row .result) (c .before .function-row .ensures) in
-    omega (arith, f, c .before .before .before .before .before .before .before .before .before .before .before .before .before .before .before .before .before .before .before .before .before .before .before .before .before .before .before .before .before .before .before .before .before .before .before .before .before .before .good .1 .1 .1 .1 .1 .1 .1 .1 .1 .1 .1 .0)
-
-add-i : tie.Need-add-i Inv-loop μ-loop
-add-i c = omega (arith, c .before .before .before .before .before .before .before .before .before .before .before .before .before .before .before .before .before .before .before .before .before .before .before .before .loop-test .taken, c .before .before .before .before .before .before .before .before .before .before .before .before .before .before .before .before .before .before .before .before .before .before .before .before .before .before .before .before .before .before .before .before .before .before .before .before .before .before .good .1 .1 .1 .1 .1 .1 .1 .1 .1 .0)
-
-loop-less : tie.Need-loop-less Inv-loop μ-loop
-loop-less c = omega (arith, c .before .before .before .before .before .before .before .before .before .before .before .before .before .before .before .before .before .before .before .before .before .before .before .before .loop-test .taken)
+    let f = c .before .before .before .before .before .before .before in
+    let o = start (rows f) in
+    let l = rows f .loop in
+    record {
+      is = f .function-row .ensures;
+      ready = row-ready (columns-of o) (length (o .args .s .now)) (switches (o .args .undecorate) true) (words-first o) (ok o) (l .s) (l .i) (l .first-line) (words-of (rows f)) (l .inv .6 true) (f .before .loop-test .taken);
+    }
 
 loop-again : tie.Need-loop-again Inv-loop μ-loop
 loop-again c =
-    let a = c .before .before .before .before .before .before .before .before .before .before .before .before .before .before .before .before .before .before .before .before .before .before .before .before .before .before .before .before .before .before .before .before .before .before .before .before .before .before .args in
-    let l = c .before .before .before .before .before .before .before .before .before .before .before .before .before .before .before .before .before .before .before .before .before .before .before .before .before .loop in
-    let v = c .before .before .before .before .before .before .before .before .before .before .before .before .before .before .before .before .process-row in
-    let q = c .before .function-row in (
-      v .kept .1 .1 .0 ∙ l .inv .0,
-      v .kept .1 .1 .1 .0 ∙ l .inv .1,
-      v .kept .1 .1 .1 .1 .0 ∙ l .inv .2,
-      v .kept .1 .1 .1 .1 .1 .0 ∙ l .inv .3,
-      v .kept .1 .1 .1 .1 .1 .1 .0 ∙ l .inv .4,
-      v .kept .1 .1 .1 .1 .1 .1 .1 .0 ∙ l .inv .5,
-      λ Y. row-after (columns (a .functions64 .now) (a .functions32 .now) (a .lines64 .now) (a .lines32 .now) (a .text .now)) (length (a .s .now)) (switches (a .undecorate) Y) (words (a .state) (a .string-bytes .now) (a .strings .now) (a .files .now) (a .functions .now) (a .call-locations .now) (a .ranges .now)) (accepted (columns (a .functions64 .now) (a .functions32 .now) (a .lines64 .now) (a .lines32 .now) (a .text .now)) (length (a .s .now)) (c .before .before .before .before .before .before .before .before .before .before .before .before .before .before .before .before .before .before .before .before .before .before .before .before .before .before .before .before .before .before .before .before .before .before .before .before .before .before .pre)) (l .s) (l .i) (l .first) (words (l .now) (l .string-bytes) (l .strings) (l .files) (l .functions) (l .call-locations) (l .ranges)) (l .inv .6 Y) (c .before .before .before .before .before .before .before .before .before .before .before .before .before .before .before .before .before .before .before .before .before .before .before .before .loop-test .taken) (q .result) (q .ensures) (v .last .1 .1 .1 .1 .1 .1 .1 .1 .0) (words (v .result) (v .last .1 .1 .0) (v .last .1 .1 .1 .0) (v .last .1 .1 .1 .1 .0) (v .last .1 .1 .1 .1 .1 .0) (v .last .1 .1 .1 .1 .1 .1 .0) (v .last .1 .1 .1 .1 .1 .1 .1 .0)) (v .ensures Y) (v .kept .1 .1 .1 .1 .1 .1 .1 .1 .0),
+    let v = processed c .process-row in
+    let f = read (processed c) in
+    let o = start (rows f) in
+    let l = rows f .loop in
+    let k = v .kept .1 .1 in
+    let t = v .last .1 .1 in (
+      k .0 ∙ l .inv .0,
+      k .1 .0 ∙ l .inv .1,
+      k .1 .1 .0 ∙ l .inv .2,
+      k .1 .1 .1 .0 ∙ l .inv .3,
+      k .1 .1 .1 .1 .0 ∙ l .inv .4,
+      k .1 .1 .1 .1 .1 .0 ∙ l .inv .5,
+      λ Y.
+          row-after (columns-of o) (length (o .args .s .now)) (switches (o .args .undecorate) Y) (words-first o) (ok o) (l .s) (l .i) (l .first-line) (words-of (rows f)) (l .inv .6 Y) (f .before .loop-test .taken)
+          (f .function-row .result) (f .function-row .ensures) (t .1 .1 .1 .1 .1 .1 .0) (words (v .result) (t .0) (t .1 .0) (t .1 .1 .0) (t .1 .1 .1 .0) (t .1 .1 .1 .1 .0) (t .1 .1 .1 .1 .1 .0))
+          (v .ensures Y) (k .1 .1 .1 .1 .1 .1 .0),
     )
-
-same-length : tie.Need-same-length Inv-loop μ-loop
-same-length c = c .before .loop .inv .0
-
-same-length-2 : tie.Need-same-length-2 Inv-loop μ-loop
-same-length-2 c = c .before .loop .inv .1
-
-same-length-3 : tie.Need-same-length-3 Inv-loop μ-loop
-same-length-3 c = c .before .loop .inv .2
-
-same-length-4 : tie.Need-same-length-4 Inv-loop μ-loop
-same-length-4 c = c .before .loop .inv .3
-
-same-length-5 : tie.Need-same-length-5 Inv-loop μ-loop
-same-length-5 c = c .before .loop .inv .4
-
-same-length-6 : tie.Need-same-length-6 Inv-loop μ-loop
-same-length-6 c = c .before .loop .inv .5
-
-same-length-7 : tie.Need-same-length-7 Inv-loop μ-loop
-same-length-7 c = c .before .loop .inv .6 true .len
 
 returns : tie.Need-returns Inv-loop μ-loop
 returns c =
-    let a = c .before .before .before .before .before .before .before .before .before .before .before .before .before .before .args in
+    let o = start (c .before) in
     let l = c .before .loop in
-    λ Y. ends (over-words (switches (a .undecorate) Y)) (columns (a .functions64 .now) (a .functions32 .now) (a .lines64 .now) (a .lines32 .now) (a .text .now)) (length (a .s .now)) (words (a .state) (a .string-bytes .now) (a .strings .now) (a .files .now) (a .functions .now) (a .call-locations .now) (a .ranges .now)) (accepted (columns (a .functions64 .now) (a .functions32 .now) (a .lines64 .now) (a .lines32 .now) (a .text .now)) (length (a .s .now)) (c .before .before .before .before .before .before .before .before .before .before .before .before .before .before .pre)) (l .s) (l .i) (l .first) (words (l .now) (l .string-bytes) (l .strings) (l .files) (l .functions) (l .call-locations) (l .ranges)) (l .inv .6 Y) (c .loop-test .left)
+    λ Y. ends (over-words (switches (o .args .undecorate) Y)) (columns-of o) (length (o .args .s .now)) (words-first o) (ok o) (l .s) (l .i) (l .first-line) (words-of (c .before)) (l .inv .6 Y) (c .loop-test .left)
 
 pub process-rows-spec : {M : Type 1} → statement M
 process-rows-spec =
@@ -110,20 +127,20 @@ process-rows-spec =
     (tie.spec
     Inv-loop
     μ-loop
-    mul-base
+    (λ c. omega (arith, start-all c .good .1 .1 .1 .1 .1 .1 .1 .1 .1 .0))
     loop-holds
+    (λ c κs. search needs)
     process-row-requires
-    function-row-requires
-    cast-first
-    add-first
-    add-i
-    loop-less
+    (λ c. omega (arith, read (processed c) .function-row .ok))
+    (λ c. omega (arith, low (read (processed c)), start (rows (read (processed c))) .good .1 .1 .1 .1 .1 .1 .1 .1 .1 .1 .1 .0))
+    (λ c. omega (arith, read (processed c) .before .loop-test .taken, start (rows (read (processed c))) .good .1 .1 .1 .1 .1 .1 .1 .1 .1 .0))
+    (λ c. omega (arith, read (processed c) .before .loop-test .taken))
     loop-again
-    same-length
-    same-length-2
-    same-length-3
-    same-length-4
-    same-length-5
-    same-length-6
-    same-length-7
+    (λ c. c .before .loop .inv .0)
+    (λ c. c .before .loop .inv .1)
+    (λ c. c .before .loop .inv .2)
+    (λ c. c .before .loop .inv .3)
+    (λ c. c .before .loop .inv .4)
+    (λ c. c .before .loop .inv .5)
+    (λ c. c .before .loop .inv .6 true .len)
     returns)

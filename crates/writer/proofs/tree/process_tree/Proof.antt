@@ -10,49 +10,30 @@ use Rattle.writer.proofs.tree.process_tree.Tie as tie
 as-long : (k : Columns) {m n : ℕ} → m ≡ n → refusalOf k n ≡ 0 → refusalOf k m ≡ 0
 as-long k e p = rw e p
 
-read-ahead-requires : tie.Need-read-ahead-requires
-read-ahead-requires c κs = search needs
+abbrev start-seven : tie.After-slice-known7 → tie.Start
+start-seven c = c .before .before .before .before .before .before .before
+
+abbrev start-all : tie.After-shared-slice-known5 → tie.Start
+start-all c = start-seven (c .before .before .before .before .before)
+
+abbrev start : tie.After-read-ahead → tie.Start
+start c = start-all (c .before .before .before .before .before .before)
+
+abbrev looked : tie.After-process-rows-arg → tie.After-read-ahead
+looked c = c .before .before .before
 
 process-rows-requires : tie.Need-process-rows-requires
 process-rows-requires c κs =
-    let a = c .before .before .before .before .before .before .before .before .before .before .before .before .before .before .before .before .before .before .before .before .before .before .before .before .before .before .before .args in
-    as-long (columns (a .functions64 .now) (a .functions32 .now) (a .lines64 .now) (a .lines32 .now) (a .text .now)) (c .before .before .before .before .before .before .before .before .before .read-ahead .kept .1 .1 .1 .1 .1 .0) (c .before .before .before .before .before .before .before .before .before .before .before .before .before .before .before .before .before .before .before .before .before .before .before .before .before .before .before .pre)
-
-same-length : tie.Need-same-length
-same-length c = search needs
-
-same-length-2 : tie.Need-same-length-2
-same-length-2 c = search needs
-
-same-length-3 : tie.Need-same-length-3
-same-length-3 c = search needs
-
-same-length-4 : tie.Need-same-length-4
-same-length-4 c = search needs
-
-same-length-5 : tie.Need-same-length-5
-same-length-5 c = search needs
-
-same-length-6 : tie.Need-same-length-6
-same-length-6 c = search needs
-
-same-length-7 : tie.Need-same-length-7
-same-length-7 c = search needs
-
-returns : tie.Need-returns
-returns c = search needs
+    let r = looked (c .before .before .before .before .before .before) in
+    let o = start r in
+    let a = o .args in
+    as-long (columns (a .functions64 .now) (a .functions32 .now) (a .lines64 .now) (a .lines32 .now) (a .text .now)) (r .read-ahead .kept .1 .1 .1 .1 .1 .0) (o .pre)
 
 pub process-tree-spec : {M : Type 1} → statement M
 process-tree-spec =
     tie.close
     (tie.spec
-    read-ahead-requires
+    (λ c κs. search needs)
     process-rows-requires
-    same-length
-    same-length-2
-    same-length-3
-    same-length-4
-    same-length-5
-    same-length-6
-    same-length-7
-    returns)
+    (λ c. search needs) (λ c. search needs) (λ c. search needs) (λ c. search needs) (λ c. search needs)
+    (λ c. search needs) (λ c. search needs) (λ c. search needs))

@@ -1,11 +1,12 @@
--- `visit_row` meets its contract: `row-walked`, from what its six calls ensure.
+-- `visit_row` meets its contract: `row-walked`, from what its five calls ensure.
 use mathlib.Core.Path.{_≡_, sym, ap, subst, _∙_}
-use Prim.Native.Nat.{_+_, _/_, _≤_}
+use mathlib.Core.List.{List}
+use Prim.Native.Nat.{ℕ, _+_, _/_, _≤_}
 use native.Mathlib.Omega.{arith}
 use lib.ListN.{length}
 use Rattle.model.specs.Rows.{MAX}
 use Rattle.rows.specs.declared.FunctionRow.{FunctionRow as FunctionStruct}
-use Rattle.rows.specs.Columns.{columns, functionAt}
+use Rattle.rows.specs.Columns.{Columns, columns, functionAt}
 use Rattle.rows.proofs.RowLaws.{functionAt-address, functionAt-size, functionAt-inline}
 use Rattle.memory.specs.Memory.{words}
 use Rattle.steps.proofs.RowTexts.{address-below}
@@ -15,110 +16,111 @@ use borrow.Author.Needs.{needs}
 use Rattle.writer.proofs.tree.visit_row.Statement.{statement}
 use Rattle.writer.proofs.tree.visit_row.Tie as tie
 
-function-row-requires : tie.Need-function-row-requires
-function-row-requires c κs = search needs
+-- ── Places ──
 
-mul-at : tie.Need-mul-at
-mul-at c = omega (arith, c .before .before .before .before .before .before .before .before .before .before .before .before .before .pre .0 .room, c .before .before .before .before .before .before .before .before .before .before .before .before .before .good .1 .1 .1 .1 .1 .1 .1 .1 .0)
+abbrev start-seven : tie.After-slice-known7 → tie.Start
+start-seven c = c .before .before .before .before .before .before .before
 
-add-at : tie.Need-add-at
-add-at c = omega (arith, c .before .before .before .before .before .before .before .before .before .before .before .before .before .pre .0 .room, c .before .before .before .before .before .before .before .before .before .before .before .before .before .good .1 .1 .1 .1 .1 .1 .1 .1 .0)
+abbrev start : tie.After-struct-known → tie.Start
+start c = start-seven (c .before .before .before .before .before .before .before)
 
-add-sorted-ranges : tie.Need-add-sorted-ranges
-add-sorted-ranges c = omega (arith, c .before .before .before .before .before .before .before .before .before .before .before .before .before .before .pre .0 .inside, c .before .before .before .before .before .before .before .before .before .before .before .before .before .before .good .1 .1 .1 .1 .1 .1 .1 .1 .1 .0)
+abbrev read : tie.After-sorted-ranges → tie.After-struct-known
+read c = c .before .before .before .before .before
 
-cast-sorted-ranges : tie.Need-cast-sorted-ranges
-cast-sorted-ranges c = search needs
+abbrev sorted : tie.After-begin-row → tie.After-sorted-ranges
+sorted c = c .before .before .before .before .before .before
 
-add-sorted-ranges-2 : tie.Need-add-sorted-ranges-2
-add-sorted-ranges-2 c =
-    let a = c .before .before .before .before .before .before .before .before .before .before .before .before .before .before .before .args in
-    let h : a .first + c .before .before .function-row .result .lines ≤ length (a .lines64 .now) / 3 = lines-room (a .functions64 .now) (a .functions32 .now) (a .lines64 .now) (a .lines32 .now) (a .text .now) (a .base) (a .i) (a .first) (length (a .s .now)) (a .top) (c .before .before .before .before .before .before .before .before .before .before .before .before .before .before .before .pre .0) (c .before .before .function-row .result) (c .before .before .function-row .ensures) in
-    omega (arith, h, c .before .before .before .before .before .before .before .before .before .before .before .before .before .before .before .good .1 .1 .1 .1 .1 .1 .1 .1 .1 .1 .1 .0)
+abbrev begun-eight : tie.After-own-call-locations → tie.After-begin-row
+begun-eight c = c .before .before .before .before .before .before .before .before
+
+abbrev begun : tie.After-process-lines → tie.After-begin-row
+begun c = begun-eight (c .before .before .before .before .before .before .before)
+
+abbrev walked-eight : tie.After-slice-known15 → tie.After-process-lines
+walked-eight c = c .before .before .before .before .before .before .before .before
+
+abbrev walked : tie.After-close-function → tie.After-process-lines
+walked c = walked-eight (c .before .before .before .before .before .before .before)
+
+abbrev closed : tie.After-slice-known19 → tie.After-close-function
+closed c = c .before .before .before .before .before .before
+
+abbrev columns-of : tie.Start → Columns
+columns-of o = let a = o .args in columns (a .functions64 .now) (a .functions32 .now) (a .lines64 .now) (a .lines32 .now) (a .text .now)
+
+-- ── What is asked on the way ──
+
+-- the line rows of the row lie within the line rows
+within : (o : tie.Start) → o .args .row .«first_line» + o .args .row .function .lines ≤ length (o .args .lines64 .now) / 3
+within o =
+    let a = o .args in
+    lines-room (a .functions64 .now) (a .functions32 .now) (a .lines64 .now) (a .lines32 .now) (a .text .now) (a .base) (a .row .i) (a .row .«first_line») (length (a .s .now)) (a .own .top) (o .pre .ready) (a .row .function) (o .pre .is)
 
 sorted-ranges-requires : tie.Need-sorted-ranges-requires
-sorted-ranges-requires c κs = let a = c .before .before .before .before .before .before .before .before .before .before .before .before .before .before .before .args in gather-ready (a .functions64 .now) (a .functions32 .now) (a .lines64 .now) (a .lines32 .now) (a .text .now) (a .base) (a .i) (a .first) (length (a .s .now)) (a .top) (c .before .before .before .before .before .before .before .before .before .before .before .before .before .before .before .pre .0) (c .before .before .function-row .result) (c .before .before .function-row .ensures)
-
-begin-row-requires : tie.Need-begin-row-requires
-begin-row-requires c κs = search needs
+sorted-ranges-requires c κs =
+    let o = start (c .before .before .before .before) in
+    let a = o .args in
+    gather-ready (a .functions64 .now) (a .functions32 .now) (a .lines64 .now) (a .lines32 .now) (a .text .now) (a .base) (a .row .i) (a .row .«first_line») (length (a .s .now)) (a .own .top) (o .pre .ready) (a .row .function) (o .pre .is)
 
 process-lines-requires : tie.Need-process-lines-requires
 process-lines-requires c κs =
-    let a = c .before .before .before .before .before .before .before .before .before .before .before .before .before .before .before .before .before .before .before .before .before .before .before .before .before .before .before .before .before .before .before .before .before .before .before .args in
-    let g = c .before .before .before .before .before .before .before .before .before .before .before .before .before .before .before .before .before .before .before .sorted-ranges in
-    lines-ready (a .functions64 .now) (a .functions32 .now) (a .lines64 .now) (a .lines32 .now) (a .text .now) (a .base) (a .i) (a .first) (length (a .s .now)) (a .top) (c .before .before .before .before .before .before .before .before .before .before .before .before .before .before .before .before .before .before .before .before .before .before .before .before .before .before .before .before .before .before .before .before .before .before .before .pre .0) (c .before .before .before .before .before .before .before .before .before .before .before .before .before .before .before .before .before .before .before .before .before .before .function-row .result) (c .before .before .before .before .before .before .before .before .before .before .before .before .before .before .before .before .before .before .before .before .before .before .function-row .ensures) (a .calls) (a .count) (g .result) (a .s .now) (g .last .0) (g .kept .0) (c .before .before .before .before .before .before .before .before .before .before .before .before .before .before .before .before .before .before .before .before .before .before .before .before .before .before .before .before .before .before .before .before .before .before .before .pre .1) (g .ensures)
-
-close-function-requires : tie.Need-close-function-requires
-close-function-requires c κs = search needs
-
-set-calls-requires : tie.Need-set-calls-requires
-set-calls-requires c κs = search needs
-
-same-length : tie.Need-same-length
-same-length c = c .before .before .before .before .before .before .before .before .before .before .before .before .before .before .before .before .before .before .before .before .before .process-lines .kept .1 .0 ∙ c .before .before .before .before .before .before .before .before .before .before .before .before .before .before .before .before .before .before .before .before .before .before .before .before .before .before .before .before .before .before .before .before .before .before .before .begin-row .kept .1 .1 .0
-
-same-length-2 : tie.Need-same-length-2
-same-length-2 c = c .before .before .before .before .before .before .before .before .before .before .before .before .before .before .before .before .before .before .before .before .before .process-lines .kept .1 .1 .0 ∙ c .before .before .before .before .before .before .before .before .before .before .before .before .before .before .before .before .before .before .before .before .before .before .before .before .before .before .before .before .before .before .before .before .before .before .before .begin-row .kept .1 .1 .1 .0
-
-same-length-3 : tie.Need-same-length-3
-same-length-3 c = search needs
-
-same-length-4 : tie.Need-same-length-4
-same-length-4 c = c .before .before .before .before .before .before .before .before .before .before .before .before .before .before .before .before .before .before .before .before .before .before .before .before .before .before .before .before .before .before .before .before .before .before .before .begin-row .kept .1 .1 .1 .1 .0
-
-same-length-5 : tie.Need-same-length-5
-same-length-5 c = search needs
-
-same-length-6 : tie.Need-same-length-6
-same-length-6 c = search needs
-
-same-length-7 : tie.Need-same-length-7
-same-length-7 c = c .before .before .set-calls .kept .0 ∙ c .before .before .before .before .before .before .before .before .before .before .before .before .before .before .before .before .before .before .before .before .before .process-lines .kept .1 .1 .1 .1 .1 .1 .0 ∙ c .before .before .before .before .before .before .before .before .before .before .before .before .before .before .before .before .before .before .before .before .before .before .before .before .before .before .before .before .before .before .before .before .before .before .before .before .before .before .before .before .before .sorted-ranges .kept .0
+    let g = sorted (begun-eight (c .before .before .before .before .before .before)) in
+    let o = start (read g) in
+    let a = o .args in
+    let r = g .sorted-ranges in
+    lines-ready (a .functions64 .now) (a .functions32 .now) (a .lines64 .now) (a .lines32 .now) (a .text .now) (a .base) (a .row .i) (a .row .«first_line») (length (a .s .now)) (a .own .top) (o .pre .ready) (a .row .function) (o .pre .is)
+    (a .own .«call_locations») (r .result) (o .pre .below) (a .s .now) (r .last .0) (r .kept .0) (r .ensures)
 
 returns : tie.Need-returns
 returns c =
-    let a = c .before .before .before .before .before .before .before .before .before .before .before .before .before .before .before .before .before .before .before .before .before .before .before .before .before .before .before .before .before .before .before .before .before .before .before .before .before .before .before .before .before .before .before .before .before .before .before .before .before .before .before .before .before .before .before .before .before .args in
-    let q = c .before .before .before .before .before .before .before .before .before .before .before .before .before .before .before .before .before .before .before .before .before .before .before .before .before .before .before .before .before .before .before .before .before .before .before .before .before .before .before .before .before .before .before .before .function-row in
-    let g = c .before .before .before .before .before .before .before .before .before .before .before .before .before .before .before .before .before .before .before .before .before .before .before .before .before .before .before .before .before .before .before .before .before .before .before .before .before .before .before .before .before .sorted-ranges in
-    let b = c .before .before .before .before .before .before .before .before .before .before .before .before .before .before .before .before .before .before .before .before .before .before .before .before .before .before .before .before .before .before .before .before .before .before .before .begin-row in
-    let l = c .before .before .before .before .before .before .before .before .before .before .before .before .before .before .before .before .before .before .before .before .before .process-lines in
-    let e = c .before .before .before .before .before .before .close-function in
+    let e = closed c .close-function in
+    let l = walked (closed c) .process-lines in
+    let b = begun (walked (closed c)) .begin-row in
+    let g = sorted (begun (walked (closed c))) .sorted-ranges in
+    let o = start (read (sorted (begun (walked (closed c))))) in
     let u = c .before .before .set-calls in
-    let k = columns (a .functions64 .now) (a .functions32 .now) (a .lines64 .now) (a .lines32 .now) (a .text .now) in
-    let address : functionAt k (a .i) (a .first) .address ≡ q .result .address = functionAt-address k (a .i) (a .first) ∙ ap (λ (x : FunctionStruct). x .address) (sym (q .ensures)) in
-    let size : functionAt k (a .i) (a .first) .size ≡ q .result .size = functionAt-size k (a .i) (a .first) ∙ ap (λ (x : FunctionStruct). x .size) (sym (q .ensures)) in
-    let inline : functionAt k (a .i) (a .first) .inline ≡ q .result .inline = functionAt-inline k (a .i) (a .first) ∙ ap (λ (x : FunctionStruct). x .inline) (sym (q .ensures)) in
-    let low : q .result .address ≤ MAX = subst (λ (x : FunctionStruct). x .address ≤ MAX) (sym (q .ensures)) (address-below k (a .i) (a .first) (c .before .before .before .before .before .before .before .before .before .before .before .before .before .before .before .before .before .before .before .before .before .before .before .before .before .before .before .before .before .before .before .before .before .before .before .before .before .before .before .before .before .before .before .before .before .before .before .before .before .before .before .before .before .before .before .before .before .pre .2)) in
+    let a = o .args in
+    let q = a .row .function in
+    let i = a .row .i in
+    let first = a .row .«first_line» in
+    let k = columns-of o in
+    let address : functionAt k i first .address ≡ q .address = functionAt-address k i first ∙ ap (λ (x : FunctionStruct). x .address) (sym (o .pre .is)) in
+    let size : functionAt k i first .size ≡ q .size = functionAt-size k i first ∙ ap (λ (x : FunctionStruct). x .size) (sym (o .pre .is)) in
+    let inline : functionAt k i first .inline ≡ q .inline = functionAt-inline k i first ∙ ap (λ (x : FunctionStruct). x .inline) (sym (o .pre .is)) in
+    let low : q .address ≤ MAX = subst (λ (x : FunctionStruct). x .address ≤ MAX) (sym (o .pre .is)) (address-below k i first (o .pre .visited)) in
+    let functions = b .last .1 .1 .1 .1 .0 in
+    let calls = l .last .1 .1 .1 .1 .0 in
     λ Y n.
     let X = switches (a .undecorate) Y in
-    row-walked (a .functions64 .now) (a .functions32 .now) (a .lines64 .now) (a .lines32 .now) (a .text .now) (a .base) (a .i) (a .first) (length (a .s .now)) (a .top) (c .before .before .before .before .before .before .before .before .before .before .before .before .before .before .before .before .before .before .before .before .before .before .before .before .before .before .before .before .before .before .before .before .before .before .before .before .before .before .before .before .before .before .before .before .before .before .before .before .before .before .before .before .before .before .before .before .before .pre .0) (c .before .before .before .before .before .before .before .before .before .before .before .before .before .before .before .before .before .before .before .before .before .before .before .before .before .before .before .before .before .before .before .before .before .before .before .before .before .before .before .before .before .before .before .before .function-row .result) (c .before .before .before .before .before .before .before .before .before .before .before .before .before .before .before .before .before .before .before .before .before .before .before .before .before .before .before .before .before .before .before .before .before .before .before .before .before .before .before .before .before .before .before .before .function-row .ensures) X (a .calls) (a .count) (a .current) (g .result) (b .result .index) (l .result .calls) (a .s .now) (g .last .0) (l .last .1 .1 .1 .1 .1 .1 .0) (u .last .0)
+    row-walked (a .functions64 .now) (a .functions32 .now) (a .lines64 .now) (a .lines32 .now) (a .text .now) (a .base) i first (length (a .s .now)) (a .own .top) (o .pre .ready) q (o .pre .is)
+    (a .own .«call_locations») (g .result) (o .pre .below) X (b .result .index) (l .result .«callee_call_locations») (a .s .now) (g .last .0) (l .last .1 .1 .1 .1 .1 .1 .0) (u .last .0)
     (words (a .state) (a .string-bytes .now) (a .strings .now) (a .files .now) (a .functions .now) (a .call-locations .now) (a .ranges .now))
-    (words (b .result .state) (b .last .1 .1 .0) (b .last .1 .1 .1 .0) (a .files .now) (b .last .1 .1 .1 .1 .0) (a .call-locations .now) (a .ranges .now))
-    (words (l .result .state) (l .last .1 .0) (l .last .1 .1 .0) (l .last .1 .1 .1 .0) (b .last .1 .1 .1 .1 .0) (l .last .1 .1 .1 .1 .0) (l .last .1 .1 .1 .1 .1 .0))
-    (words (e .result) (l .last .1 .0) (l .last .1 .1 .0) (l .last .1 .1 .1 .0) (b .last .1 .1 .1 .1 .0) (l .last .1 .1 .1 .1 .0) (e .last .1 .0))
-    (c .before .before .before .before .before .before .before .before .before .before .before .before .before .before .before .before .before .before .before .before .before .before .before .before .before .before .before .before .before .before .before .before .before .before .before .before .before .before .before .before .before .before .before .before .before .before .before .before .before .before .before .before .before .before .before .before .before .pre .1) (c .before .before .before .before .before .before .before .before .before .before .before .before .before .before .before .before .before .before .before .before .before .before .before .before .before .before .before .before .before .before .before .before .before .before .before .before .before .before .before .before .before .before .before .before .before .before .before .before .before .before .before .before .before .before .before .before .before .pre .2) (g .ensures) (l .kept .1 .1 .1 .1 .1 .1 .0 ∙ g .kept .0) (b .ensures (a .files .now) (a .call-locations .now) (a .ranges .now)) (l .ensures X (b .last .1 .1 .1 .1 .0))
-    (e .ensures X (functionAt k (a .i) (a .first)) (l .last .1 .0) (l .last .1 .1 .0) (l .last .1 .1 .1 .0) (b .last .1 .1 .1 .1 .0) (l .last .1 .1 .1 .1 .0) address size inline low) (u .ensures) n
+    (words (b .result .state) (b .last .1 .1 .0) (b .last .1 .1 .1 .0) (a .files .now) functions (a .call-locations .now) (a .ranges .now))
+    (words (l .result .state) (l .last .1 .0) (l .last .1 .1 .0) (l .last .1 .1 .1 .0) functions calls (l .last .1 .1 .1 .1 .1 .0))
+    (words (e .result) (l .last .1 .0) (l .last .1 .1 .0) (l .last .1 .1 .1 .0) functions calls (e .last .1 .0))
+    (o .pre .visited) (g .ensures) (l .kept .1 .1 .1 .1 .1 .1 .0 ∙ g .kept .0) (b .ensures (a .files .now) (a .call-locations .now) (a .ranges .now))
+    (l .ensures X (a .functions64 .now) (a .functions32 .now) functions i (o .pre .is))
+    (e .ensures X (functionAt k i first) (l .last .1 .0) (l .last .1 .1 .0) (l .last .1 .1 .1 .0) functions calls address size inline low) (u .ensures) n
 
 pub visit-row-spec : {M : Type 1} → statement M
 visit-row-spec =
     tie.close
     (tie.spec
-    function-row-requires
-    mul-at
-    add-at
-    add-sorted-ranges
-    cast-sorted-ranges
-    add-sorted-ranges-2
+    (λ c. omega (arith, start c .pre .ready .room, start c .good .1 .1 .1 .1 .1 .1 .1 .1 .0))
+    (λ c. omega (arith, start c .pre .ready .room, start c .good .1 .1 .1 .1 .1 .1 .1 .1 .0))
+    (λ c. omega (arith, start (c .before .before) .pre .ready .inside, start (c .before .before) .good .1 .1 .1 .1 .1 .1 .1 .1 .1 .0))
+    (λ c. search needs)
+    (λ c. omega (arith, within (start (c .before .before .before .before)), start (c .before .before .before .before) .good .1 .1 .1 .1 .1 .1 .1 .1 .1 .1 .1 .0))
     sorted-ranges-requires
-    begin-row-requires
+    (λ c κs. search needs)
     process-lines-requires
-    close-function-requires
-    set-calls-requires
-    same-length
-    same-length-2
-    same-length-3
-    same-length-4
-    same-length-5
-    same-length-6
-    same-length-7
+    (λ c κs. search needs)
+    (λ c κs. search needs)
+    (λ c. walked (closed c) .process-lines .kept .1 .0 ∙ begun (walked (closed c)) .begin-row .kept .1 .1 .0)
+    (λ c. walked (closed c) .process-lines .kept .1 .1 .0 ∙ begun (walked (closed c)) .begin-row .kept .1 .1 .1 .0)
+    (λ c. search needs)
+    (λ c. begun (walked (closed c)) .begin-row .kept .1 .1 .1 .1 .0)
+    (λ c. search needs)
+    (λ c. search needs)
+    (λ c. c .before .before .set-calls .kept .0 ∙ walked (closed c) .process-lines .kept .1 .1 .1 .1 .1 .1 .0 ∙ sorted (begun (walked (closed c))) .sorted-ranges .kept .0)
     returns)
