@@ -21,6 +21,7 @@ pub mod c {
 pub const RECORD_WORDS: usize = c::SYMCACHE_RECORD_WORDS as usize;
 pub const TABLE_ROW_WORDS: usize = c::SYMCACHE_TABLE_ROW_WORDS as usize;
 pub const SCRATCH_ROW_WORDS: usize = c::SYMCACHE_SCRATCH_ROW_WORDS as usize;
+pub const FUNCTIONS64_WORDS: usize = c::SYMCACHE_FUNCTIONS64_WORDS as usize;
 pub const FUNCTIONS32_WORDS: usize = c::SYMCACHE_FUNCTIONS32_WORDS as usize;
 pub const LINES64_WORDS: usize = c::SYMCACHE_LINES64_WORDS as usize;
 pub const LINES32_WORDS: usize = c::SYMCACHE_LINES32_WORDS as usize;

@@ -6,10 +6,14 @@ use oracle::answers::{Columns, FUNCTION32, FUNCTION64, LINE32, LINE64};
 use oracle::claims::ranges_in_domain;
 use oracle::original::State;
 use oracle::{Begin, Call, Kept, Row, Session, Sym, arch, begin_script, call_script, language};
-use symcache::ffi::{self, CACHE_WORDS, RECORD_WORDS};
+use symcache::ffi::{self, CACHE_WORDS, FUNCTIONS32_WORDS, FUNCTIONS64_WORDS, LINES32_WORDS, LINES64_WORDS, RECORD_WORDS};
 
 use crate::memory::{Lent, Memory, TABLES};
 use crate::reader::Difference;
+
+// The columns of stored cases are laid out as the header says.
+const _: () = assert!(FUNCTION64 == FUNCTIONS64_WORDS && FUNCTION32 == FUNCTIONS32_WORDS);
+const _: () = assert!(LINE64 == LINES64_WORDS && LINE32 == LINES32_WORDS);
 
 /// Memory lent beyond what is needed, or less than it.
 #[derive(Clone, Copy, Debug, PartialEq, Eq)]
