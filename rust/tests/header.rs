@@ -138,3 +138,24 @@ fn the_library_takes_the_rows_of_the_header() {
         assert_eq!(fields, ours, "{name}");
     }
 }
+
+/// A constant of the library with the name of one of the header's, with or without its prefix, has
+/// its value.
+#[test]
+fn the_library_has_the_numbers_of_the_header() {
+    let header = header();
+    let crates = fs::read_dir(repository().join("crates")).unwrap();
+    let names = crates.map(|folder| folder.unwrap().file_name().into_string().unwrap());
+    for name in names.filter(|name| !name.ends_with("_test")) {
+        for constant in source(&name).split("const ").skip(1) {
+            let (constant, rest) = constant.split_once(": u32 = ").unwrap_or_default();
+            let full = format!("SYMCACHE_{}", constant.trim_start_matches("SYMCACHE_"));
+            let declared = header.numbers.iter().find(|(header, _)| *header == full);
+            if let Some((_, number)) = declared {
+                let value = rest.split_once(';').unwrap().0;
+                let value = value.replace("u32::MAX", &u32::MAX.to_string());
+                assert_eq!(value, number.to_string(), "{constant} of {name}");
+            }
+        }
+    }
+}
