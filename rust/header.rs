@@ -10,12 +10,19 @@ pub struct Header {
     pub indices: Vec<(String, u32)>,
     /// Names and fields.
     pub structs: Vec<(String, Vec<Typed>)>,
-    /// Names and parameters; each answers a `u32`.
-    pub functions: Vec<(String, Vec<Typed>)>,
+    pub functions: Vec<Function>,
+}
+
+#[derive(Debug, PartialEq, Eq)]
+pub struct Function {
+    pub name: String,
+    pub parameters: Vec<Typed>,
+    /// The type of its answer, in Rust.
+    pub answer: String,
 }
 
 /// A name and its type in Rust.
-#[derive(Debug, PartialEq, Eq, PartialOrd, Ord)]
+#[derive(Debug, PartialEq, Eq)]
 pub struct Typed(pub String, pub String);
 
 impl Header {
@@ -74,12 +81,14 @@ impl Header {
             self.structs
                 .push((name.to_string(), parts(fields, ';').map(typed).collect()));
         } else {
-            let rest = between(item, "uint32_t ", ");").expect(item);
-            let (name, parameters) = rest.split_once('(').expect(item);
-            self.functions.push((
-                name.to_string(),
-                parts(parameters, ',').map(typed).collect(),
-            ));
+            let (declared, parameters) = item.split_once('(').expect(item);
+            let parameters = parameters.strip_suffix(");").expect(item);
+            let Typed(name, answer) = typed(declared);
+            self.functions.push(Function {
+                name,
+                parameters: parts(parameters, ',').map(typed).collect(),
+                answer,
+            });
         }
     }
 
@@ -105,8 +114,10 @@ impl Header {
             );
         }
         out += "extern \"C\" {\n";
-        for (name, parameters) in &self.functions {
-            out += &format!("pub fn {name}(\n{}) -> u32;\n", list(parameters, ""));
+        for function in &self.functions {
+            let Function { name, answer, .. } = function;
+            let parameters = list(&function.parameters, "");
+            out += &format!("pub fn {name}(\n{parameters}) -> {answer};\n");
         }
         out + "}\n"
     }
@@ -142,7 +153,7 @@ fn number(text: &str) -> u32 {
     value.unwrap_or_else(|_| panic!("not a number: {text}"))
 }
 
-/// `const uint8_t *SYMCACHE_RESTRICT bytes`, and the like.
+/// `const uint8_t *SYMCACHE_RESTRICT bytes`, `uint32_t arch`, and the like.
 fn typed(text: &str) -> Typed {
     let words: Vec<&str> = text
         .split_whitespace()
@@ -152,7 +163,7 @@ fn typed(text: &str) -> Typed {
         ["const", c, "*SYMCACHE_RESTRICT", name] => ("*const ", c, name),
         [c, "*SYMCACHE_RESTRICT", name] => ("*mut ", c, name),
         [c, name] => ("", c, name),
-        _ => panic!("not a parameter or a field: {text}"),
+        _ => panic!("not a type and a name: {text}"),
     };
     let rust = match c {
         "uint8_t" => "u8",

@@ -8,7 +8,7 @@ mod header;
 use std::fs;
 use std::path::{Path, PathBuf};
 
-use header::{Header, Typed};
+use header::{Function, Header, Typed};
 
 fn repository() -> PathBuf {
     Path::new(env!("CARGO_MANIFEST_DIR")).join("..")
@@ -29,26 +29,40 @@ fn source(name: &str) -> String {
         .collect()
 }
 
-/// What stands between `first` and `last`, with `open` between its name and the rest: each as a name
-/// and its `NAME: TYPE`s.
-fn declared(text: &str, first: &str, open: char, last: char) -> Vec<(String, Vec<Typed>)> {
-    text.split(first)
-        .skip(1)
-        .map(|rest| {
-            let (name, rest) = rest.split_once(open).unwrap();
-            let (list, _) = rest.split_once(last).unwrap();
-            let typed = |part: &str| {
-                let (name, library) = part.split_once(": ").unwrap();
-                Typed(
-                    name.trim_start_matches("pub ").to_string(),
-                    library.to_string(),
-                )
-            };
-            let list = list
-                .split(',')
-                .map(str::trim)
-                .filter(|part| !part.is_empty());
-            (name.trim().to_string(), list.map(typed).collect())
+/// `NAME: TYPE, ..`
+fn typed(list: &str) -> Vec<Typed> {
+    let parts = list
+        .split(',')
+        .map(str::trim)
+        .filter(|part| !part.is_empty());
+    parts
+        .map(|part| {
+            let (name, library) = part.split_once(": ").expect(part);
+            let name = name.trim_start_matches("pub ");
+            Typed(name.to_string(), library.to_string())
+        })
+        .collect()
+}
+
+/// The exported functions.
+fn exported() -> Vec<Function> {
+    let source = source("exports");
+    let first = "#[no_mangle]\npub extern \"C\" fn ";
+    assert_eq!(
+        source.matches("extern \"C\"").count(),
+        source.matches(first).count()
+    );
+    let functions = source.split(first).skip(1);
+    functions
+        .map(|function| {
+            let (name, rest) = function.split_once('(').unwrap();
+            let (parameters, rest) = rest.split_once(')').unwrap();
+            let (answer, _) = rest.strip_prefix(" -> ").unwrap().split_once('\n').unwrap();
+            Function {
+                name: name.to_string(),
+                parameters: typed(parameters).into_iter().flat_map(as_passed).collect(),
+                answer: answer.to_string(),
+            }
         })
         .collect()
 }
@@ -86,56 +100,32 @@ fn c_name(library: &str) -> String {
 
 #[test]
 fn the_library_has_the_functions_of_the_header() {
-    let source = source("exports");
-    let mut library: Vec<_> = declared(&source, "pub extern \"C\" fn ", '(', ')')
-        .into_iter()
-        .map(|(name, parameters)| {
-            (
-                name,
-                parameters
-                    .into_iter()
-                    .flat_map(as_passed)
-                    .collect::<Vec<_>>(),
-            )
-        })
-        .collect();
     let mut declared = header().functions;
-    library.sort();
-    declared.sort();
-    let names = |list: &[(String, Vec<Typed>)]| {
-        list.iter()
-            .map(|(name, _)| name.clone())
-            .collect::<Vec<_>>()
-    };
-    assert_eq!(names(&declared), names(&library));
-    for (header, library) in declared.iter().zip(&library) {
+    let mut exported = exported();
+    declared.sort_by(|a, b| a.name.cmp(&b.name));
+    exported.sort_by(|a, b| a.name.cmp(&b.name));
+    for (header, library) in declared.iter().zip(&exported) {
         assert_eq!(header, library);
     }
-    // Each answers a u32, as all of the header's do, and keeps its name.
-    assert_eq!(
-        source.matches("pub extern \"C\" fn ").count(),
-        source.matches("#[no_mangle]").count()
-    );
-    for rest in source.split("pub extern \"C\" fn ").skip(1) {
-        let (name, rest) = rest.split_once('(').unwrap();
-        let (_, result) = rest.split_once(')').unwrap();
-        assert!(result.starts_with(" -> u32\n"), "{name}");
-    }
+    assert_eq!(declared.len(), exported.len());
 }
 
 #[test]
 fn the_library_takes_the_rows_of_the_header() {
-    let library = declared(&source("rows"), "#[repr(C)]\npub struct ", '{', '}');
+    let source = source("rows");
     for (name, fields) in header().structs {
-        let (_, ours) = library
-            .iter()
-            .find(|(ours, _)| c_name(ours) == name)
-            .expect(&name);
-        let ours: Vec<_> = ours
-            .iter()
-            .map(|Typed(name, library)| Typed(name.clone(), c_name(library)))
+        let row = source
+            .split("#[repr(C)]\npub struct ")
+            .skip(1)
+            .map(|row| row.split_once(" {").unwrap())
+            .find(|(library, _)| c_name(library) == name);
+        let (_, rest) = row.expect(&name);
+        let (list, _) = rest.split_once('}').unwrap();
+        let library = typed(list).into_iter();
+        let library: Vec<_> = library
+            .map(|Typed(name, library)| Typed(name, c_name(&library)))
             .collect();
-        assert_eq!(fields, ours, "{name}");
+        assert_eq!(fields, library, "{name}");
     }
 }
 
