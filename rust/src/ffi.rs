@@ -475,16 +475,16 @@ mod tests {
         };
 
         // One of 19 words is a closed converter, and stays.
-        let mut short = [7; 19];
+        let mut short = [7; RECORD_WORDS - 1];
         assert_eq!(begin(&mut short, &[1], 2, 1, 0, memory.lent()), 19);
-        assert_eq!(short, [7; 19]);
+        assert_eq!(short, [7; RECORD_WORDS - 1]);
         assert!(memory.words[0].iter().all(|word| *word == 7));
 
         // Bytes that the debug id lacks are 0, and words past the 20th stay.
-        let mut record = [7; 22];
+        let mut record = [7; RECORD_WORDS + 2];
         let id: Vec<u8> = (1..=6).collect();
         assert_eq!(begin(&mut record, &id, 2, 1, 0, memory.lent()), 0);
-        let mut wanted = [0; 22];
+        let mut wanted = [0; RECORD_WORDS + 2];
         wanted[..2].copy_from_slice(&[0x04030201, 0x0605]);
         wanted[8..11].copy_from_slice(&[2, 1, 0]);
         wanted[c::SYMCACHE_RECORD_OPEN..].copy_from_slice(&[1, 7, 7]);
@@ -517,6 +517,61 @@ mod tests {
     }
 
     #[test]
+    fn rows_and_scratch_of_exactly_their_words() {
+        let mut memory = Memory {
+            texts: vec![0; 100],
+            words: std::array::from_fn(|_| vec![0; 80]),
+        };
+        let mut record = [0; RECORD_WORDS];
+        begin(&mut record, &[], 0, 0, 0, memory.lent());
+        let functions64 = [16; FUNCTIONS64_WORDS];
+        let mut functions32 = [0; FUNCTIONS32_WORDS];
+        functions32[c::SYMCACHE_FUNCTION_LINES] = 1;
+        let columns = crate::Columns {
+            functions64: &functions64,
+            functions32: &functions32,
+            lines64: &[16; LINES64_WORDS],
+            lines32: &[0; LINES32_WORDS],
+            text: &[],
+        };
+        let rows = crate::LineRows {
+            functions64: &functions64,
+            functions32: &functions32,
+            lines: &[crate::LineRow::default()],
+            text: &[],
+        };
+        let mut tree = |scratch: usize| {
+            process_symbolic_function(&mut record, memory.lent(), &mut vec![7; scratch], &columns)
+        };
+        assert_eq!(
+            tree(2 * SCRATCH_ROW_WORDS - 1),
+            c::SYMCACHE_SCRATCH_TOO_SMALL
+        );
+        assert_eq!(tree(2 * SCRATCH_ROW_WORDS), 0);
+        let mut lines = |words64: usize, words32: usize| {
+            let scratch = &mut [7; 2 * SCRATCH_ROW_WORDS];
+            let (unpacked64, unpacked32) = (&mut vec![7; words64], &mut vec![7; words32]);
+            process_symbolic_function_lines(
+                &mut record,
+                memory.lent(),
+                scratch,
+                unpacked64,
+                unpacked32,
+                &rows,
+            )
+        };
+        assert_eq!(
+            lines(LINES64_WORDS - 1, LINES32_WORDS),
+            c::SYMCACHE_SCRATCH_TOO_SMALL
+        );
+        assert_eq!(
+            lines(LINES64_WORDS, LINES32_WORDS - 1),
+            c::SYMCACHE_SCRATCH_TOO_SMALL
+        );
+        assert_eq!(lines(LINES64_WORDS, LINES32_WORDS), 0);
+    }
+
+    #[test]
     fn ten_stores_its_counts_and_other_refusals_nothing() {
         for read in [parse, open] {
             let mut cache = [7; CACHE_WORDS];
@@ -534,10 +589,10 @@ mod tests {
     fn a_walk() {
         let mut cache = [0; CACHE_WORDS];
         open(FILE, &mut cache);
-        let mut cursor = [7; 3];
+        let mut cursor = [7; CURSOR_WORDS];
         assert_eq!(find(FILE, &cache, 0x1010), 5);
         assert_eq!(walk(FILE, &cache, 0x1010, &mut cursor), u32::MAX);
-        let mut frame = [7; 13];
+        let mut frame = [7; FRAME_WORDS];
         assert_eq!(next(FILE, &mut cursor, &mut frame), 0);
         assert_eq!((frame[0], &frame[1..]), (0, &[7; 12][..]));
 
@@ -546,6 +601,12 @@ mod tests {
         assert_eq!(next(FILE, &mut cursor, &mut frame), 0);
         let max = u32::MAX;
         assert_eq!(frame, [2, 2, 1, 50, 1, max, 2, 13, 9, 20, max, max, max]);
+        assert_eq!(frame[c::SYMCACHE_FRAME_KIND], c::SYMCACHE_FRAME_WITH_FILE);
+        assert_eq!(frame[c::SYMCACHE_FRAME_LINE], 50);
+        assert_eq!(frame[c::SYMCACHE_FRAME_ENTRY], c::SYMCACHE_MAX);
+        assert_eq!(frame[c::SYMCACHE_FRAME_COMP_DIR], 13);
+        assert_eq!(frame[c::SYMCACHE_FRAME_DIRECTORY], 9);
+        assert_eq!(frame[c::SYMCACHE_FRAME_NAME], 20);
         assert_eq!(next(FILE, &mut cursor, &mut frame), 0);
         assert_eq!(frame, [2, 0, 0, 10, 0, 0x1000, 2, 13, 9, 4, max, max, max]);
         let last = cursor;
@@ -560,9 +621,9 @@ mod tests {
         let file = symbol_file();
         let mut cache = [0; CACHE_WORDS];
         assert_eq!(open(&file, &mut cache), 0);
-        let mut cursor = [7; 3];
+        let mut cursor = [7; CURSOR_WORDS];
         assert_eq!(walk(&file, &cache, 18, &mut cursor), 0);
-        let mut frame = [7; 13];
+        let mut frame = [7; FRAME_WORDS];
         assert_eq!(next(&file, &mut cursor, &mut frame), 0);
         let max = u32::MAX;
         assert_eq!(frame, [1, 0, 0, 0, max, 16, max, 7, 7, 7, 7, 7, 7]);
@@ -570,12 +631,12 @@ mod tests {
 
     #[test]
     fn texts_and_rows() {
-        let mut part = [7; 3];
+        let mut part = [7; PART_WORDS];
         assert_eq!(read_string(FILE, u32::MAX, &mut part), 0);
         assert_eq!(part, [0, 7, 7]);
         assert_eq!(read_string(FILE, 4, &mut part), 0);
         assert_eq!(part, [1, 285, 4]);
-        let mut part = [7; 3];
+        let mut part = [7; PART_WORDS];
         assert_eq!(function_name(FILE, 2, &mut part), 0);
         assert_eq!(part, [0, 7, 7]);
         assert_eq!(function_name(FILE, 1, &mut part), 0);
@@ -584,12 +645,12 @@ mod tests {
         assert_eq!(part, [1, 297, 3]);
 
         let max = u32::MAX;
-        let mut row = [7; 5];
+        let mut row = [7; FUNCTION_WORDS];
         assert_eq!(get_function(FILE, 2, &mut row), 0);
         assert_eq!(row, [0, 7, 7, 7, 7]);
         assert_eq!(get_function(FILE, 0, &mut row), 0);
         assert_eq!(row, [1, 0, max, 0x1000, 2]);
-        let mut row = [7; 7];
+        let mut row = [7; FILE_WORDS];
         assert_eq!(get_file(FILE, 2, &mut row), 0);
         assert_eq!(row, [0, 7, 7, 7, 7, 7, 7]);
         assert_eq!(get_file(FILE, 1, &mut row), 0);
@@ -599,13 +660,13 @@ mod tests {
     #[test]
     fn lists() {
         let max = u32::MAX;
-        let (mut cursor, mut row) = ([0], [7; 6]);
+        let (mut cursor, mut row) = ([0; LIST_CURSOR_WORDS], [7; LISTED_FUNCTION_WORDS]);
         assert_eq!(functions_next(FILE, &mut cursor, &mut row), 0);
         assert_eq!((cursor, row), ([1], [1, 0, 0, max, 0x1000, 2]));
         // The second has no entry.
         assert_eq!(functions_next(FILE, &mut cursor, &mut row), 0);
         assert_eq!((cursor, row), ([1], [0, 0, 0, max, 0x1000, 2]));
-        let (mut cursor, mut row) = ([1], [7; 8]);
+        let (mut cursor, mut row) = ([1; LIST_CURSOR_WORDS], [7; LISTED_FILE_WORDS]);
         assert_eq!(files_next(FILE, &mut cursor, &mut row), 0);
         assert_eq!((cursor, row), ([2], [1, 1, 13, 9, 20, max, max, max]));
         assert_eq!(files_next(FILE, &mut cursor, &mut row), 0);
