@@ -1,23 +1,34 @@
-//! Finds the proved library, libexports.a: in the folder that SYMCACHE_LIB_DIR names, or else in
-//! target/staticlib of the repository.
+//! Writes the C declarations of src/ffi.rs from include/symcache.h, and finds the proved library,
+//! libexports.a: in the folder that SYMCACHE_LIB_DIR names, or else in target/staticlib of the
+//! repository.
 
-use std::env;
-use std::path::PathBuf;
+mod header;
+
+use std::path::{Path, PathBuf};
 use std::process::exit;
+use std::{env, fs};
 
 fn main() {
+    let here = PathBuf::from(env::var_os("CARGO_MANIFEST_DIR").unwrap());
+    declare(&here.join("../include/symcache.h"));
+    link(&here.join("../target/staticlib"));
+}
+
+fn declare(header: &Path) {
+    println!("cargo:rerun-if-changed={}", header.display());
+    let text = fs::read_to_string(header).unwrap_or_else(|e| panic!("{}: {e}", header.display()));
+    let out = PathBuf::from(env::var_os("OUT_DIR").unwrap()).join("symcache.rs");
+    fs::write(out, header::Header::read(&text).to_rust()).unwrap();
+}
+
+fn link(made: &Path) {
     println!("cargo:rerun-if-env-changed=SYMCACHE_LIB_DIR");
     let target = env::var("TARGET").unwrap();
     if !(target.starts_with("x86_64") && target.contains("linux")) {
         eprintln!("libexports.a is made for x86-64 Linux only, not for {target}.");
         exit(1);
     }
-    let dir = match env::var_os("SYMCACHE_LIB_DIR") {
-        Some(dir) => PathBuf::from(dir),
-        None => {
-            PathBuf::from(env::var_os("CARGO_MANIFEST_DIR").unwrap()).join("../target/staticlib")
-        }
-    };
+    let dir = env::var_os("SYMCACHE_LIB_DIR").map_or(made.to_path_buf(), PathBuf::from);
     let library = dir.join("libexports.a");
     println!("cargo:rerun-if-changed={}", library.display());
     if !library.is_file() {

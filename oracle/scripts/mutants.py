@@ -1,7 +1,7 @@
 #!/usr/bin/env python3
 """Breaks the original in one place at a time, in a temporary copy, and runs `fuzz claims` on it.
 
-Shows which claims notice. Run from anywhere; needs cargo. A mutant that no claim speaks of isn't
+Shows which claims notice. Run from anywhere; needs cargo, and SYMBOLIC_SRC. A mutant that no claim speaks of isn't
 noticed, as "no bare minimum" (addresses of a root outside its lines); only equal bytes show it.
 With the word `answers` it runs `answers check answers` instead: the stored answers must notice all.
 With the word `compare` it runs `compare 20000 1`, the proved library beside the broken original: that must notice all
@@ -16,7 +16,7 @@ import sys
 import tempfile
 
 HERE = pathlib.Path(__file__).resolve().parent.parent
-SOURCE = pathlib.Path(os.environ.get("SYMBOLIC_SRC") or HERE.parent.parent / "shared/docs/src")
+SOURCE = pathlib.Path(os.environ["SYMBOLIC_SRC"])
 ANSWERS = "answers" in sys.argv[1:]
 COMPARE = "compare" in sys.argv[1:]
 PICKED = [word for word in sys.argv[1:] if word not in ("answers", "compare")]
@@ -93,17 +93,19 @@ def main():
     noticed = []
     with tempfile.TemporaryDirectory() as top:
         top = pathlib.Path(top)
-        shutil.copytree(SOURCE, top / "docs/src")
+        shutil.copytree(SOURCE, top / "original")
         shutil.copytree(HERE, top / "oracle", ignore=shutil.ignore_patterns("target"))
-        env = dict(os.environ, CARGO_TARGET_DIR=str(top / "target"), SYMBOLIC_SRC=str(top / "docs/src"))
+        for name in ("rust", "include"):  # the package `compare` rests on the Rust crate
+            shutil.copytree(HERE.parent / name, top / name, ignore=shutil.ignore_patterns("target"))
+        env = dict(os.environ, CARGO_TARGET_DIR=str(top / "target"), SYMBOLIC_SRC=str(top / "original"))
         for name, path, old, new in MUTANTS:
             if PICKED and not any(word in name for word in PICKED):
                 continue
             for other in (W, L):
-                shutil.copyfile(SOURCE / other, top / "docs/src" / other)
+                shutil.copyfile(SOURCE / other, top / "original" / other)
             text = (SOURCE / path).read_text()
             assert text.count(old) == 1, name
-            (top / "docs/src" / path).write_text(text.replace(old, new))
+            (top / "original" / path).write_text(text.replace(old, new))
             if COMPARE:
                 found, last, small = compare(top, env)
                 noticed.append(found)

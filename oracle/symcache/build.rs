@@ -52,9 +52,8 @@ fn without_inner(text: &str) -> String {
 fn main() {
     let here = PathBuf::from(std::env::var_os("CARGO_MANIFEST_DIR").unwrap());
     println!("cargo:rerun-if-env-changed=SYMBOLIC_SRC");
-    let sources = std::env::var_os("SYMBOLIC_SRC")
-        .map(PathBuf::from)
-        .unwrap_or_else(|| here.join("../../../shared/docs/src"));
+    let sources = std::env::var_os("SYMBOLIC_SRC").map(PathBuf::from);
+    let sources = sources.expect("SYMBOLIC_SRC names the original's source: the folder that holds symbolic-symcache/src");
     let from = sources.join("symbolic-symcache/src");
     let to = PathBuf::from(std::env::var_os("OUT_DIR").unwrap()).join("original");
 

@@ -3,14 +3,13 @@
 use std::fmt;
 
 use crate::debuginfo::{Function, Symbol};
-use crate::ffi::{self, TablesMut, TablesRef};
-use crate::rows::{LINES32, LINES64};
+use crate::ffi::{self, c, TablesMut, TablesRef, LINES32_WORDS, LINES64_WORDS};
 use crate::{Columns, Error, LineRows, Rows};
 
 /// The most rows that a table can have: 16,777,216.
-pub const MAX_ROWS: usize = 1 << 24;
+pub const MAX_ROWS: usize = c::SYMCACHE_MAX_ROWS as usize;
 /// The most bytes that all texts together can have: 268,435,456.
-pub const MAX_STRING_BYTES: usize = 1 << 28;
+pub const MAX_STRING_BYTES: usize = c::SYMCACHE_MAX_STRING_BYTES as usize;
 
 /// How much a converter has room for. A row takes 32 bytes of memory. More than the ceilings
 /// ([`MAX_ROWS`], [`MAX_STRING_BYTES`]) counts as the ceiling.
@@ -232,7 +231,7 @@ struct Tables {
 
 impl Tables {
     fn new(capacity: Capacity) -> Self {
-        let table = |rows: usize| vec![0; rows * ffi::ROW_WORDS];
+        let table = |rows: usize| vec![0; rows * ffi::TABLE_ROW_WORDS];
         Tables {
             string_bytes: vec![0; capacity.string_bytes],
             strings: table(capacity.strings),
@@ -344,18 +343,18 @@ impl Converter {
     pub fn used(&self) -> Capacity {
         let count = |word: usize| self.record[word] as usize;
         Capacity {
-            string_bytes: count(ffi::RECORD_STRING_BYTES),
-            strings: count(ffi::RECORD_STRINGS),
-            files: count(ffi::RECORD_FILES),
-            functions: count(ffi::RECORD_FUNCTIONS),
-            call_locations: count(ffi::RECORD_CALL_LOCATIONS),
-            ranges: count(ffi::RECORD_RANGES),
+            string_bytes: count(c::SYMCACHE_RECORD_STRING_BYTES),
+            strings: count(c::SYMCACHE_RECORD_STRINGS),
+            files: count(c::SYMCACHE_RECORD_FILES),
+            functions: count(c::SYMCACHE_RECORD_FUNCTIONS),
+            call_locations: count(c::SYMCACHE_RECORD_CALL_LOCATIONS),
+            ranges: count(c::SYMCACHE_RECORD_RANGES),
         }
     }
 
     /// Whether it takes calls. It does until one is refused with [`Error::TableFull`].
     pub fn is_open(&self) -> bool {
-        self.record[ffi::RECORD_OPEN] != 0
+        self.record[c::SYMCACHE_RECORD_OPEN] != 0
     }
 
     /// Begins anew, empty, with the same header values, switches and capacities.
@@ -481,7 +480,7 @@ impl Converter {
     ///
     /// Refused with [`Error::Closed`], or [`Error::OutputTooShort`]; then `out` stays.
     pub fn serialize_into(&self, out: &mut [u8]) -> Result<usize, Error> {
-        let mut len = [0];
+        let mut len = [0; ffi::LEN_WORDS];
         Error::check(ffi::serialize(
             &self.record,
             self.tables.lent(),
@@ -504,8 +503,8 @@ impl Converter {
             &mut self.record,
             debug_id,
             *arch,
-            *undecorate_functions,
-            *undecorate_symbols,
+            u32::from(*undecorate_functions),
+            u32::from(*undecorate_symbols),
             self.tables.lent_mut(),
         );
         debug_assert_eq!(number, 0);
@@ -568,7 +567,10 @@ impl Converter {
             }
             Given::Lines(rows) => {
                 // As many words as the line rows are unpacked to.
-                let (words64, words32) = (rows.lines.len() * LINES64, rows.lines.len() * LINES32);
+                let (words64, words32) = (
+                    rows.lines.len() * LINES64_WORDS,
+                    rows.lines.len() * LINES32_WORDS,
+                );
                 if self.unpacked64.len() < words64 {
                     self.unpacked64.resize(words64, 0);
                 }
@@ -601,7 +603,9 @@ impl Converter {
                     text,
                     address,
                     size,
-                    name.map(|_| (0, len)),
+                    u32::from(name.is_some()),
+                    0,
+                    len,
                 )
             }
         })
@@ -739,8 +743,9 @@ mod tests {
         // What `call` lends in its place: nothing, with a length of u32::MAX.
         let mut converter = Converter::builder().build();
         let tables = converter.tables.lent_mut();
-        let name = Some((0, u32::MAX));
-        let number = ffi::process_symbolic_symbol(&mut converter.record, tables, &[], 1, 1, name);
+        let max = u32::MAX;
+        let number =
+            ffi::process_symbolic_symbol(&mut converter.record, tables, &[], 1, 1, 1, 0, max);
         assert_eq!(number, 14);
     }
 

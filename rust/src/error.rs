@@ -2,6 +2,8 @@
 
 use std::fmt;
 
+use crate::ffi::c;
+
 /// Why a file or a call is refused.
 ///
 /// Each variant has a number, [`Error::number`]. Where several reasons hold, the one given is the
@@ -64,25 +66,25 @@ impl Error {
     /// The number of this reason, 1 to 19.
     pub fn number(&self) -> u32 {
         match *self {
-            Error::TooShort => 1,
-            Error::WrongEndianness => 2,
-            Error::WrongFormat => 3,
-            Error::WrongVersion => 4,
-            Error::InvalidHeader => 5,
-            Error::InvalidFiles => 6,
-            Error::InvalidFunctions => 7,
-            Error::InvalidSourceLocations => 8,
-            Error::InvalidRanges => 9,
-            Error::UnexpectedStringBytes { .. } => 10,
-            Error::InvalidVariableHeader => 11,
-            Error::UnorderedRanges => 12,
-            Error::InvalidRows => 13,
-            Error::InvalidText => 14,
-            Error::AddressOverflow => 15,
-            Error::ScratchTooSmall => 16,
-            Error::TableFull => 17,
-            Error::OutputTooShort => 18,
-            Error::Closed => 19,
+            Error::TooShort => c::SYMCACHE_TOO_SHORT,
+            Error::WrongEndianness => c::SYMCACHE_WRONG_ENDIANNESS,
+            Error::WrongFormat => c::SYMCACHE_WRONG_FORMAT,
+            Error::WrongVersion => c::SYMCACHE_WRONG_VERSION,
+            Error::InvalidHeader => c::SYMCACHE_INVALID_HEADER,
+            Error::InvalidFiles => c::SYMCACHE_INVALID_FILES,
+            Error::InvalidFunctions => c::SYMCACHE_INVALID_FUNCTIONS,
+            Error::InvalidSourceLocations => c::SYMCACHE_INVALID_SOURCE_LOCATIONS,
+            Error::InvalidRanges => c::SYMCACHE_INVALID_RANGES,
+            Error::UnexpectedStringBytes { .. } => c::SYMCACHE_UNEXPECTED_STRING_BYTES,
+            Error::InvalidVariableHeader => c::SYMCACHE_INVALID_VARIABLE_HEADER,
+            Error::UnorderedRanges => c::SYMCACHE_UNORDERED_RANGES,
+            Error::InvalidRows => c::SYMCACHE_INVALID_ROWS,
+            Error::InvalidText => c::SYMCACHE_INVALID_TEXT,
+            Error::AddressOverflow => c::SYMCACHE_ADDRESS_OVERFLOW,
+            Error::ScratchTooSmall => c::SYMCACHE_SCRATCH_TOO_SMALL,
+            Error::TableFull => c::SYMCACHE_TABLE_FULL,
+            Error::OutputTooShort => c::SYMCACHE_OUTPUT_TOO_SHORT,
+            Error::Closed => c::SYMCACHE_CLOSED,
             Error::Other(number) => number,
         }
     }
@@ -90,25 +92,25 @@ impl Error {
     /// What a number other than 0 means. 10 comes with its counts.
     fn of(number: u32, expected: u64, found: u64) -> Error {
         match number {
-            1 => Error::TooShort,
-            2 => Error::WrongEndianness,
-            3 => Error::WrongFormat,
-            4 => Error::WrongVersion,
-            5 => Error::InvalidHeader,
-            6 => Error::InvalidFiles,
-            7 => Error::InvalidFunctions,
-            8 => Error::InvalidSourceLocations,
-            9 => Error::InvalidRanges,
-            10 => Error::UnexpectedStringBytes { expected, found },
-            11 => Error::InvalidVariableHeader,
-            12 => Error::UnorderedRanges,
-            13 => Error::InvalidRows,
-            14 => Error::InvalidText,
-            15 => Error::AddressOverflow,
-            16 => Error::ScratchTooSmall,
-            17 => Error::TableFull,
-            18 => Error::OutputTooShort,
-            19 => Error::Closed,
+            c::SYMCACHE_TOO_SHORT => Error::TooShort,
+            c::SYMCACHE_WRONG_ENDIANNESS => Error::WrongEndianness,
+            c::SYMCACHE_WRONG_FORMAT => Error::WrongFormat,
+            c::SYMCACHE_WRONG_VERSION => Error::WrongVersion,
+            c::SYMCACHE_INVALID_HEADER => Error::InvalidHeader,
+            c::SYMCACHE_INVALID_FILES => Error::InvalidFiles,
+            c::SYMCACHE_INVALID_FUNCTIONS => Error::InvalidFunctions,
+            c::SYMCACHE_INVALID_SOURCE_LOCATIONS => Error::InvalidSourceLocations,
+            c::SYMCACHE_INVALID_RANGES => Error::InvalidRanges,
+            c::SYMCACHE_UNEXPECTED_STRING_BYTES => Error::UnexpectedStringBytes { expected, found },
+            c::SYMCACHE_INVALID_VARIABLE_HEADER => Error::InvalidVariableHeader,
+            c::SYMCACHE_UNORDERED_RANGES => Error::UnorderedRanges,
+            c::SYMCACHE_INVALID_ROWS => Error::InvalidRows,
+            c::SYMCACHE_INVALID_TEXT => Error::InvalidText,
+            c::SYMCACHE_ADDRESS_OVERFLOW => Error::AddressOverflow,
+            c::SYMCACHE_SCRATCH_TOO_SMALL => Error::ScratchTooSmall,
+            c::SYMCACHE_TABLE_FULL => Error::TableFull,
+            c::SYMCACHE_OUTPUT_TOO_SHORT => Error::OutputTooShort,
+            c::SYMCACHE_CLOSED => Error::Closed,
             other => Error::Other(other),
         }
     }
@@ -121,7 +123,7 @@ impl Error {
     /// What a call of the reader answered.
     pub(crate) fn check_file(number: u32, expected: u64, found: u64) -> Result<(), Error> {
         match number {
-            0 => Ok(()),
+            c::SYMCACHE_OK => Ok(()),
             _ => Err(Error::of(number, expected, found)),
         }
     }
@@ -177,17 +179,33 @@ impl std::error::Error for Error {}
 
 #[cfg(test)]
 mod tests {
-    use super::Error;
+    use super::{c, Error};
 
     #[test]
     fn every_number_has_its_own_reason_and_sentence() {
         let mut sentences = std::collections::HashSet::new();
-        for number in 1..=19 {
-            let error = Error::check_file(number, 25, 24).unwrap_err();
-            assert_eq!(error.number(), number);
-            assert!(!matches!(error, Error::Other(_)), "{number}");
-            assert!(sentences.insert(error.to_string()), "{number}");
+        // The numbers stand first in the header, ascending from 0, up to MAX.
+        assert_eq!(c::NUMBERS[0], ("SYMCACHE_OK", 0));
+        let mut before = 0;
+        for (name, number) in &c::NUMBERS[1..] {
+            if *name == "SYMCACHE_MAX" {
+                break;
+            }
+            assert!(*number > before, "{name}");
+            before = *number;
+            let error = Error::check_file(*number, 25, 24).unwrap_err();
+            assert_eq!(error.number(), *number);
+            assert!(sentences.insert(error.to_string()), "{name}");
+            let words = name.split('_').skip(1);
+            let camel: String = words
+                .map(|word| word[..1].to_string() + &word[1..].to_lowercase())
+                .collect();
+            assert!(
+                format!("{error:?}").starts_with(&camel),
+                "{name} is {error:?}"
+            );
         }
+        assert!(before >= 19);
         assert_eq!(Error::check(0), Ok(()));
         assert_eq!(Error::check(20), Err(Error::Other(20)));
         assert_eq!(Error::Other(20).number(), 20);

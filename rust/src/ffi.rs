@@ -1,29 +1,40 @@
-//! The proved library's C interface (include/symcache.h), one safe function for each of its
-//! functions. The only unsafe code of the crate.
+//! The proved library's C interface, one safe function for each of its functions. The only unsafe
+//! code of the crate, and hidden in its documentation: it is public for the tools of the repository.
 //!
 //! Every function of the library is total: it takes any content of any length. What its caller owes
 //! is that each pointer and length is a slice, that written slices are not shared, and that slices
 //! don't overlap. Rust's references owe the same: a `&mut` slice is shared with nothing, so here
 //! overlap can't be written down. (Two `&` slices may be parts of one memory; both are only read,
 //! and nothing is written through them.)
+//!
+//! What each function does, and what its slices hold, is said in include/symcache.h.
 
-#![allow(unsafe_code)]
+#![allow(unsafe_code, missing_docs, clippy::too_many_arguments)]
 
-/// Words of the record.
-pub const RECORD_WORDS: usize = 20;
-/// Words of a table row.
-pub const ROW_WORDS: usize = 8;
-/// Words that tell where the tables of a file lie.
-pub const CACHE_WORDS: usize = 10;
+/// The declarations of include/symcache.h, written from it by build.rs.
+#[allow(non_camel_case_types)]
+pub mod c {
+    include!(concat!(env!("OUT_DIR"), "/symcache.rs"));
+}
 
-/// The record's counts: text bytes, then the rows of each table.
-pub const RECORD_STRING_BYTES: usize = 11;
-pub const RECORD_STRINGS: usize = 12;
-pub const RECORD_FILES: usize = 13;
-pub const RECORD_FUNCTIONS: usize = 14;
-pub const RECORD_CALL_LOCATIONS: usize = 15;
-pub const RECORD_RANGES: usize = 16;
-pub const RECORD_OPEN: usize = 19;
+/// How many words a lent slice needs, as a length.
+pub const RECORD_WORDS: usize = c::SYMCACHE_RECORD_WORDS as usize;
+pub const TABLE_ROW_WORDS: usize = c::SYMCACHE_TABLE_ROW_WORDS as usize;
+pub const SCRATCH_ROW_WORDS: usize = c::SYMCACHE_SCRATCH_ROW_WORDS as usize;
+pub const FUNCTIONS64_WORDS: usize = c::SYMCACHE_FUNCTIONS64_WORDS as usize;
+pub const FUNCTIONS32_WORDS: usize = c::SYMCACHE_FUNCTIONS32_WORDS as usize;
+pub const LINES64_WORDS: usize = c::SYMCACHE_LINES64_WORDS as usize;
+pub const LINES32_WORDS: usize = c::SYMCACHE_LINES32_WORDS as usize;
+pub const LEN_WORDS: usize = c::SYMCACHE_LEN_WORDS as usize;
+pub const CACHE_WORDS: usize = c::SYMCACHE_CACHE_WORDS as usize;
+pub const CURSOR_WORDS: usize = c::SYMCACHE_CURSOR_WORDS as usize;
+pub const FRAME_WORDS: usize = c::SYMCACHE_FRAME_WORDS as usize;
+pub const PART_WORDS: usize = c::SYMCACHE_PART_WORDS as usize;
+pub const FUNCTION_WORDS: usize = c::SYMCACHE_FUNCTION_WORDS as usize;
+pub const FILE_WORDS: usize = c::SYMCACHE_FILE_WORDS as usize;
+pub const LIST_CURSOR_WORDS: usize = c::SYMCACHE_LIST_CURSOR_WORDS as usize;
+pub const LISTED_FUNCTION_WORDS: usize = c::SYMCACHE_LISTED_FUNCTION_WORDS as usize;
+pub const LISTED_FILE_WORDS: usize = c::SYMCACHE_LISTED_FILE_WORDS as usize;
 
 /// The tables that a converter is lent, as its calls change them.
 pub struct TablesMut<'a> {
@@ -45,210 +56,16 @@ pub struct TablesRef<'a> {
     pub ranges: &'a [u32],
 }
 
-mod c {
-    extern "C" {
-        pub fn symcache_begin(
-            record: *mut u32,
-            record_len: usize,
-            debug_id: *const u8,
-            debug_id_len: usize,
-            arch: u32,
-            undecorate_functions: u32,
-            undecorate_symbols: u32,
-            string_bytes: *mut u8,
-            string_bytes_len: usize,
-            strings: *mut u32,
-            strings_len: usize,
-            files: *mut u32,
-            files_len: usize,
-            functions: *mut u32,
-            functions_len: usize,
-            call_locations: *mut u32,
-            call_locations_len: usize,
-            ranges: *mut u32,
-            ranges_len: usize,
-        ) -> u32;
-        pub fn symcache_process_symbolic_function(
-            record: *mut u32,
-            record_len: usize,
-            string_bytes: *mut u8,
-            string_bytes_len: usize,
-            strings: *mut u32,
-            strings_len: usize,
-            files: *mut u32,
-            files_len: usize,
-            functions: *mut u32,
-            functions_len: usize,
-            call_locations: *mut u32,
-            call_locations_len: usize,
-            ranges: *mut u32,
-            ranges_len: usize,
-            scratch: *mut u32,
-            scratch_len: usize,
-            functions64: *const u64,
-            functions64_len: usize,
-            functions32: *const u32,
-            functions32_len: usize,
-            lines64: *const u64,
-            lines64_len: usize,
-            lines32: *const u32,
-            lines32_len: usize,
-            text: *const u8,
-            text_len: usize,
-        ) -> u32;
-        pub fn symcache_process_symbolic_function_lines(
-            record: *mut u32,
-            record_len: usize,
-            string_bytes: *mut u8,
-            string_bytes_len: usize,
-            strings: *mut u32,
-            strings_len: usize,
-            files: *mut u32,
-            files_len: usize,
-            functions: *mut u32,
-            functions_len: usize,
-            call_locations: *mut u32,
-            call_locations_len: usize,
-            ranges: *mut u32,
-            ranges_len: usize,
-            scratch: *mut u32,
-            scratch_len: usize,
-            unpacked64: *mut u64,
-            unpacked64_len: usize,
-            unpacked32: *mut u32,
-            unpacked32_len: usize,
-            functions64: *const u64,
-            functions64_len: usize,
-            functions32: *const u32,
-            functions32_len: usize,
-            lines: *const crate::LineRow,
-            lines_len: usize,
-            text: *const u8,
-            text_len: usize,
-        ) -> u32;
-        pub fn symcache_process_symbolic_symbol(
-            record: *mut u32,
-            record_len: usize,
-            string_bytes: *mut u8,
-            string_bytes_len: usize,
-            strings: *mut u32,
-            strings_len: usize,
-            files: *mut u32,
-            files_len: usize,
-            functions: *mut u32,
-            functions_len: usize,
-            call_locations: *mut u32,
-            call_locations_len: usize,
-            ranges: *mut u32,
-            ranges_len: usize,
-            text: *const u8,
-            text_len: usize,
-            address: u64,
-            size: u64,
-            named: u32,
-            name_start: u32,
-            name_len: u32,
-        ) -> u32;
-        pub fn symcache_serialize(
-            record: *const u32,
-            record_len: usize,
-            string_bytes: *const u8,
-            string_bytes_len: usize,
-            strings: *const u32,
-            strings_len: usize,
-            files: *const u32,
-            files_len: usize,
-            functions: *const u32,
-            functions_len: usize,
-            call_locations: *const u32,
-            call_locations_len: usize,
-            ranges: *const u32,
-            ranges_len: usize,
-            out: *mut u8,
-            out_len: usize,
-            len: *mut u64,
-            len_len: usize,
-        ) -> u32;
-        pub fn symcache_parse(
-            bytes: *const u8,
-            bytes_len: usize,
-            cache: *mut u64,
-            cache_len: usize,
-        ) -> u32;
-        pub fn symcache_open(
-            bytes: *const u8,
-            bytes_len: usize,
-            cache: *mut u64,
-            cache_len: usize,
-        ) -> u32;
-        pub fn symcache_find(
-            bytes: *const u8,
-            bytes_len: usize,
-            cache: *const u64,
-            cache_len: usize,
-            addr: u64,
-        ) -> u32;
-        pub fn symcache_walk(
-            bytes: *const u8,
-            bytes_len: usize,
-            cache: *const u64,
-            cache_len: usize,
-            addr: u64,
-            cursor: *mut u32,
-            cursor_len: usize,
-        ) -> u32;
-        pub fn symcache_next(
-            bytes: *const u8,
-            bytes_len: usize,
-            cursor: *mut u32,
-            cursor_len: usize,
-            frame: *mut u32,
-            frame_len: usize,
-        ) -> u32;
-        pub fn symcache_read_string(
-            bytes: *const u8,
-            bytes_len: usize,
-            offset: u32,
-            part: *mut u64,
-            part_len: usize,
-        ) -> u32;
-        pub fn symcache_function_name(
-            bytes: *const u8,
-            bytes_len: usize,
-            function_idx: u32,
-            part: *mut u64,
-            part_len: usize,
-        ) -> u32;
-        pub fn symcache_get_function(
-            bytes: *const u8,
-            bytes_len: usize,
-            function_idx: u32,
-            row: *mut u32,
-            row_len: usize,
-        ) -> u32;
-        pub fn symcache_get_file(
-            bytes: *const u8,
-            bytes_len: usize,
-            file_idx: u32,
-            row: *mut u32,
-            row_len: usize,
-        ) -> u32;
-        pub fn symcache_functions_next(
-            bytes: *const u8,
-            bytes_len: usize,
-            cursor: *mut u32,
-            cursor_len: usize,
-            row: *mut u32,
-            row_len: usize,
-        ) -> u32;
-        pub fn symcache_files_next(
-            bytes: *const u8,
-            bytes_len: usize,
-            cursor: *mut u32,
-            cursor_len: usize,
-            row: *mut u32,
-            row_len: usize,
-        ) -> u32;
+impl TablesMut<'_> {
+    pub fn read(&self) -> TablesRef<'_> {
+        TablesRef {
+            string_bytes: self.string_bytes,
+            strings: self.strings,
+            files: self.files,
+            functions: self.functions,
+            call_locations: self.call_locations,
+            ranges: self.ranges,
+        }
     }
 }
 
@@ -256,8 +73,8 @@ pub fn begin(
     record: &mut [u32],
     debug_id: &[u8],
     arch: u32,
-    undecorate_functions: bool,
-    undecorate_symbols: bool,
+    undecorate_functions: u32,
+    undecorate_symbols: u32,
     tables: TablesMut<'_>,
 ) -> u32 {
     // SAFETY: each pointer and length comes from one reference to a slice that lives through the
@@ -269,8 +86,8 @@ pub fn begin(
             debug_id.as_ptr(),
             debug_id.len(),
             arch,
-            undecorate_functions.into(),
-            undecorate_symbols.into(),
+            undecorate_functions,
+            undecorate_symbols,
             tables.string_bytes.as_mut_ptr(),
             tables.string_bytes.len(),
             tables.strings.as_mut_ptr(),
@@ -337,7 +154,7 @@ pub fn process_symbolic_function_lines(
 ) -> u32 {
     // SAFETY: each pointer and length comes from one reference to a slice that lives through the
     // call. Written slices come from `&mut`, so nothing overlaps them. `LineRow` and its parts are
-    // `repr(C)`, with the fields of the library's.
+    // laid out as the header's structs (a test below).
     unsafe {
         c::symcache_process_symbolic_function_lines(
             record.as_mut_ptr(),
@@ -364,7 +181,7 @@ pub fn process_symbolic_function_lines(
             rows.functions64.len(),
             rows.functions32.as_ptr(),
             rows.functions32.len(),
-            rows.lines.as_ptr(),
+            rows.lines.as_ptr().cast(),
             rows.lines.len(),
             rows.text.as_ptr(),
             rows.text.len(),
@@ -378,9 +195,10 @@ pub fn process_symbolic_symbol(
     text: &[u8],
     address: u64,
     size: u64,
-    name: Option<(u32, u32)>,
+    named: u32,
+    name_start: u32,
+    name_len: u32,
 ) -> u32 {
-    let (name_start, name_len) = name.unwrap_or_default();
     // SAFETY: each pointer and length comes from one reference to a slice that lives through the
     // call. Written slices come from `&mut`, so nothing overlaps them.
     unsafe {
@@ -403,7 +221,7 @@ pub fn process_symbolic_symbol(
             text.len(),
             address,
             size,
-            name.is_some().into(),
+            named,
             name_start,
             name_len,
         )
@@ -437,17 +255,17 @@ pub fn serialize(record: &[u32], tables: TablesRef<'_>, out: &mut [u8], len: &mu
     }
 }
 
-pub fn parse(bytes: &[u8], cache: &mut [u64; CACHE_WORDS]) -> u32 {
+pub fn parse(bytes: &[u8], cache: &mut [u64]) -> u32 {
     // SAFETY: both are slices that live through the call; `cache` is `&mut`, so they don't overlap.
     unsafe { c::symcache_parse(bytes.as_ptr(), bytes.len(), cache.as_mut_ptr(), cache.len()) }
 }
 
-pub fn open(bytes: &[u8], cache: &mut [u64; CACHE_WORDS]) -> u32 {
+pub fn open(bytes: &[u8], cache: &mut [u64]) -> u32 {
     // SAFETY: both are slices that live through the call; `cache` is `&mut`, so they don't overlap.
     unsafe { c::symcache_open(bytes.as_ptr(), bytes.len(), cache.as_mut_ptr(), cache.len()) }
 }
 
-pub fn find(bytes: &[u8], cache: &[u64; CACHE_WORDS], addr: u64) -> u32 {
+pub fn find(bytes: &[u8], cache: &[u64], addr: u64) -> u32 {
     // SAFETY: both are slices that live through the call, and are only read.
     unsafe {
         c::symcache_find(
@@ -460,7 +278,7 @@ pub fn find(bytes: &[u8], cache: &[u64; CACHE_WORDS], addr: u64) -> u32 {
     }
 }
 
-pub fn walk(bytes: &[u8], cache: &[u64; CACHE_WORDS], addr: u64, cursor: &mut [u32; 3]) -> u32 {
+pub fn walk(bytes: &[u8], cache: &[u64], addr: u64, cursor: &mut [u32]) -> u32 {
     // SAFETY: all three are slices that live through the call; `cursor` is `&mut`, so nothing
     // overlaps it, and the others are only read.
     unsafe {
@@ -476,7 +294,20 @@ pub fn walk(bytes: &[u8], cache: &[u64; CACHE_WORDS], addr: u64, cursor: &mut [u
     }
 }
 
-pub fn next(bytes: &[u8], cursor: &mut [u32; 3], frame: &mut [u32; 13]) -> u32 {
+pub fn lookup(bytes: &[u8], addr: u64, cursor: &mut [u32]) -> u32 {
+    // SAFETY: both are slices that live through the call; `cursor` is `&mut`, so they don't overlap.
+    unsafe {
+        c::symcache_lookup(
+            bytes.as_ptr(),
+            bytes.len(),
+            addr,
+            cursor.as_mut_ptr(),
+            cursor.len(),
+        )
+    }
+}
+
+pub fn next(bytes: &[u8], cursor: &mut [u32], frame: &mut [u32]) -> u32 {
     // SAFETY: all three are slices that live through the call; `cursor` and `frame` are `&mut`, so
     // nothing overlaps them.
     unsafe {
@@ -491,7 +322,7 @@ pub fn next(bytes: &[u8], cursor: &mut [u32; 3], frame: &mut [u32; 13]) -> u32 {
     }
 }
 
-pub fn read_string(bytes: &[u8], offset: u32, part: &mut [u64; 3]) -> u32 {
+pub fn read_string(bytes: &[u8], offset: u32, part: &mut [u64]) -> u32 {
     // SAFETY: both are slices that live through the call; `part` is `&mut`, so they don't overlap.
     unsafe {
         c::symcache_read_string(
@@ -504,7 +335,7 @@ pub fn read_string(bytes: &[u8], offset: u32, part: &mut [u64; 3]) -> u32 {
     }
 }
 
-pub fn function_name(bytes: &[u8], function_idx: u32, part: &mut [u64; 3]) -> u32 {
+pub fn function_name(bytes: &[u8], function_idx: u32, part: &mut [u64]) -> u32 {
     // SAFETY: both are slices that live through the call; `part` is `&mut`, so they don't overlap.
     unsafe {
         c::symcache_function_name(
@@ -517,7 +348,7 @@ pub fn function_name(bytes: &[u8], function_idx: u32, part: &mut [u64; 3]) -> u3
     }
 }
 
-pub fn get_function(bytes: &[u8], function_idx: u32, row: &mut [u32; 5]) -> u32 {
+pub fn get_function(bytes: &[u8], function_idx: u32, row: &mut [u32]) -> u32 {
     // SAFETY: both are slices that live through the call; `row` is `&mut`, so they don't overlap.
     unsafe {
         c::symcache_get_function(
@@ -530,7 +361,7 @@ pub fn get_function(bytes: &[u8], function_idx: u32, row: &mut [u32; 5]) -> u32 
     }
 }
 
-pub fn get_file(bytes: &[u8], file_idx: u32, row: &mut [u32; 7]) -> u32 {
+pub fn get_file(bytes: &[u8], file_idx: u32, row: &mut [u32]) -> u32 {
     // SAFETY: both are slices that live through the call; `row` is `&mut`, so they don't overlap.
     unsafe {
         c::symcache_get_file(
@@ -543,7 +374,7 @@ pub fn get_file(bytes: &[u8], file_idx: u32, row: &mut [u32; 7]) -> u32 {
     }
 }
 
-pub fn functions_next(bytes: &[u8], cursor: &mut [u32; 1], row: &mut [u32; 6]) -> u32 {
+pub fn functions_next(bytes: &[u8], cursor: &mut [u32], row: &mut [u32]) -> u32 {
     // SAFETY: all three are slices that live through the call; `cursor` and `row` are `&mut`, so
     // nothing overlaps them.
     unsafe {
@@ -558,7 +389,7 @@ pub fn functions_next(bytes: &[u8], cursor: &mut [u32; 1], row: &mut [u32; 6]) -
     }
 }
 
-pub fn files_next(bytes: &[u8], cursor: &mut [u32; 1], row: &mut [u32; 8]) -> u32 {
+pub fn files_next(bytes: &[u8], cursor: &mut [u32], row: &mut [u32]) -> u32 {
     // SAFETY: all three are slices that live through the call; `cursor` and `row` are `&mut`, so
     // nothing overlaps them.
     unsafe {
@@ -606,6 +437,36 @@ mod tests {
         }
     }
 
+    /// Where a field lies in a struct.
+    fn offset<S, F>(of: &S, field: &F) -> usize {
+        field as *const F as usize - of as *const S as usize
+    }
+
+    macro_rules! same_layout {
+        ($ours:expr, $header:ident, $($field:ident: $value:expr),+) => {{
+            let ours = $ours;
+            // All fields of the header's struct, with its types.
+            let header = c::$header { $($field: $value(ours.$field)),+ };
+            assert_eq!(size_of_val(&ours), size_of_val(&header));
+            assert_eq!(align_of_val(&ours), align_of_val(&header));
+            $(assert_eq!(offset(&ours, &ours.$field), offset(&header, &header.$field));)+
+            header
+        }};
+    }
+
+    #[test]
+    fn line_rows_are_laid_out_as_the_headers() {
+        use crate::{LineRow, OptionalPart, TextPart};
+        use std::convert::identity as same;
+        use std::mem::{align_of_val, size_of_val};
+        let text = |ours: TextPart| same_layout!(ours, symcache_text_part, start: same, len: same);
+        let optional = |ours: OptionalPart| same_layout!(ours, symcache_optional_part, present: same, part: text);
+        same_layout!(
+            LineRow::default(), symcache_line_row, address: same, has_size: same, size: same, number: same, name: text,
+            directory: text, srcsrv_name: optional, srcsrv_dir: optional, revision: optional
+        );
+    }
+
     #[test]
     fn the_record() {
         let mut memory = Memory {
@@ -614,19 +475,19 @@ mod tests {
         };
 
         // One of 19 words is a closed converter, and stays.
-        let mut short = [7; 19];
-        assert_eq!(begin(&mut short, &[1], 2, true, false, memory.lent()), 19);
-        assert_eq!(short, [7; 19]);
+        let mut short = [7; RECORD_WORDS - 1];
+        assert_eq!(begin(&mut short, &[1], 2, 1, 0, memory.lent()), 19);
+        assert_eq!(short, [7; RECORD_WORDS - 1]);
         assert!(memory.words[0].iter().all(|word| *word == 7));
 
         // Bytes that the debug id lacks are 0, and words past the 20th stay.
-        let mut record = [7; 22];
+        let mut record = [7; RECORD_WORDS + 2];
         let id: Vec<u8> = (1..=6).collect();
-        assert_eq!(begin(&mut record, &id, 2, true, false, memory.lent()), 0);
-        let mut wanted = [0; 22];
+        assert_eq!(begin(&mut record, &id, 2, 1, 0, memory.lent()), 0);
+        let mut wanted = [0; RECORD_WORDS + 2];
         wanted[..2].copy_from_slice(&[0x04030201, 0x0605]);
         wanted[8..11].copy_from_slice(&[2, 1, 0]);
-        wanted[RECORD_OPEN..].copy_from_slice(&[1, 7, 7]);
+        wanted[c::SYMCACHE_RECORD_OPEN..].copy_from_slice(&[1, 7, 7]);
         assert_eq!(record, wanted);
         assert!(memory.words[0].iter().all(|word| *word == 0));
 
@@ -641,17 +502,73 @@ mod tests {
         );
         assert_eq!(scratch, [0; 5]);
         // Four text bytes, one text, one function, its start and its end; the last end.
-        wanted[RECORD_STRING_BYTES..RECORD_OPEN].copy_from_slice(&[4, 1, 0, 1, 0, 2, 1, 0x1010]);
+        wanted[c::SYMCACHE_RECORD_STRING_BYTES..c::SYMCACHE_RECORD_OPEN]
+            .copy_from_slice(&[4, 1, 0, 1, 0, 2, 1, 0x1010]);
         assert_eq!(record, wanted);
 
-        let name = Some((1, 2));
         assert_eq!(
-            process_symbolic_symbol(&mut record, memory.lent(), b"xsy", 0x2000, 0, name),
+            process_symbolic_symbol(&mut record, memory.lent(), b"xsy", 0x2000, 0, 1, 1, 2),
             0
         );
         // A symbol above the last end clears it.
-        wanted[RECORD_STRING_BYTES..RECORD_OPEN].copy_from_slice(&[7, 2, 0, 2, 0, 3, 0, 0]);
+        wanted[c::SYMCACHE_RECORD_STRING_BYTES..c::SYMCACHE_RECORD_OPEN]
+            .copy_from_slice(&[7, 2, 0, 2, 0, 3, 0, 0]);
         assert_eq!(record, wanted);
+    }
+
+    #[test]
+    fn rows_and_scratch_of_exactly_their_words() {
+        let mut memory = Memory {
+            texts: vec![0; 100],
+            words: std::array::from_fn(|_| vec![0; 80]),
+        };
+        let mut record = [0; RECORD_WORDS];
+        begin(&mut record, &[], 0, 0, 0, memory.lent());
+        let functions64 = [16; FUNCTIONS64_WORDS];
+        let mut functions32 = [0; FUNCTIONS32_WORDS];
+        functions32[c::SYMCACHE_FUNCTION_LINES] = 1;
+        let columns = crate::Columns {
+            functions64: &functions64,
+            functions32: &functions32,
+            lines64: &[16; LINES64_WORDS],
+            lines32: &[0; LINES32_WORDS],
+            text: &[],
+        };
+        let rows = crate::LineRows {
+            functions64: &functions64,
+            functions32: &functions32,
+            lines: &[crate::LineRow::default()],
+            text: &[],
+        };
+        let mut tree = |scratch: usize| {
+            process_symbolic_function(&mut record, memory.lent(), &mut vec![7; scratch], &columns)
+        };
+        assert_eq!(
+            tree(2 * SCRATCH_ROW_WORDS - 1),
+            c::SYMCACHE_SCRATCH_TOO_SMALL
+        );
+        assert_eq!(tree(2 * SCRATCH_ROW_WORDS), 0);
+        let mut lines = |words64: usize, words32: usize| {
+            let scratch = &mut [7; 2 * SCRATCH_ROW_WORDS];
+            let (unpacked64, unpacked32) = (&mut vec![7; words64], &mut vec![7; words32]);
+            process_symbolic_function_lines(
+                &mut record,
+                memory.lent(),
+                scratch,
+                unpacked64,
+                unpacked32,
+                &rows,
+            )
+        };
+        assert_eq!(
+            lines(LINES64_WORDS - 1, LINES32_WORDS),
+            c::SYMCACHE_SCRATCH_TOO_SMALL
+        );
+        assert_eq!(
+            lines(LINES64_WORDS, LINES32_WORDS - 1),
+            c::SYMCACHE_SCRATCH_TOO_SMALL
+        );
+        assert_eq!(lines(LINES64_WORDS, LINES32_WORDS), 0);
     }
 
     #[test]
@@ -672,10 +589,10 @@ mod tests {
     fn a_walk() {
         let mut cache = [0; CACHE_WORDS];
         open(FILE, &mut cache);
-        let mut cursor = [7; 3];
+        let mut cursor = [7; CURSOR_WORDS];
         assert_eq!(find(FILE, &cache, 0x1010), 5);
         assert_eq!(walk(FILE, &cache, 0x1010, &mut cursor), u32::MAX);
-        let mut frame = [7; 13];
+        let mut frame = [7; FRAME_WORDS];
         assert_eq!(next(FILE, &mut cursor, &mut frame), 0);
         assert_eq!((frame[0], &frame[1..]), (0, &[7; 12][..]));
 
@@ -684,6 +601,12 @@ mod tests {
         assert_eq!(next(FILE, &mut cursor, &mut frame), 0);
         let max = u32::MAX;
         assert_eq!(frame, [2, 2, 1, 50, 1, max, 2, 13, 9, 20, max, max, max]);
+        assert_eq!(frame[c::SYMCACHE_FRAME_KIND], c::SYMCACHE_FRAME_WITH_FILE);
+        assert_eq!(frame[c::SYMCACHE_FRAME_LINE], 50);
+        assert_eq!(frame[c::SYMCACHE_FRAME_ENTRY], c::SYMCACHE_MAX);
+        assert_eq!(frame[c::SYMCACHE_FRAME_COMP_DIR], 13);
+        assert_eq!(frame[c::SYMCACHE_FRAME_DIRECTORY], 9);
+        assert_eq!(frame[c::SYMCACHE_FRAME_NAME], 20);
         assert_eq!(next(FILE, &mut cursor, &mut frame), 0);
         assert_eq!(frame, [2, 0, 0, 10, 0, 0x1000, 2, 13, 9, 4, max, max, max]);
         let last = cursor;
@@ -698,9 +621,9 @@ mod tests {
         let file = symbol_file();
         let mut cache = [0; CACHE_WORDS];
         assert_eq!(open(&file, &mut cache), 0);
-        let mut cursor = [7; 3];
+        let mut cursor = [7; CURSOR_WORDS];
         assert_eq!(walk(&file, &cache, 18, &mut cursor), 0);
-        let mut frame = [7; 13];
+        let mut frame = [7; FRAME_WORDS];
         assert_eq!(next(&file, &mut cursor, &mut frame), 0);
         let max = u32::MAX;
         assert_eq!(frame, [1, 0, 0, 0, max, 16, max, 7, 7, 7, 7, 7, 7]);
@@ -708,12 +631,12 @@ mod tests {
 
     #[test]
     fn texts_and_rows() {
-        let mut part = [7; 3];
+        let mut part = [7; PART_WORDS];
         assert_eq!(read_string(FILE, u32::MAX, &mut part), 0);
         assert_eq!(part, [0, 7, 7]);
         assert_eq!(read_string(FILE, 4, &mut part), 0);
         assert_eq!(part, [1, 285, 4]);
-        let mut part = [7; 3];
+        let mut part = [7; PART_WORDS];
         assert_eq!(function_name(FILE, 2, &mut part), 0);
         assert_eq!(part, [0, 7, 7]);
         assert_eq!(function_name(FILE, 1, &mut part), 0);
@@ -722,12 +645,12 @@ mod tests {
         assert_eq!(part, [1, 297, 3]);
 
         let max = u32::MAX;
-        let mut row = [7; 5];
+        let mut row = [7; FUNCTION_WORDS];
         assert_eq!(get_function(FILE, 2, &mut row), 0);
         assert_eq!(row, [0, 7, 7, 7, 7]);
         assert_eq!(get_function(FILE, 0, &mut row), 0);
         assert_eq!(row, [1, 0, max, 0x1000, 2]);
-        let mut row = [7; 7];
+        let mut row = [7; FILE_WORDS];
         assert_eq!(get_file(FILE, 2, &mut row), 0);
         assert_eq!(row, [0, 7, 7, 7, 7, 7, 7]);
         assert_eq!(get_file(FILE, 1, &mut row), 0);
@@ -737,13 +660,13 @@ mod tests {
     #[test]
     fn lists() {
         let max = u32::MAX;
-        let (mut cursor, mut row) = ([0], [7; 6]);
+        let (mut cursor, mut row) = ([0; LIST_CURSOR_WORDS], [7; LISTED_FUNCTION_WORDS]);
         assert_eq!(functions_next(FILE, &mut cursor, &mut row), 0);
         assert_eq!((cursor, row), ([1], [1, 0, 0, max, 0x1000, 2]));
         // The second has no entry.
         assert_eq!(functions_next(FILE, &mut cursor, &mut row), 0);
         assert_eq!((cursor, row), ([1], [0, 0, 0, max, 0x1000, 2]));
-        let (mut cursor, mut row) = ([1], [7; 8]);
+        let (mut cursor, mut row) = ([1; LIST_CURSOR_WORDS], [7; LISTED_FILE_WORDS]);
         assert_eq!(files_next(FILE, &mut cursor, &mut row), 0);
         assert_eq!((cursor, row), ([2], [1, 1, 13, 9, 20, max, max, max]));
         assert_eq!(files_next(FILE, &mut cursor, &mut row), 0);

@@ -67,10 +67,11 @@
 #![warn(rust_2018_idioms)]
 
 pub mod debuginfo;
+#[doc(hidden)]
+pub mod ffi;
 
 mod converter;
 mod error;
-mod ffi;
 mod lookup;
 mod rows;
 

@@ -4,7 +4,8 @@
 use std::fmt;
 use std::iter::FusedIterator;
 
-use crate::{ffi, Error};
+use crate::ffi::{self, c};
+use crate::Error;
 
 /// Where a table of a file lies.
 #[derive(Clone, Copy, Debug, PartialEq, Eq)]
@@ -43,16 +44,19 @@ impl Layout {
     }
 
     fn of(cache: &[u64; ffi::CACHE_WORDS]) -> Self {
-        let section = |i: usize| Section {
-            offset: cache[2 * i],
-            count: cache[2 * i + 1],
+        let section = |offset: usize, count: usize| Section {
+            offset: cache[offset],
+            count: cache[count],
         };
         Layout {
-            files: section(0),
-            functions: section(1),
-            source_locations: section(2),
-            ranges: section(3),
-            strings: section(4),
+            files: section(c::SYMCACHE_CACHE_FILES, c::SYMCACHE_CACHE_NUM_FILES),
+            functions: section(c::SYMCACHE_CACHE_FUNCTIONS, c::SYMCACHE_CACHE_NUM_FUNCTIONS),
+            source_locations: section(
+                c::SYMCACHE_CACHE_SOURCE_LOCATIONS,
+                c::SYMCACHE_CACHE_NUM_SOURCE_LOCATIONS,
+            ),
+            ranges: section(c::SYMCACHE_CACHE_RANGES, c::SYMCACHE_CACHE_NUM_RANGES),
+            strings: section(c::SYMCACHE_CACHE_STRINGS, c::SYMCACHE_CACHE_STRING_BYTES),
         }
     }
 }
@@ -124,7 +128,7 @@ impl<'data> SymCache<'data> {
     /// There are none above `u32::MAX`, below the first range, and where a function or symbol has
     /// ended.
     pub fn lookup(&self, addr: u64) -> SourceLocations<'data> {
-        let mut cursor = [0; 3];
+        let mut cursor = [0; ffi::CURSOR_WORDS];
         ffi::walk(self.bytes, &self.cache, addr, &mut cursor);
         SourceLocations {
             bytes: self.bytes,
@@ -140,7 +144,7 @@ impl<'data> SymCache<'data> {
 
     /// The function at an index.
     pub fn get_function(&self, function_idx: u32) -> Option<Function<'data>> {
-        let mut row = [0; 5];
+        let mut row = [0; ffi::FUNCTION_WORDS];
         read(ffi::get_function(self.bytes, function_idx, &mut row));
         (row[0] != 0).then(|| Function {
             name: function_name(self.bytes, function_idx),
@@ -151,7 +155,7 @@ impl<'data> SymCache<'data> {
 
     /// The file at an index.
     pub fn get_file(&self, file_idx: u32) -> Option<File<'data>> {
-        let mut row = [0; 7];
+        let mut row = [0; ffi::FILE_WORDS];
         read(ffi::get_file(self.bytes, file_idx, &mut row));
         (row[0] != 0).then(|| File::new(self.bytes, &row[1..]))
     }
@@ -167,7 +171,7 @@ impl<'data> SymCache<'data> {
     pub fn functions(&self) -> Functions<'data> {
         Functions {
             bytes: self.bytes,
-            cursor: [0],
+            cursor: [0; ffi::LIST_CURSOR_WORDS],
         }
     }
 
@@ -175,7 +179,7 @@ impl<'data> SymCache<'data> {
     pub fn files(&self) -> Files<'data> {
         Files {
             bytes: self.bytes,
-            cursor: [0],
+            cursor: [0; ffi::LIST_CURSOR_WORDS],
         }
     }
 
@@ -205,18 +209,19 @@ impl fmt::Debug for SymCache<'_> {
 #[derive(Clone, Copy)]
 pub struct SourceLocation<'data> {
     bytes: &'data [u8],
-    frame: [u32; 13],
+    frame: [u32; ffi::FRAME_WORDS],
 }
 
 impl<'data> SourceLocation<'data> {
     /// The line. 0 where it isn't known.
     pub fn line(&self) -> u32 {
-        self.frame[3]
+        self.frame[c::SYMCACHE_FRAME_LINE]
     }
 
     /// The source file, if there is one.
     pub fn file(&self) -> Option<File<'data>> {
-        (self.frame[0] == 2).then(|| File::new(self.bytes, &self.frame[7..]))
+        (self.frame[c::SYMCACHE_FRAME_KIND] == c::SYMCACHE_FRAME_WITH_FILE)
+            .then(|| File::new(self.bytes, &self.frame[c::SYMCACHE_FRAME_COMP_DIR..]))
     }
 
     /// The function. Where the file has none of this index, it has no name, entry `u32::MAX` and
@@ -224,24 +229,24 @@ impl<'data> SourceLocation<'data> {
     pub fn function(&self) -> Function<'data> {
         Function {
             name: function_name(self.bytes, self.function_idx()),
-            entry_pc: self.frame[5],
-            language: self.frame[6],
+            entry_pc: self.frame[c::SYMCACHE_FRAME_ENTRY],
+            language: self.frame[c::SYMCACHE_FRAME_LANGUAGE],
         }
     }
 
     /// The index of this source location.
     pub fn location_idx(&self) -> u32 {
-        self.frame[1]
+        self.frame[c::SYMCACHE_FRAME_LOCATION]
     }
 
     /// The index of its function, as stored.
     pub fn function_idx(&self) -> u32 {
-        self.frame[2]
+        self.frame[c::SYMCACHE_FRAME_FUNCTION]
     }
 
     /// The index of its file, as stored; `u32::MAX` where there is none.
     pub fn file_idx(&self) -> u32 {
-        self.frame[4]
+        self.frame[c::SYMCACHE_FRAME_FILE]
     }
 }
 
@@ -260,16 +265,16 @@ impl fmt::Debug for SourceLocation<'_> {
 #[derive(Clone, Copy, Debug)]
 pub struct SourceLocations<'data> {
     bytes: &'data [u8],
-    cursor: [u32; 3],
+    cursor: [u32; ffi::CURSOR_WORDS],
 }
 
 impl<'data> Iterator for SourceLocations<'data> {
     type Item = SourceLocation<'data>;
 
     fn next(&mut self) -> Option<Self::Item> {
-        let mut frame = [0; 13];
+        let mut frame = [0; ffi::FRAME_WORDS];
         read(ffi::next(self.bytes, &mut self.cursor, &mut frame));
-        (frame[0] != 0).then_some(SourceLocation {
+        (frame[c::SYMCACHE_FRAME_KIND] != c::SYMCACHE_FRAME_END).then_some(SourceLocation {
             bytes: self.bytes,
             frame,
         })
@@ -367,14 +372,14 @@ impl<'data> File<'data> {
 #[derive(Clone, Copy, Debug)]
 pub struct Functions<'data> {
     bytes: &'data [u8],
-    cursor: [u32; 1],
+    cursor: [u32; ffi::LIST_CURSOR_WORDS],
 }
 
 impl<'data> Iterator for Functions<'data> {
     type Item = Function<'data>;
 
     fn next(&mut self) -> Option<Self::Item> {
-        let mut row = [0; 6];
+        let mut row = [0; ffi::LISTED_FUNCTION_WORDS];
         read(ffi::functions_next(self.bytes, &mut self.cursor, &mut row));
         (row[0] != 0).then(|| Function {
             name: function_name(self.bytes, row[1]),
@@ -390,14 +395,14 @@ impl FusedIterator for Functions<'_> {}
 #[derive(Clone, Copy, Debug)]
 pub struct Files<'data> {
     bytes: &'data [u8],
-    cursor: [u32; 1],
+    cursor: [u32; ffi::LIST_CURSOR_WORDS],
 }
 
 impl<'data> Iterator for Files<'data> {
     type Item = File<'data>;
 
     fn next(&mut self) -> Option<Self::Item> {
-        let mut row = [0; 8];
+        let mut row = [0; ffi::LISTED_FILE_WORDS];
         read(ffi::files_next(self.bytes, &mut self.cursor, &mut row));
         (row[0] != 0).then(|| File::new(self.bytes, &row[2..]))
     }
@@ -412,26 +417,26 @@ fn read(number: u32) {
 }
 
 fn present(index: u32) -> Option<u32> {
-    (index != u32::MAX).then_some(index)
+    (index != c::SYMCACHE_MAX).then_some(index)
 }
 
 /// A function's name, if it has one.
 fn function_name(bytes: &[u8], function_idx: u32) -> Option<&str> {
-    let mut part = [0; 3];
+    let mut part = [0; ffi::PART_WORDS];
     read(ffi::function_name(bytes, function_idx, &mut part));
     text(bytes, part)
 }
 
 /// The text at an offset.
 fn string(bytes: &[u8], offset: u32) -> Option<&str> {
-    let mut part = [0; 3];
+    let mut part = [0; ffi::PART_WORDS];
     read(ffi::read_string(bytes, offset, &mut part));
     text(bytes, part)
 }
 
 /// A part of the file, if there is one. The library gives UTF-8 only; `from_utf8` tests it once
 /// more, so that this needs no unsafe code.
-fn text(bytes: &[u8], part: [u64; 3]) -> Option<&str> {
+fn text(bytes: &[u8], part: [u64; ffi::PART_WORDS]) -> Option<&str> {
     let [present, start, len] = part;
     if present == 0 {
         return None;

@@ -3,16 +3,10 @@
 use std::ops::Range;
 
 use crate::debuginfo::{FileInfo, Function, LineInfo};
+use crate::ffi::{
+    c, FUNCTIONS32_WORDS as FUNCTIONS32, LINES32_WORDS as LINES32, SCRATCH_ROW_WORDS as SCRATCH,
+};
 use crate::Error;
-
-/// 32-bit words a function row.
-const FUNCTIONS32: usize = 8;
-/// 64-bit words a line row.
-pub(crate) const LINES64: usize = 3;
-/// 32-bit words a line row.
-pub(crate) const LINES32: usize = 14;
-/// Words of scratch memory for each function and line row.
-const SCRATCH: usize = 4;
 
 /// A tree in borrowed columns: function rows in preorder (a function, then its inlinees in order),
 /// and the line rows of each in the same order. Texts are a start and a length in `text`.
@@ -199,7 +193,10 @@ impl Rows {
         compilation_dir: &[u8],
     ) -> Result<(), Error> {
         let (name_start, name_len) = self.put(name.as_bytes())?;
-        let (dir_start, dir_len) = self.put_again(self.last_function(5), compilation_dir)?;
+        let (dir_start, dir_len) = self.put_again(
+            self.last_function(c::SYMCACHE_FUNCTION_COMP_DIR_START),
+            compilation_dir,
+        )?;
         self.functions64.extend([address, size]);
         self.functions32.extend([
             depth,
@@ -227,22 +224,26 @@ impl Rows {
             srcsrv_dir,
             srcsrv_revision,
         } = &line.file;
-        let (name_start, name_len) = self.put_again(self.last_line(1), name.as_bytes())?;
-        let (dir_start, dir_len) = self.put_again(self.last_line(3), dir.as_bytes())?;
+        let (name_start, name_len) =
+            self.put_again(self.last_line(c::SYMCACHE_LINE_NAME_START), name.as_bytes())?;
+        let (dir_start, dir_len) = self.put_again(
+            self.last_line(c::SYMCACHE_LINE_DIRECTORY_START),
+            dir.as_bytes(),
+        )?;
         let mut row = [0; LINES32];
-        row[..5].copy_from_slice(&[
+        row[..c::SYMCACHE_LINE_SRCSRV_NAME_PRESENT].copy_from_slice(&[
             line.size.is_some().into(),
             name_start,
             name_len,
             dir_start,
             dir_len,
         ]);
-        for (i, text) in [srcsrv_name, srcsrv_dir, srcsrv_revision]
-            .into_iter()
-            .enumerate()
-        {
+        for (at, text) in [
+            (c::SYMCACHE_LINE_SRCSRV_NAME_PRESENT, srcsrv_name),
+            (c::SYMCACHE_LINE_SRCSRV_DIR_PRESENT, srcsrv_dir),
+            (c::SYMCACHE_LINE_REVISION_PRESENT, srcsrv_revision),
+        ] {
             if let Some(text) = text {
-                let at = 5 + 3 * i;
                 let (start, len) = self.put_again(self.last_line(at + 1), text.as_bytes())?;
                 row[at..at + 3].copy_from_slice(&[1, start, len]);
             }
@@ -307,7 +308,10 @@ impl Rows {
         };
         for (i, row) in columns.functions32.chunks_exact(FUNCTIONS32).enumerate() {
             rows.functions32.extend_from_slice(row);
-            for at in [3, 5] {
+            for at in [
+                c::SYMCACHE_FUNCTION_NAME_START,
+                c::SYMCACHE_FUNCTION_COMP_DIR_START,
+            ] {
                 let earlier = last_part(&rows.functions32[..i * FUNCTIONS32], FUNCTIONS32, at);
                 let (start, len) = rows.put_again(earlier, part_of(columns.text, row, at))?;
                 rows.functions32[i * FUNCTIONS32 + at..][..2].copy_from_slice(&[start, len]);
@@ -315,7 +319,22 @@ impl Rows {
         }
         for (i, row) in columns.lines32.chunks_exact(LINES32).enumerate() {
             rows.lines32.extend_from_slice(row);
-            for (at, present) in [(1, 1), (3, 1), (6, row[5]), (9, row[8]), (12, row[11])] {
+            for (at, present) in [
+                (c::SYMCACHE_LINE_NAME_START, 1),
+                (c::SYMCACHE_LINE_DIRECTORY_START, 1),
+                (
+                    c::SYMCACHE_LINE_SRCSRV_NAME_START,
+                    row[c::SYMCACHE_LINE_SRCSRV_NAME_PRESENT],
+                ),
+                (
+                    c::SYMCACHE_LINE_SRCSRV_DIR_START,
+                    row[c::SYMCACHE_LINE_SRCSRV_DIR_PRESENT],
+                ),
+                (
+                    c::SYMCACHE_LINE_REVISION_START,
+                    row[c::SYMCACHE_LINE_REVISION_PRESENT],
+                ),
+            ] {
                 let earlier = last_part(&rows.lines32[..i * LINES32], LINES32, at);
                 let (start, len) = match present {
                     0 => (0, 0),

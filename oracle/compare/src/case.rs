@@ -6,10 +6,14 @@ use oracle::answers::{Columns, FUNCTION32, FUNCTION64, LINE32, LINE64};
 use oracle::claims::ranges_in_domain;
 use oracle::original::State;
 use oracle::{Begin, Call, Kept, Row, Session, Sym, arch, begin_script, call_script, language};
+use symcache::ffi::{self, CACHE_WORDS, FUNCTIONS32_WORDS, FUNCTIONS64_WORDS, LINES32_WORDS, LINES64_WORDS, RECORD_WORDS};
 
-use crate::ffi;
 use crate::memory::{Lent, Memory, TABLES};
 use crate::reader::Difference;
+
+// The columns of stored cases are laid out as the header says.
+const _: () = assert!(FUNCTION64 == FUNCTIONS64_WORDS && FUNCTION32 == FUNCTIONS32_WORDS);
+const _: () = assert!(LINE64 == LINES64_WORDS && LINE32 == LINES32_WORDS);
 
 /// Memory lent beyond what is needed, or less than it.
 #[derive(Clone, Copy, Debug, PartialEq, Eq)]
@@ -114,6 +118,12 @@ pub fn begin_op(begin: &Begin) -> Op {
     }
 }
 
+/// The columns, lent.
+pub fn lent_columns(c: &Columns) -> symcache::Columns<'_> {
+    let Columns { functions64, functions32, lines64, lines32, text } = c;
+    symcache::Columns { functions64, functions32, lines64, lines32, text }
+}
+
 impl Op {
     /// Calls the library.
     fn give(&self, lent: Lent<'_>) -> u32 {
@@ -121,13 +131,11 @@ impl Op {
             Op::Begin { debug_id, arch, functions, symbols } => {
                 ffi::begin(lent.record, debug_id, *arch, *functions, *symbols, lent.tables)
             }
-            Op::Tree(c) => ffi::tree(
-                lent.record, lent.tables, lent.scratch, &c.functions64, &c.functions32, &c.lines64, &c.lines32, &c.text,
-            ),
+            Op::Tree(c) => ffi::process_symbolic_function(lent.record, lent.tables, lent.scratch, &lent_columns(c)),
             Op::Symbol { text, address, size, named, start, len } => {
-                ffi::symbol(lent.record, lent.tables, text, *address, *size, *named, *start, *len)
+                ffi::process_symbolic_symbol(lent.record, lent.tables, text, *address, *size, *named, *start, *len)
             }
-            Op::Write => ffi::serialize(lent.record, lent.tables, lent.out, lent.len),
+            Op::Write => ffi::serialize(lent.record, lent.tables.read(), lent.out, lent.len),
         }
     }
 
@@ -268,7 +276,7 @@ impl Case {
         }
         let capacity: [usize; 6] = std::array::from_fn(|i| self.capacity[i].of(most[i]));
         memory.set_tables(capacity, self.spare);
-        memory.record.set(20 + self.record, 0xA1A1_A1A1, 0xB2B2_B2B2);
+        memory.record.set(RECORD_WORDS + self.record, 0xA1A1_A1A1, 0xB2B2_B2B2);
         // No converter is open before the first beginning.
         memory.record.get_mut()[19] = 0;
         let mut begun = Begin::default();
@@ -298,7 +306,7 @@ impl Case {
                     state = e.state;
                     record_words(&begun, &state, true)
                 }
-                _ => [0; 20],
+                _ => [0; RECORD_WORDS],
             };
             self.call(memory, item, &capacity, &uses(&state), number, &wanted, &e.file)
                 .map_err(|what| format!("call {}, {}: {what}", i + 1, item.kind()))?;
@@ -321,7 +329,7 @@ impl Case {
         capacity: &[usize; 6],
         used: &[usize; 6],
         number: u32,
-        wanted: &[u32; 20],
+        wanted: &[u32; RECORD_WORDS],
         file: &[u8],
     ) -> Result<(), Difference> {
         let lend = &item.lend;
@@ -345,7 +353,7 @@ impl Case {
             }
         }
         memory.remember();
-        let record = lend.record.unwrap_or(20 + self.record);
+        let record = lend.record.unwrap_or(RECORD_WORDS + self.record);
         let less = lend.less.filter(|t| used[*t] > 0 && number == 19).map(|t| {
             // One row less than is in use; words that make no row don't help.
             (t, if t == 0 { used[0] - 1 } else { 8 * used[t] - 1 })
@@ -379,10 +387,10 @@ impl Case {
                 }
             }
             (_, 0 | 17) => {
-                if memory.record.get()[..20] != *wanted {
-                    return Err(format!("the record: {wanted:?} expected, ours {:?}", &memory.record.get()[..20]));
+                if memory.record.get()[..RECORD_WORDS] != *wanted {
+                    return Err(format!("the record: {wanted:?} expected, ours {:?}", &memory.record.get()[..RECORD_WORDS]));
                 }
-                if memory.record.get()[20..].iter().any(|w| *w != 0xA1A1_A1A1) {
+                if memory.record.get()[RECORD_WORDS..].iter().any(|w| *w != 0xA1A1_A1A1) {
                     return Err("words of the record after the 20th changed".into());
                 }
                 if (number == 17 || matches!(item.op, Op::Begin { .. })) && !memory.are_tables_zero() {
@@ -402,7 +410,7 @@ impl Case {
         // A long list has thousands of ranges.
         let times = if self.items.len() > 200 { 16 } else { 1 };
         memory.set_tables([1 << 16, 2048, 2048, 2048, 4096, 4096].map(|n| times * n), [0; 5]);
-        memory.record.set(20, 0, 0xB2B2_B2B2);
+        memory.record.set(RECORD_WORDS, 0, 0xB2B2_B2B2);
         for (i, item) in self.items.iter().enumerate() {
             let mut number = 0;
             if let Op::Tree(c) = &item.op {
@@ -411,7 +419,7 @@ impl Case {
             }
             memory.out.set(times << 18, 0xE9, 0x5B);
             memory.len.set(1, 0, 77);
-            let answer = item.op.give(memory.lend(20, None));
+            let answer = item.op.give(memory.lend(RECORD_WORDS, None));
             if answer != number {
                 return Err(format!("call {}, {}: number {number} expected, ours {answer}", i + 1, item.kind()));
             }
@@ -420,7 +428,7 @@ impl Case {
             }
             if item.op == Op::Write {
                 let file = &memory.out.get()[..memory.len.get()[0] as usize];
-                let mut cache = [0; 10];
+                let mut cache = [0; CACHE_WORDS];
                 let answer = ffi::open(file, &mut cache);
                 if answer != 0 {
                     return Err(format!("the file written is refused with {answer}"));
@@ -432,8 +440,8 @@ impl Case {
     }
 }
 
-fn record_words(begun: &Begin, state: &State, open: bool) -> [u32; 20] {
-    let mut out = [0; 20];
+fn record_words(begun: &Begin, state: &State, open: bool) -> [u32; RECORD_WORDS] {
+    let mut out = [0; RECORD_WORDS];
     for (word, four) in out.iter_mut().zip(begun.debug_id.chunks(4)) {
         *word = u32::from_le_bytes(four.try_into().unwrap());
     }

@@ -5,6 +5,7 @@ use oracle::files::{DAMAGES, damage, random_file};
 use oracle::lists::{Kind, fill, list, refused};
 use oracle::random::{Random, Symbols, good_list_of, mutate, wild_tree};
 use oracle::*;
+use symcache::ffi::RECORD_WORDS;
 
 use crate::case::*;
 
@@ -173,7 +174,7 @@ pub fn case(r: &mut Random) -> Case {
         if troubled {
             match r.below(24) {
                 0 => lend.closed = true,
-                1 => lend.record = Some(r.below(20) as usize),
+                1 => lend.record = Some(r.below(RECORD_WORDS as u64) as usize),
                 2 | 3 => lend.less = Some(r.below(6) as usize),
                 4..=6 => lend.room = less(r),
                 _ => {}

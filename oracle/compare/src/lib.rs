@@ -1,7 +1,6 @@
 //! The proved library beside the original, in one process.
 
 pub mod case;
-pub mod ffi;
 pub mod generate;
 pub mod memory;
 pub mod ours;

@@ -1,6 +1,6 @@
 //! The memory that is lent to the library: one allocation for each slice, kept from list to list.
 
-use crate::ffi::Tables;
+use symcache::ffi::{TABLE_ROW_WORDS, TablesMut};
 
 /// Cells after a lent slice, which nobody may touch.
 const GUARD: usize = 16;
@@ -79,7 +79,7 @@ impl Memory {
     pub fn set_tables(&mut self, capacity: [usize; 6], spare: [usize; 5]) {
         self.string_bytes.set(capacity[0], 0xA7, 0x5B);
         for (i, rows) in self.rows.iter_mut().enumerate() {
-            rows.set(8 * capacity[i + 1] + spare[i], 0xA7A7_0000 + i as u32, 0x5B5B_0000 + i as u32);
+            rows.set(TABLE_ROW_WORDS * capacity[i + 1] + spare[i], 0xA7A7_0000 + i as u32, 0x5B5B_0000 + i as u32);
         }
     }
 
@@ -92,15 +92,16 @@ impl Memory {
         let string_bytes = self.string_bytes.get_mut();
         let n = cut(0, string_bytes.len());
         let mut i = 0;
-        let rows = self.rows.each_mut().map(|store| {
+        let [strings, files, functions, call_locations, ranges] = self.rows.each_mut().map(|store| {
             i += 1;
             let slice = store.get_mut();
             let n = cut(i, slice.len());
             &mut slice[..n]
         });
+        let string_bytes = &mut string_bytes[..n];
         Lent {
             record: &mut self.record.get_mut()[..record],
-            tables: Tables { string_bytes: &mut string_bytes[..n], rows },
+            tables: TablesMut { string_bytes, strings, files, functions, call_locations, ranges },
             scratch: self.scratch.get_mut(),
             out: self.out.get_mut(),
             len: self.len.get_mut(),
@@ -161,7 +162,7 @@ impl Memory {
 /// What is lent to a call.
 pub struct Lent<'a> {
     pub record: &'a mut [u32],
-    pub tables: Tables<'a>,
+    pub tables: TablesMut<'a>,
     pub scratch: &'a mut [u32],
     pub out: &'a mut [u8],
     pub len: &'a mut [u64],

@@ -1,10 +1,10 @@
 //! The library as a converter that is simple to call.
 
-use oracle::answers::{Columns, FUNCTION32, LINE32};
+use oracle::answers::Columns;
 use oracle::{Begin, Call, Row, Sym};
+use symcache::ffi::{self, RECORD_WORDS};
 
-use crate::case::{Op, symbol_op};
-use crate::ffi;
+use crate::case::{Op, lent_columns, symbol_op};
 use crate::memory::Memory;
 
 /// Capacities that a list can't exceed: each line makes at most one file, a call location and two ranges for itself or
@@ -50,25 +50,23 @@ impl Ours {
     /// Lends tables of these capacities.
     pub fn lend(&mut self, capacity: [usize; 6]) {
         self.memory.set_tables(capacity, [0; 5]);
-        self.memory.record.set(20, 0, 0xB2B2_B2B2);
+        self.memory.record.set(RECORD_WORDS, 0, 0xB2B2_B2B2);
         self.memory.scratch.set(0, 0, 0);
         self.memory.out.set(0, 0, 0);
         self.memory.len.set(1, 0, 77);
     }
 
     pub fn begin(&mut self, b: &Begin) -> u32 {
-        let lent = self.memory.lend(20, None);
+        let lent = self.memory.lend(RECORD_WORDS, None);
         ffi::begin(lent.record, &b.debug_id, b.arch, u32::from(b.functions), u32::from(b.symbols), lent.tables)
     }
 
     /// A tree, with so many words of scratch more or less than document 01 asks for.
     pub fn columns(&mut self, c: &Columns, more: isize) -> u32 {
-        let words = 4 * (c.functions32.len() / FUNCTION32 + c.lines32.len() / LINE32);
+        let words = lent_columns(c).scratch_words();
         self.memory.scratch.set(words.saturating_add_signed(more), 0x7C7C_7C7C, 0x5B5B_5B5B);
-        let lent = self.memory.lend(20, None);
-        ffi::tree(
-            lent.record, lent.tables, lent.scratch, &c.functions64, &c.functions32, &c.lines64, &c.lines32, &c.text,
-        )
+        let lent = self.memory.lend(RECORD_WORDS, None);
+        ffi::process_symbolic_function(lent.record, lent.tables, lent.scratch, &lent_columns(c))
     }
 
     pub fn tree(&mut self, rows: &[Row]) -> u32 {
@@ -77,16 +75,16 @@ impl Ours {
 
     pub fn symbol(&mut self, s: &Sym) -> u32 {
         let Op::Symbol { text, address, size, named, start, len } = symbol_op(s) else { unreachable!() };
-        let lent = self.memory.lend(20, None);
-        ffi::symbol(lent.record, lent.tables, &text, address, size, named, start, len)
+        let lent = self.memory.lend(RECORD_WORDS, None);
+        ffi::process_symbolic_symbol(lent.record, lent.tables, &text, address, size, named, start, len)
     }
 
     /// Writes into an output of so many bytes.
     pub fn write_into(&mut self, room: usize) -> Result<Vec<u8>, u32> {
         self.memory.out.set(room, 0xE9, 0x5B);
         self.memory.len.set(1, 0, 77);
-        let lent = self.memory.lend(20, None);
-        match ffi::serialize(lent.record, lent.tables, lent.out, lent.len) {
+        let lent = self.memory.lend(RECORD_WORDS, None);
+        match ffi::serialize(lent.record, lent.tables.read(), lent.out, lent.len) {
             0 => {
                 let file = self.memory.out.get().get(..self.memory.len.get()[0] as usize);
                 Ok(file.expect("a length inside the output").to_vec())

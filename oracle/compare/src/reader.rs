@@ -4,8 +4,7 @@ use oracle::answers::file_number;
 use oracle::original::{Frame, Texts};
 use oracle::{MAX, SymCache, language, original};
 use symbolic_symcache::ErrorKind;
-
-use crate::ffi;
+use symcache::ffi::{self, CACHE_WORDS};
 
 /// What stands in lent cells before a call.
 const OLD: u32 = 0xA5A5_5A5A;
@@ -24,7 +23,7 @@ pub struct Compared {
 /// A file that the library has opened.
 pub struct Reader<'a> {
     bytes: &'a [u8],
-    cache: [u64; 10],
+    cache: [u64; CACHE_WORDS],
     /// Texts read before, by offset.
     texts: Vec<(u32, Option<&'a str>)>,
 }
@@ -53,7 +52,7 @@ fn part_text<'a>(what: &str, bytes: &'a [u8], part: &[u64; 4]) -> Result<Option<
 impl<'a> Reader<'a> {
     /// Opens a file; or document 01's number.
     pub fn open(bytes: &'a [u8]) -> Result<Reader<'a>, u32> {
-        let mut cache = [0; 10];
+        let mut cache = [0; CACHE_WORDS];
         match ffi::open(bytes, &mut cache) {
             0 => Ok(Reader { bytes, cache, texts: Vec::new() }),
             number => Err(number),

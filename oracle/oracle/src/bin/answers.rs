@@ -243,7 +243,7 @@ fn store(name: &str, seed: u64, folder: &str, made: &Made) -> std::io::Result<()
     let mut note = String::new();
     writeln!(note, "{name}.cases and {name}.stdout were made, in oracle/, by").unwrap();
     writeln!(note, "    answers {name} {seed} answers").unwrap();
-    writeln!(note, "and answered by the original of docs/src (FORMAT.md says how). `answers check answers` answers them again.").unwrap();
+    writeln!(note, "and answered by the original (FORMAT.md says how). `answers check answers` answers them again.").unwrap();
     writeln!(note, "{} cases, {} bytes; the longest record has {longest} bytes.", made.count, made.cases.len()).unwrap();
     for (what, n) in &made.most {
         writeln!(note, "    at most {n} {what}").unwrap();

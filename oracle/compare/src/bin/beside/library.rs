@@ -1,8 +1,8 @@
 //! The proved library with memory of the driver's.
 
-use compare::ffi;
-use compare::ffi::Tables;
 use oracle::Row;
+use symcache::Columns;
+use symcache::ffi::{self, CACHE_WORDS, CURSOR_WORDS, FRAME_WORDS, PART_WORDS, RECORD_WORDS, TABLE_ROW_WORDS, TablesMut};
 
 /// How many rows of each table, and bytes of text, are lent.
 #[derive(Clone, Copy)]
@@ -57,7 +57,7 @@ impl Packed {
 
 /// A converter and its memory.
 pub struct Library {
-    record: [u32; 20],
+    record: [u32; RECORD_WORDS],
     string_bytes: Vec<u8>,
     strings: Vec<u32>,
     files: Vec<u32>,
@@ -69,9 +69,9 @@ pub struct Library {
 
 impl Library {
     pub fn new(c: Capacities) -> Library {
-        let rows = |n: usize| vec![1u32; 8 * n];
+        let rows = |n: usize| vec![1u32; TABLE_ROW_WORDS * n];
         Library {
-            record: [0; 20],
+            record: [0; RECORD_WORDS],
             string_bytes: vec![1; c.text],
             strings: rows(c.strings),
             files: rows(c.files),
@@ -82,10 +82,9 @@ impl Library {
         }
     }
 
-    fn lend(&mut self) -> (&mut [u32], Tables<'_>, &mut [u32]) {
-        let rows = [&mut self.strings, &mut self.files, &mut self.functions, &mut self.call_locations, &mut self.ranges];
-        let tables = Tables { string_bytes: &mut self.string_bytes, rows: rows.map(|t| t.as_mut_slice()) };
-        (&mut self.record, tables, &mut self.scratch)
+    fn lend(&mut self) -> (&mut [u32], TablesMut<'_>, &mut [u32]) {
+        let Library { record, string_bytes, strings, files, functions, call_locations, ranges, scratch } = self;
+        (record, TablesMut { string_bytes, strings, files, functions, call_locations, ranges }, scratch)
     }
 
     pub fn begin(&mut self) {
@@ -95,18 +94,20 @@ impl Library {
     }
 
     pub fn tree(&mut self, p: &Packed) -> u32 {
-        let words = 4 * (p.functions32.len() / 8 + p.lines32.len() / 14);
+        let Packed { functions64, functions32, lines64, lines32, text } = p;
+        let columns = Columns { functions64, functions32, lines64, lines32, text };
+        let words = columns.scratch_words();
         if self.scratch.len() < words {
             self.scratch.resize(words, 0);
         }
         let (record, tables, scratch) = self.lend();
-        ffi::tree(record, tables, &mut scratch[..words], &p.functions64, &p.functions32, &p.lines64, &p.lines32, &p.text)
+        ffi::process_symbolic_function(record, tables, &mut scratch[..words], &columns)
     }
 
     pub fn serialize(&mut self, out: &mut [u8]) -> Result<usize, u32> {
         let mut len = [0u64];
         let (record, tables, _) = self.lend();
-        let number = ffi::serialize(record, tables, out, &mut len);
+        let number = ffi::serialize(record, tables.read(), out, &mut len);
         if number == 0 { Ok(len[0] as usize) } else { Err(number) }
     }
 }
@@ -114,12 +115,12 @@ impl Library {
 /// An opened file.
 pub struct Cache<'a> {
     bytes: &'a [u8],
-    cache: [u64; 10],
+    cache: [u64; CACHE_WORDS],
 }
 
 impl<'a> Cache<'a> {
     pub fn open(bytes: &'a [u8]) -> Result<Cache<'a>, u32> {
-        let mut cache = [0; 10];
+        let mut cache = [0; CACHE_WORDS];
         let number = ffi::open(bytes, &mut cache);
         if number == 0 { Ok(Cache { bytes, cache }) } else { Err(number) }
     }
@@ -130,7 +131,7 @@ impl<'a> Cache<'a> {
 
     /// The index of the first location, or MAX.
     pub fn first(&self, addr: u64) -> u32 {
-        let mut cursor = [0u32; 3];
+        let mut cursor = [0u32; CURSOR_WORDS];
         ffi::walk(self.bytes, &self.cache, addr, &mut cursor)
     }
 
@@ -140,9 +141,9 @@ impl<'a> Cache<'a> {
     }
 
     /// Calls `each` with the words of every frame; the number of frames.
-    pub fn walk(&self, addr: u64, mut each: impl FnMut(&[u32; 13])) -> usize {
-        let mut cursor = [0u32; 3];
-        let mut frame = [0u32; 13];
+    pub fn walk(&self, addr: u64, mut each: impl FnMut(&[u32; FRAME_WORDS])) -> usize {
+        let mut cursor = [0u32; CURSOR_WORDS];
+        let mut frame = [0u32; FRAME_WORDS];
         let mut frames = 0;
         ffi::walk(self.bytes, &self.cache, addr, &mut cursor);
         loop {
@@ -157,13 +158,13 @@ impl<'a> Cache<'a> {
     }
 
     /// The bytes of a frame's name ("?" where there is none) and of its file's six texts.
-    pub fn texts(&self, frame: &[u32; 13]) -> usize {
-        let mut part = [0u64; 3];
+    pub fn texts(&self, frame: &[u32; FRAME_WORDS]) -> usize {
+        let mut part = [0u64; PART_WORDS];
         let mut bytes = 0;
         ffi::function_name(self.bytes, frame[2], &mut part);
         bytes += if part[0] == 0 { 1 } else { part[2] as usize };
         if frame[0] == 2 {
-            for offset in &frame[7..13] {
+            for offset in &frame[ffi::c::SYMCACHE_FRAME_COMP_DIR..] {
                 // MAX is always absent.
                 if *offset != u32::MAX {
                     ffi::read_string(self.bytes, *offset, &mut part);
