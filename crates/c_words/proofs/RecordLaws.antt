@@ -1,4 +1,4 @@
--- The record's words, read and stored.
+-- The record's wordBytes, read and stored.
 use Prim.Native.Nat.{ℕ, _+_, _*_}
 use mathlib.Core.Bool.{Bool, cond}
 use mathlib.Core.Path.{_≡_, refl, sym, ap, _∙_}
@@ -7,13 +7,13 @@ use lib.Dec.{eqb}
 use lib.ListN.{getD, set, replicate}
 use lib.Seq.{sets}
 use borrow.Author.Tests.{eq-eqb, ne-eqb}
-use Rattle.slices.specs.Bytes.{le, leAt, bytesAt, words}
+use Rattle.slices.specs.Bytes.{le, leAt, bytesAt, wordBytes}
 use Rattle.memory.specs.declared.LastAddr.{LastAddr}
 use Rattle.memory.specs.declared.LastAddr.the-variants.{Unset, Set}
 use Rattle.memory.specs.declared.State.{State}
 use Rattle.memory.specs.declared.Converter.{Converter}
 use Rattle.c_words.specs.Stored.{stored}
-use Rattle.slices.specs.Words.{yes, flagOf}
+use Rattle.slices.specs.Slices.{yes, flagOf}
 use Rattle.c_words.specs.Record.{lastOf, idOf, stateOf, converterOf, lastWords, idWords, countWords, switchWords, wordsOf, kept, lenWords}
 
 -- ── Read ───────────────────────────────────────────────────────────────────────────────────────────────────────────────
@@ -30,7 +30,7 @@ word-bytes t k r v e h = h ∙ ap (λ (n : ℕ). sets t (4 * k) (le 4 n)) e
 pub id-read : (r : List ℕ) {t₁ t₂ t₃ t₄ t₅ t₆ t₇ t₈ : List ℕ} → t₁ ≡ sets (replicate 32 0) 0 (le 4 (getD r 0 0)) → t₂ ≡ sets t₁ 4 (le 4 (getD r 1 0))
     → t₃ ≡ sets t₂ 8 (le 4 (getD r 2 0)) → t₄ ≡ sets t₃ 12 (le 4 (getD r 3 0)) → t₅ ≡ sets t₄ 16 (le 4 (getD r 4 0)) → t₆ ≡ sets t₅ 20 (le 4 (getD r 5 0))
     → t₇ ≡ sets t₆ 24 (le 4 (getD r 6 0)) → t₈ ≡ sets t₇ 28 (le 4 (getD r 7 0)) → t₈ ≡ idOf r
-unfolding idOf words bytesAt le
+unfolding idOf wordBytes bytesAt le
 id-read r e₁ e₂ e₃ e₄ e₅ e₆ e₇ e₈ = rw (e₈, e₇, e₆, e₅, e₄, e₃, e₂, e₁)
 
 pub state-read : (r : List ℕ) {a b c d e f : ℕ} {l : LastAddr} {p q : ℕ} → a ≡ getD r 11 0 → b ≡ getD r 12 0 → c ≡ getD r 13 0 → d ≡ getD r 14 0 → e ≡ getD r 15 0 → f ≡ getD r 16 0

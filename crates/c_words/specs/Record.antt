@@ -1,4 +1,4 @@
--- The converter's record in twenty words: 0 to 7 the debug id, four bytes a word, little-endian; 8 arch; 9 and 10 the two switches; 11 to 16 what is in use of the six tables; 17 whether the last
+-- The converter's record in twenty wordBytes: 0 to 7 the debug id, four bytes a word, little-endian; 8 arch; 9 and 10 the two switches; 11 to 16 what is in use of the six tables; 17 whether the last
 -- end is set; 18 the last end, 0 where unset; 19 open.
 use Prim.Native.Nat.{ℕ, _<_}
 use mathlib.Core.Bool.{cond, _||_}
@@ -6,13 +6,13 @@ use mathlib.Core.Path.{_≡_}
 use mathlib.Core.List.{List, [], _∷_, _++_}
 use lib.Dec.{eqb}
 use lib.ListN.{length, getD}
-use Rattle.slices.specs.Bytes.{leAt, bytesAt, words}
+use Rattle.slices.specs.Bytes.{leAt, bytesAt, wordBytes}
 use Rattle.memory.specs.declared.LastAddr.{LastAddr}
 use Rattle.memory.specs.declared.LastAddr.the-variants.{Unset, Set}
 use Rattle.memory.specs.declared.State.{State}
 use Rattle.memory.specs.declared.Converter.{Converter}
 use Rattle.c_words.specs.Stored.{stored}
-use Rattle.slices.specs.Words.{yes, flagOf}
+use Rattle.slices.specs.Slices.{yes, flagOf}
 
 -- ── Read ───────────────────────────────────────────────────────────────────────────────────────────────────────────────
 
@@ -20,7 +20,7 @@ abbrev pub lastOf : ℕ → ℕ → LastAddr
 lastOf present a = cond (eqb present 0) Unset (Set a)
 
 unfoldable pub idOf : List ℕ → List ℕ
-idOf r = words (bytesAt 8 r 0)
+idOf r = wordBytes (bytesAt 8 r 0)
 
 unfoldable pub stateOf : List ℕ → State
 stateOf r = record {
@@ -33,7 +33,7 @@ stateOf r = record {
   «last_addr» = lastOf (getD r 17 0) (getD r 18 0);
 }
 
--- "A record of fewer than 20 words is a closed converter": its last word is read as 0
+-- "A record of fewer than 20 wordBytes is a closed converter": its last word is read as 0
 unfoldable pub converterOf : List ℕ → Converter
 converterOf r = record {
   «debug_id» = idOf r;

@@ -31,7 +31,7 @@ use Rattle.steps.specs.Steps.{over-words}
 use Rattle.memory.specs.declared.Converter.{Converter}
 use Rattle.steps.proofs.Lengths.{Lens}
 use Rattle.writer.specs.Calls.{Called, called, setup, finished, rows-converted, treeOf, symbolOf}
-use Rattle.slices.specs.Words.{zeros}
+use Rattle.slices.specs.Slices.{zeros}
 use Rattle.memory.specs.Record.{with-state, words-of, usable?, beginOf}
 use Rattle.memory.specs.Record.{unused}
 use Rattle.steps.specs.Symbols.{symbolRow}

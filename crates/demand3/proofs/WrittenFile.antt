@@ -1,5 +1,5 @@
--- WHAT IS WRITTEN IS THE PLAIN FILE: where words hold the plain tables of a list, the bytes that `serialize` writes are the sections of these tables, with the ranges ascending by start.
--- Section by section: a row of words is the file's row. The ranges: sorting entries (start, row number) is putting what they stand for in order of start, since no start stands twice;
+-- WHAT IS WRITTEN IS THE PLAIN FILE: where wordBytes hold the plain tables of a list, the bytes that `serialize` writes are the sections of these tables, with the ranges ascending by start.
+-- Section by section: a row of wordBytes is the file's row. The ranges: sorting entries (start, row number) is putting what they stand for in order of start, since no start stands twice;
 -- and there is no sentinel, since a set last end is a start.
 use mathlib.Core.Path.{_≡_, refl, sym, ap, ap₂, _∙_, subst}
 use mathlib.Core.Bool.{Bool, true, false, cond, _&&_}
@@ -22,7 +22,7 @@ use Rattle.model.proofs.Always.{starts-unique, last-end-starts}
 use Rattle.model.proofs.Written.{by-start-same, by-start-length}
 use Rattle.model.proofs.FileRows.{section-length}
 use Rattle.model.proofs.Sections.{Sections, sections}
-use Rattle.slices.specs.Bytes.{le, words, tableBytes}
+use Rattle.slices.specs.Bytes.{le, wordBytes, tableBytes}
 use Rattle.raw.specs.Rows.{versionInfoBytes, headerBytes, fileBytes, functionBytes, locationBytes, rangeBytes}
 use Rattle.raw.specs.Head.{version-info, header, padding}
 use Rattle.raw.specs.declared.SourceLocation.{SourceLocation}
@@ -65,26 +65,26 @@ unfolding tableBytes
 table-same p q h [] = refl
 table-same p q h (x ∷ xs) = ap₂ (λ (a b : List ℕ). a ++ b) (h x) (table-same p q h xs)
 
--- a table that holds rows f x, where the file's bytes of such a row are the words g x
-section-is : {A : Type 0} (bytes : Row → List ℕ) (f : A → Row) (g : A → List ℕ) → ((x : A) → bytes (f x) ≡ words (g x)) → (w : ℕ) (t : List ℕ) (n : ℕ) (xs : List A) → Holds w t n (map f xs)
-    → tableBytes bytes (rowsOf t n) ≡ tableBytes words (map g xs)
+-- a table that holds rows f x, where the file's bytes of such a row are the wordBytes g x
+section-is : {A : Type 0} (bytes : Row → List ℕ) (f : A → Row) (g : A → List ℕ) → ((x : A) → bytes (f x) ≡ wordBytes (g x)) → (w : ℕ) (t : List ℕ) (n : ℕ) (xs : List A) → Holds w t n (map f xs)
+    → tableBytes bytes (rowsOf t n) ≡ tableBytes wordBytes (map g xs)
 section-is {A} bytes f g e w t n xs h =
-    ap (tableBytes bytes) (h .same) ∙ table-of bytes f xs ∙ table-same (λ (x : A). bytes (f x)) (λ (x : A). words (g x)) e xs ∙ sym (table-of words g xs)
+    ap (tableBytes bytes) (h .same) ∙ table-of bytes f xs ∙ table-same (λ (x : A). bytes (f x)) (λ (x : A). wordBytes (g x)) e xs ∙ sym (table-of wordBytes g xs)
 
-file-is : (ts : List Text) (x : File) → file-row (rows.file-row ts x) ≡ words (file-words ts x)
+file-is : (ts : List Text) (x : File) → file-row (rows.file-row ts x) ≡ wordBytes (file-words ts x)
 unfolding file-row fileBytes
 file-is ts x = refl
 
-function-is : (ts : List Text) (f : Function) → function-row (rows.function-row ts f) ≡ words (function-words ts f)
+function-is : (ts : List Text) (f : Function) → function-row (rows.function-row ts f) ≡ wordBytes (function-words ts f)
 unfolding function-row functionBytes
 function-is ts f = refl
 
-call-is : (l : Location) → call-row (rows.call-row l) ≡ words (location-words l)
+call-is : (l : Location) → call-row (rows.call-row l) ≡ wordBytes (location-words l)
 unfolding call-row locationBytes
 call-is nowhere = refl
 call-is (at f n i c) = refl
 
-source-is : (l : Location) → locationBytes (source l) ≡ words (location-words l)
+source-is : (l : Location) → locationBytes (source l) ≡ wordBytes (location-words l)
 unfolding locationBytes
 source-is nowhere = refl
 source-is (at f n i c) = refl
@@ -149,12 +149,12 @@ abbrev pub stands-for : List (Entry Location) → Span → Entry Location
 stands-for rs = meant (location-at rs)
 
 -- the starts as bytes
-starts-are : (rs : List (Entry Location)) → tableBytes (λ (e : Entry Location). words (e .key ∷ [])) rs ≡ words (map (λ (e : Entry Location). e .key) rs)
-unfolding tableBytes words
+starts-are : (rs : List (Entry Location)) → tableBytes (λ (e : Entry Location). wordBytes (e .key ∷ [])) rs ≡ wordBytes (map (λ (e : Entry Location). e .key) rs)
+unfolding tableBytes wordBytes
 starts-are [] = refl
 starts-are (e ∷ rs) = ap₂ (λ (a b : List ℕ). a ++ b) (append-nil (le 4 (e .key))) (starts-are rs)
 
-start-is : (p : Span) → start-row p ≡ words (p .from ∷ [])
+start-is : (p : Span) → start-row p ≡ wordBytes (p .from ∷ [])
 unfolding start-row rangeBytes
 start-is p = refl
 
@@ -171,22 +171,22 @@ module _ (t : List ℕ) (n : ℕ) (rs : List (Entry Location)) (h : Holds 1 t n 
       go true e = rw e (ap locationOf (row-is (p .to) (ltb-true _ _ e)) ∙ range-row-location (getD rs (p .to) no-entry))
       go false e = rw e (ap source (sym (past-end rs (p .to) (let c : length rs ≡ n = holds-count range-row 1 t n rs h in let k : n ≤ p .to = ltb-false _ _ e in omega arith))))
 
-  location-row-is : (p : Span) → location-row t n p ≡ words (location-words (location-at rs (p .to)))
+  location-row-is : (p : Span) → location-row t n p ≡ wordBytes (location-words (location-at rs (p .to)))
   unfolding location-row
   location-row-is p = ap locationBytes (entry-location-is p) ∙ source-is (location-at rs (p .to))
 
   -- the locations and the starts of entries, by what these stand for
-  locations-bytes : (ps : List Span) → tableBytes (location-row t n) ps ≡ tableBytes words (map location-words (map (λ (e : Entry Location). e .value) (map (stands-for rs) ps)))
+  locations-bytes : (ps : List Span) → tableBytes (location-row t n) ps ≡ tableBytes wordBytes (map location-words (map (λ (e : Entry Location). e .value) (map (stands-for rs) ps)))
   locations-bytes ps =
-      table-same (location-row t n) (λ (p : Span). words (location-words (location-at rs (p .to)))) location-row-is ps
-      ∙ sym (table-of (λ (e : Entry Location). words (location-words (e .value))) (stands-for rs) ps)
-      ∙ sym (table-of (λ (l : Location). words (location-words l)) (λ (e : Entry Location). e .value) (map (stands-for rs) ps))
-      ∙ sym (table-of words location-words (map (λ (e : Entry Location). e .value) (map (stands-for rs) ps)))
+      table-same (location-row t n) (λ (p : Span). wordBytes (location-words (location-at rs (p .to)))) location-row-is ps
+      ∙ sym (table-of (λ (e : Entry Location). wordBytes (location-words (e .value))) (stands-for rs) ps)
+      ∙ sym (table-of (λ (l : Location). wordBytes (location-words l)) (λ (e : Entry Location). e .value) (map (stands-for rs) ps))
+      ∙ sym (table-of wordBytes location-words (map (λ (e : Entry Location). e .value) (map (stands-for rs) ps)))
 
-  starts-bytes : (ps : List Span) → tableBytes start-row ps ≡ words (map (λ (e : Entry Location). e .key) (map (stands-for rs) ps))
+  starts-bytes : (ps : List Span) → tableBytes start-row ps ≡ wordBytes (map (λ (e : Entry Location). e .key) (map (stands-for rs) ps))
   starts-bytes ps =
-      table-same start-row (λ (p : Span). words (p .from ∷ [])) start-is ps
-      ∙ sym (table-of (λ (e : Entry Location). words (e .key ∷ [])) (stands-for rs) ps)
+      table-same start-row (λ (p : Span). wordBytes (p .from ∷ [])) start-is ps
+      ∙ sym (table-of (λ (e : Entry Location). wordBytes (e .key ∷ [])) (stands-for rs) ps)
       ∙ starts-are (map (stands-for rs) ps)
 
   -- with no sentinel, the entries in order stand for the ranges by start
@@ -216,13 +216,13 @@ header-path : (id : List ℕ) (a f f′ g g′ l l′ r r′ b b′ : ℕ) → f
 header-path id a f f′ g g′ l l′ r r′ b b′ ef eg el er eb = λ i. header id a (ef i) (eg i) (el i) (er i) (eb i)
 
 module _ (n : Lens) (s : Tables) (c : Converter) (m : Memory) (h : Enc n s (words-of c m)) where
-  pub files-written : tableBytes file-row (rowsOf (m .files) (c .state .files)) ≡ tableBytes words (map (file-words (s .texts)) (s .files))
+  pub files-written : tableBytes file-row (rowsOf (m .files) (c .state .files)) ≡ tableBytes wordBytes (map (file-words (s .texts)) (s .files))
   files-written = section-is file-row (rows.file-row (s .texts)) (file-words (s .texts)) (file-is (s .texts)) 6 (m .files) (c .state .files) (s .files) (h .files)
 
-  pub functions-written : tableBytes function-row (rowsOf (m .functions) (c .state .functions)) ≡ tableBytes words (map (function-words (s .texts)) (s .functions))
+  pub functions-written : tableBytes function-row (rowsOf (m .functions) (c .state .functions)) ≡ tableBytes wordBytes (map (function-words (s .texts)) (s .functions))
   functions-written = section-is function-row (rows.function-row (s .texts)) (function-words (s .texts)) (function-is (s .texts)) 6 (m .functions) (c .state .functions) (s .functions) (h .functions)
 
-  pub calls-written : tableBytes call-row (rowsOf (m .calls) (c .state .«call_locations»)) ≡ tableBytes words (map location-words (s .calls))
+  pub calls-written : tableBytes call-row (rowsOf (m .calls) (c .state .«call_locations»)) ≡ tableBytes wordBytes (map location-words (s .calls))
   calls-written = section-is call-row rows.call-row location-words call-is 6 (m .calls) (c .state .«call_locations») (s .calls) (h .calls)
 
   pub strings-written : take (c .state .«string_bytes») (m .text) ≡ string-section (s .texts)
@@ -239,15 +239,15 @@ module _ (n : Lens) (s : Tables) (c : Converter) (m : Memory) (h : Enc n s (word
     pub ranges-count : length (ranges-of c m) ≡ length (s .ranges)
     ranges-count = sym (length-map (ranges-of c m) (stands-for (s .ranges))) ∙ ap length ranges-are ∙ by-start-length (s .ranges) unique
 
-    pub locations-written : tableBytes (location-row (m .ranges) (c .state .ranges)) (ranges-of c m) ≡ tableBytes words (map location-words (map (λ (e : Entry Location). e .value) (by-start (s .ranges))))
+    pub locations-written : tableBytes (location-row (m .ranges) (c .state .ranges)) (ranges-of c m) ≡ tableBytes wordBytes (map location-words (map (λ (e : Entry Location). e .value) (by-start (s .ranges))))
     locations-written =
         locations-bytes (m .ranges) (c .state .ranges) (s .ranges) (h .ranges) (ranges-of c m)
-        ∙ ap (λ (l : List (Entry Location)). tableBytes words (map location-words (map (λ (e : Entry Location). e .value) l))) ranges-are
+        ∙ ap (λ (l : List (Entry Location)). tableBytes wordBytes (map location-words (map (λ (e : Entry Location). e .value) l))) ranges-are
 
-    pub starts-written : tableBytes start-row (ranges-of c m) ≡ words (starts (as-written s))
+    pub starts-written : tableBytes start-row (ranges-of c m) ≡ wordBytes (starts (as-written s))
     starts-written =
         starts-bytes (m .ranges) (c .state .ranges) (s .ranges) (h .ranges) (ranges-of c m)
-        ∙ ap (λ (l : List (Entry Location)). words (map (λ (e : Entry Location). e .key) l)) ranges-are
+        ∙ ap (λ (l : List (Entry Location)). wordBytes (map (λ (e : Entry Location). e .key) l)) ranges-are
 
     abbrev z : Sections
     z = sections (as-written s)
@@ -273,12 +273,12 @@ module _ (n : Lens) (s : Tables) (c : Converter) (m : Memory) (h : Enc n s (word
         starts-count
         (sym (section-length (s .texts) ∙ count-bytes n s (words-of c m) h))
 
-    all-locations : tableBytes call-row (rowsOf (m .calls) (c .state .«call_locations»)) ++ tableBytes (location-row (m .ranges) (c .state .ranges)) (ranges-of c m) ≡ tableBytes words (z .locations)
+    all-locations : tableBytes call-row (rowsOf (m .calls) (c .state .«call_locations»)) ++ tableBytes (location-row (m .ranges) (c .state .ranges)) (ranges-of c m) ≡ tableBytes wordBytes (z .locations)
     all-locations =
         let vs = map (λ (e : Entry Location). e .value) (by-start (s .ranges)) in
-        ap₂ (λ (a b : List ℕ). a ++ b) (calls-written ∙ table-of words location-words (s .calls)) (locations-written ∙ table-of words location-words vs)
-        ∙ sym (table-append (λ (l : Location). words (location-words l)) (s .calls) vs)
-        ∙ sym (table-of words location-words (s .calls ++ vs))
+        ap₂ (λ (a b : List ℕ). a ++ b) (calls-written ∙ table-of wordBytes location-words (s .calls)) (locations-written ∙ table-of wordBytes location-words vs)
+        ∙ sym (table-append (λ (l : Location). wordBytes (location-words l)) (s .calls) vs)
+        ∙ sym (table-of wordBytes location-words (s .calls ++ vs))
 
     pub file-written : written-file c m ≡ file-bytes (c .«debug_id») (c .arch) z
     unfolding written-file file-bytes

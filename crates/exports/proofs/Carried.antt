@@ -1,4 +1,4 @@
--- The record survives between two calls: the words that one call stores are to the next the very converter that the call of `writer` answered. So what is stated over a list of calls by value holds
+-- The record survives between two calls: the wordBytes that one call stores are to the next the very converter that the call of `writer` answered. So what is stated over a list of calls by value holds
 -- of the exported calls too.
 use Prim.Native.Nat.{ℕ, zero, suc, _+_, _*_, _/_, _%_, _<_, _≤_}
 use native.Mathlib.Omega.{arith}
@@ -10,7 +10,7 @@ use lib.Dec.{eqb, ltb}
 use lib.ListN.{length, getD, List·getD-eq-default}
 use lib.Seq.{ext-getD}
 use borrow.Author.Tests.{le-ltb, ltb-true, ltb-false}
-use Rattle.slices.specs.Bytes.{le, leAt, bytesAt, words}
+use Rattle.slices.specs.Bytes.{le, leAt, bytesAt, wordBytes}
 use Rattle.slices.proofs.Bytes.{length-words, length-bytesAt, getD-bytesAt}
 use Rattle.rows.specs.Columns.{Columns}
 use Rattle.rows.specs.Refusals.{refusalOf, optional?}
@@ -30,8 +30,8 @@ use Rattle.memory.specs.Record.{words-of, usable?, beginOf}
 use Rattle.steps.specs.Symbols.{symbolRow}
 use Rattle.line_rows.specs.Calls.{LinesCalled, unpackRoom?, linesOf}
 use Rattle.c_words.proofs.StoreLaws.{sets-at}
-use Rattle.slices.specs.Words.{stored}
-use Rattle.slices.specs.Words.{yes, flagOf}
+use Rattle.slices.specs.Slices.{stored}
+use Rattle.slices.specs.Slices.{yes, flagOf}
 use Rattle.c_words.specs.Record.{lastOf, idOf, stateOf, converterOf, lastWords, idWords, countWords, switchWords, wordsOf, Bytes, IdFits}
 use Rattle.c_words.specs.Writing.{leaves, beginCall, treeCall, linesCall, symbolCall}
 use Rattle.c_words.specs.Record.{kept}
@@ -47,10 +47,10 @@ unfolding le
 bytes-le zero v = tt
 bytes-le (suc w) v = (omega arith, bytes-le w (v / 256))
 
-bytes-words : (vs : List ℕ) → Bytes (words vs)
-unfolding words
+bytes-words : (vs : List ℕ) → Bytes (wordBytes vs)
+unfolding wordBytes
 bytes-words [] = tt
-bytes-words (v ∷ vs) = bytes-append (le 4 v) (words vs) (bytes-le 4 v) (bytes-words vs)
+bytes-words (v ∷ vs) = bytes-append (le 4 v) (wordBytes vs) (bytes-le 4 v) (bytes-words vs)
 
 pub byte-below : (s : List ℕ) (i : ℕ) → Bytes s → getD s i 0 < 256
 byte-below [] i p = omega arith
@@ -79,12 +79,12 @@ bytes-whole n s e =
 
 -- ── The record read back ───────────────────────────────────────────────────────────────────────────────────────────────
 
-id-joined : (id : List ℕ) → Bytes id → words (idWords id) ≡ bytesAt 32 id 0
-unfolding words bytesAt
+id-joined : (id : List ℕ) → Bytes id → wordBytes (idWords id) ≡ bytesAt 32 id 0
+unfolding wordBytes bytesAt
 id-joined id f =
     rw (le-leAt 4 id 0 f, le-leAt 4 id 4 f, le-leAt 4 id 8 f, le-leAt 4 id 12 f, le-leAt 4 id 16 f, le-leAt 4 id 20 f, le-leAt 4 id 24 f, le-leAt 4 id 28 f)
 
-id-back : (id : List ℕ) → IdFits id → words (idWords id) ≡ id
+id-back : (id : List ℕ) → IdFits id → wordBytes (idWords id) ≡ id
 id-back id f = id-joined id (f .bytes) ∙ bytes-whole 32 id (f .size)
 
 yes-back : (b : Bool) → yes (flagOf b) ≡ b
@@ -107,7 +107,7 @@ module _ (id : List ℕ) (arch : ℕ) (f g o : Bool) (x i p q c n : ℕ) where
   made-back h Unset = rw (id-back id h, yes-back f, yes-back g, yes-back o)
   made-back h (Set a) = rw (id-back id h, yes-back f, yes-back g, yes-back o)
 
--- the words of a converter are that converter
+-- the wordBytes of a converter are that converter
 pub words-back : (c : Converter) → IdFits (c .«debug_id») → converterOf (wordsOf c) ≡ c
 words-back c h =
     made-back (c .«debug_id») (c .arch) (c .«undecorate_functions») (c .«undecorate_symbols») (c .«open») (c .state .«string_bytes») (c .state .strings) (c .state .files) (c .state .functions)
@@ -115,7 +115,7 @@ words-back c h =
 
 -- ── In a slice ─────────────────────────────────────────────────────────────────────────────────────────────────────────
 
--- only the first twenty words count
+-- only the first twenty wordBytes count
 module _ (r r′ : List ℕ) (same : (i : ℕ) → i < 20 → getD r i 0 ≡ getD r′ i 0) where
   record-same : converterOf r ≡ converterOf r′
   unfolding converterOf idOf stateOf bytesAt
@@ -151,7 +151,7 @@ words-length : (c : Converter) → length (wordsOf c) ≡ 20
 unfolding wordsOf
 words-length c = rw (last-length (c .state .«last_addr») (flagOf (c .«open»)))
 
--- a record of twenty words or more, after a converter was stored in it, is that converter
+-- a record of twenty wordBytes or more, after a converter was stored in it, is that converter
 pub stored-back : (r : List ℕ) (c : Converter) → 20 ≤ length r → IdFits (c .«debug_id») → converterOf (stored (wordsOf c) r) ≡ c
 stored-back r c h f =
     record-same (stored (wordsOf c) r) (wordsOf c)

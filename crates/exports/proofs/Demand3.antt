@@ -19,7 +19,7 @@ use Rattle.demand3.specs.Lists.{Call, tree, lines-tree, symbol, write, outcome,
 use Rattle.demand3.specs.Demand3.{Reopened}
 use Rattle.demand3.proofs.Claim.{demand3}
 use Rattle.demand3.proofs.Carried.{outcome-seen, seen, run-carried}
-use Rattle.slices.specs.Words.{yes}
+use Rattle.slices.specs.Slices.{yes}
 use Rattle.c_words.specs.Record.{converterOf, Bytes}
 use Rattle.c_words.specs.Writing.{beginCall, treeCall, linesCall, symbolCall, serializeCall}
 use Rattle.c_words.specs.Record.{lenWords}

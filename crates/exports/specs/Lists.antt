@@ -10,7 +10,7 @@ use Rattle.memory.specs.Memory.{Memory}
 use Rattle.line_list.specs.Lines.{lineColumns}
 use Rattle.demand3.specs.Lists.{Call, tree, lines-tree, symbol, write, Outcome, outcome, Standing, none-counted, run, Typed}
 use Rattle.demand3.specs.Demand3.{Reopened}
-use Rattle.slices.specs.Words.{yes}
+use Rattle.slices.specs.Slices.{yes}
 use Rattle.c_words.specs.Record.{Bytes}
 use Rattle.c_words.specs.Writing.{Left, beginCall, treeCall, linesCall, symbolCall, LeftFile, serializeCall}
 

@@ -6,7 +6,7 @@ use Prim.Native.Nat.{ℕ, suc, _*_, _/_}
 use lib.Dec.{eqb, ltb}
 use lib.ListN.{length, getD}
 use lib.Seq.{sets}
-use Rattle.slices.specs.Words.{flagOf}
+use Rattle.slices.specs.Slices.{flagOf}
 use Rattle.rows.specs.Columns.{Columns, columns, lineWords}
 use Rattle.rows.specs.Refusals.{each, lineTexts?}
 use Rattle.rows.specs.declared.LineRow.{LineRow}

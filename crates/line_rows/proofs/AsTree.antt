@@ -15,7 +15,7 @@ use Rattle.rows.proofs.Accepted.{some-row}
 use Rattle.memory.specs.Memory.{Memory}
 use Rattle.memory.specs.declared.Converter.{Converter}
 use Rattle.writer.specs.Calls.{Called, called, finished, rows-converted, treeOf}
-use Rattle.slices.specs.Words.{zeros}
+use Rattle.slices.specs.Slices.{zeros}
 use Rattle.memory.specs.Record.{usable?}
 use Rattle.line_rows.specs.Calls.{LinesCalled, leaves, unpackRoom?, linesOf}
 

@@ -14,7 +14,7 @@ use Rattle.memory.specs.Memory.{Memory}
 use Rattle.memory.specs.Record.{fits?}
 use Rattle.memory.specs.declared.Converter.{Converter}
 use Rattle.writer.specs.Calls.{Called, called, treeOf}
-use Rattle.slices.specs.Words.{zeros}
+use Rattle.slices.specs.Slices.{zeros}
 use Rattle.memory.specs.Record.{usable?}
 use Rattle.line_list.specs.Lines.{words64, words32, packed, lineColumns, linesTexts?, putRows}
 use Rattle.line_rows.specs.Calls.{LinesCalled, leaves, unpackRoom?, linesOf, unpackedOf}

@@ -6,7 +6,7 @@ use mathlib.Core.List.{List, [], _∷_, _++_, append-assoc}
 use native.Mathlib.Omega.{arith}
 use lib.Dec.{eqb, ltb}
 use lib.ListN.{length, getD, take, drop, length-append, length-drop, length-set, List·getD-append}
-use Rattle.slices.specs.Words.{flagOf}
+use Rattle.slices.specs.Slices.{flagOf}
 use lib.Seq.{sets, sets-eq, length-sets, take-at, drop-at, drop-drop, getD-append-add}
 use borrow.Author.Tests.{lt-ltb, le-ltb, eq-eqb, ne-eqb}
 use Rattle.rows.specs.Columns.{Columns, columns, lineWords, lineRow, lineRows, lineStruct}

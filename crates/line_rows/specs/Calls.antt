@@ -9,7 +9,7 @@ use Rattle.rows.specs.Refusals.{refusalOf}
 use Rattle.memory.specs.Memory.{Memory}
 use Rattle.memory.specs.declared.Converter.{Converter}
 use Rattle.writer.specs.Calls.{Called, called, treeOf}
-use Rattle.slices.specs.Words.{zeros}
+use Rattle.slices.specs.Slices.{zeros}
 use Rattle.memory.specs.Record.{usable?}
 
 -- what such a call leaves: what a tree call does, and the memory that the line rows were unpacked into

@@ -3,7 +3,7 @@
 use mathlib.Core.List.{List}
 use Prim.Native.Nat.{ℕ}
 use lib.ListN.{length}
-use Rattle.slices.specs.Words.{zeros}
+use Rattle.slices.specs.Slices.{zeros}
 use Rattle.memory.specs.declared.State.{State}
 use Rattle.memory.specs.declared.Lengths.{Lengths}
 

@@ -5,7 +5,7 @@ use mathlib.Core.List.{List, [], _∷_, _++_}
 use native.Mathlib.Omega.{arith}
 use lib.ListN.{length, take, length-append}
 use lib.Seq.{sets, take-all}
-use Rattle.slices.specs.Bytes.{le, leAt, bytesAt, words, Words, Stands}
+use Rattle.slices.specs.Bytes.{le, leAt, bytesAt, wordBytes, Words32, Stands}
 use Rattle.raw.specs.Rows.{versionInfoWords, versionInfoBytes, versionInfoAt, headerWords, headerBytes, headerAt, HeaderFits, fileWords, fileBytes, fileAt, functionWords, functionBytes, functionAt, locationWords, locationBytes, locationAt, rangeBytes, rangeAt}
 use Rattle.raw.specs.declared.VersionInfo.{VersionInfo}
 use Rattle.raw.specs.declared.Header.{Header}
@@ -21,10 +21,10 @@ pub data Stored : List ℕ → ℕ → List ℕ → List ℕ → Type 0 where
   all : {s : List ℕ} {at : ℕ} → Stored s at [] s
   next : {s s₁ r : List ℕ} {at v : ℕ} {vs : List ℕ} (n : ℕ) → n ≡ at + 4 → s₁ ≡ sets s at (le 4 v) → Stored s₁ n vs r → Stored s at (v ∷ vs) r
 
-pub stored : {s r : List ℕ} {at : ℕ} {vs : List ℕ} → Stored s at vs r → r ≡ sets s at (words vs)
-unfolding words
+pub stored : {s r : List ℕ} {at : ℕ} {vs : List ℕ} → Stored s at vs r → r ≡ sets s at (wordBytes vs)
+unfolding wordBytes
 stored all = refl
-stored {s = s} {at = at} {vs = v ∷ vs} (next n e h t) = stored t ∙ rw h (sets-join (le 4 v) (words vs) s at n (rw length-le e))
+stored {s = s} {at = at} {vs = v ∷ vs} (next n e h t) = stored t ∙ rw h (sets-join (le 4 v) (wordBytes vs) s at n (rw length-le e))
 
 -- A number of a row cut out
 
@@ -44,7 +44,7 @@ pub version-info-cut : (s : List ℕ) (at : ℕ) → versionInfoAt (bytesAt 72 s
 unfolding versionInfoAt
 version-info-cut s at = rw (first-word s at, cut-word s at 4 (omega arith))
 
-pub version-info-back : (v : VersionInfo) (s : List ℕ) (at : ℕ) → Words (versionInfoWords v) → Stands (versionInfoBytes v) s at → versionInfoAt s at ≡ v
+pub version-info-back : (v : VersionInfo) (s : List ℕ) (at : ℕ) → Words32 (versionInfoWords v) → Stands (versionInfoBytes v) s at → versionInfoAt s at ≡ v
 unfolding versionInfoBytes versionInfoAt
 version-info-back v s at f h =
     let w = versionInfoWords v in
@@ -61,7 +61,7 @@ unfolding fileAt
 file-cut s at =
     rw (first-word s at, cut-word s at 4 (omega arith), cut-word s at 8 (omega arith), cut-word s at 12 (omega arith), cut-word s at 16 (omega arith), cut-word s at 20 (omega arith))
 
-pub file-back : (r : File) (s : List ℕ) (at : ℕ) → Words (fileWords r) → Stands (fileBytes r) s at → fileAt s at ≡ r
+pub file-back : (r : File) (s : List ℕ) (at : ℕ) → Words32 (fileWords r) → Stands (fileBytes r) s at → fileAt s at ≡ r
 unfolding fileBytes fileAt
 file-back r s at f h =
     let w = fileWords r in
@@ -85,7 +85,7 @@ unfolding functionAt
 function-cut s at =
     rw (first-word s at, cut-word s at 4 (omega arith), cut-word s at 8 (omega arith), cut-word s at 12 (omega arith))
 
-pub function-back : (r : Function) (s : List ℕ) (at : ℕ) → Words (functionWords r) → Stands (functionBytes r) s at → functionAt s at ≡ r
+pub function-back : (r : Function) (s : List ℕ) (at : ℕ) → Words32 (functionWords r) → Stands (functionBytes r) s at → functionAt s at ≡ r
 unfolding functionBytes functionAt
 function-back r s at f h =
     let w = functionWords r in
@@ -107,7 +107,7 @@ unfolding locationAt
 location-cut s at =
     rw (first-word s at, cut-word s at 4 (omega arith), cut-word s at 8 (omega arith), cut-word s at 12 (omega arith))
 
-pub location-back : (r : SourceLocation) (s : List ℕ) (at : ℕ) → Words (locationWords r) → Stands (locationBytes r) s at → locationAt s at ≡ r
+pub location-back : (r : SourceLocation) (s : List ℕ) (at : ℕ) → Words32 (locationWords r) → Stands (locationBytes r) s at → locationAt s at ≡ r
 unfolding locationBytes locationAt
 location-back r s at f h =
     let w = locationWords r in
@@ -128,7 +128,7 @@ pub range-cut : (s : List ℕ) (at : ℕ) → rangeAt (bytesAt 72 s at) 0 ≡ ra
 unfolding rangeAt
 range-cut s at = rw (first-word s at)
 
-pub range-back : (r : Range) (s : List ℕ) (at : ℕ) → Words (r .0 ∷ []) → Stands (rangeBytes r) s at → rangeAt s at ≡ r
+pub range-back : (r : Range) (s : List ℕ) (at : ℕ) → Words32 (r .0 ∷ []) → Stands (rangeBytes r) s at → rangeAt s at ≡ r
 unfolding rangeBytes rangeAt
 range-back r s at f h = rw (word-back (r .0 ∷ []) s at 0 at f (omega arith) (omega arith) h)
 
@@ -140,13 +140,13 @@ length-header h d r = simp (length-append, length-words, length-le, d, r)
 
 -- the four parts of a header stored one after the other
 pub header-stored : (h : Header) {s₁ s₂ s₃ r : List ℕ} (s : List ℕ) (at : ℕ) → length (h .«debug_id») ≡ 32 → length (h .reserved) ≡ 14
-    → s₁ ≡ sets s at (take 32 (h .«debug_id»)) → s₂ ≡ sets s₁ (at + 32) (words (headerWords h))
+    → s₁ ≡ sets s at (take 32 (h .«debug_id»)) → s₂ ≡ sets s₁ (at + 32) (wordBytes (headerWords h))
     → s₃ ≡ sets s₂ (at + 56) (le 2 (h .«variable_header»)) → r ≡ sets s₃ (at + 58) (take 14 (h .reserved))
     → r ≡ sets s at (headerBytes h)
 unfolding headerBytes
 header-stored h s at d z e₁ e₂ e₃ e₄ =
     let i = h .«debug_id» in
-    let w = words (headerWords h) in
+    let w = wordBytes (headerWords h) in
     let v = le 2 (h .«variable_header») in
     rw (
       e₄,
@@ -179,10 +179,10 @@ pub header-back : (r : Header) (s : List ℕ) (at : ℕ) → HeaderFits r → St
 unfolding headerBytes headerAt
 header-back r s at f h =
     let w = headerWords r in
-    let h₀ = stands-left (r .«debug_id») (words w ++ (le 2 (r .«variable_header») ++ r .reserved)) s at h in
-    let h₁ = stands-right (r .«debug_id») (words w ++ (le 2 (r .«variable_header») ++ r .reserved)) s at (at + 32) (omega (arith, f .id)) h in
-    let h₂ = stands-left (words w) (le 2 (r .«variable_header») ++ r .reserved) s (at + 32) h₁ in
-    let h₃ = stands-right (words w) (le 2 (r .«variable_header») ++ r .reserved) s (at + 32) (at + 56) (omega (arith, length-words w)) h₁ in
+    let h₀ = stands-left (r .«debug_id») (wordBytes w ++ (le 2 (r .«variable_header») ++ r .reserved)) s at h in
+    let h₁ = stands-right (r .«debug_id») (wordBytes w ++ (le 2 (r .«variable_header») ++ r .reserved)) s at (at + 32) (omega (arith, f .id)) h in
+    let h₂ = stands-left (wordBytes w) (le 2 (r .«variable_header») ++ r .reserved) s (at + 32) h₁ in
+    let h₃ = stands-right (wordBytes w) (le 2 (r .«variable_header») ++ r .reserved) s (at + 32) (at + 56) (omega (arith, length-words w)) h₁ in
     let h₄ = stands-left (le 2 (r .«variable_header»)) (r .reserved) s (at + 56) h₃ in
     let h₅ = stands-right (le 2 (r .«variable_header»)) (r .reserved) s (at + 56) (at + 58) (omega (arith, length-le 2 (r .«variable_header»))) h₃ in
     let id = rw (f .id) at (bytes-back (r .«debug_id») s at h₀) in

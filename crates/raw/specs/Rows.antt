@@ -5,7 +5,7 @@ use mathlib.Core.Bool.{Bool, _&&_}
 use mathlib.Core.List.{List, [], _∷_, _++_}
 use lib.Dec.{eqb}
 use lib.ListN.{length}
-use Rattle.slices.specs.Bytes.{le, leAt, bytesAt, words, Words}
+use Rattle.slices.specs.Bytes.{le, leAt, bytesAt, wordBytes, Words32}
 use Rattle.raw.specs.declared.VersionInfo.{VersionInfo}
 use Rattle.raw.specs.declared.Header.{Header}
 use Rattle.raw.specs.declared.File.{File}
@@ -22,7 +22,7 @@ abbrev pub versionInfoWords : VersionInfo → List ℕ
 versionInfoWords v = v .magic ∷ v .version ∷ []
 
 unfoldable pub versionInfoBytes : VersionInfo → List ℕ
-versionInfoBytes v = words (versionInfoWords v)
+versionInfoBytes v = wordBytes (versionInfoWords v)
 
 unfoldable pub versionInfoAt : List ℕ → ℕ → VersionInfo
 versionInfoAt s at = record { magic = leAt 4 s at; version = leAt 4 s (at + 4) }
@@ -33,7 +33,7 @@ headerWords h =
     h .arch ∷ h .«num_files» ∷ h .«num_functions» ∷ h .«num_source_locations» ∷ h .«num_ranges» ∷ h .«string_bytes» ∷ []
 
 unfoldable pub headerBytes : Header → List ℕ
-headerBytes h = h .«debug_id» ++ (words (headerWords h) ++ (le 2 (h .«variable_header») ++ h .reserved))
+headerBytes h = h .«debug_id» ++ (wordBytes (headerWords h) ++ (le 2 (h .«variable_header») ++ h .reserved))
 
 unfoldable pub headerAt : List ℕ → ℕ → Header
 headerAt s at = record {
@@ -51,7 +51,7 @@ headerAt s at = record {
 -- what the types of the struct say of a header
 pub record HeaderFits (h : Header) : Type 0 where
   pub id : length (h .«debug_id») ≡ 32
-  pub numbers : Words (headerWords h)
+  pub numbers : Words32 (headerWords h)
   pub variables : h .«variable_header» < 2 ^ 16
   pub zeros : length (h .reserved) ≡ 14
 
@@ -61,7 +61,7 @@ fileWords f =
     f .«comp_dir_offset» ∷ f .«directory_offset» ∷ f .«name_offset» ∷ f .«srcsrv_name_offset» ∷ f .«srcsrv_dir_offset» ∷ f .«srcsrv_revision_offset» ∷ []
 
 unfoldable pub fileBytes : File → List ℕ
-fileBytes f = words (fileWords f)
+fileBytes f = wordBytes (fileWords f)
 
 unfoldable pub fileAt : List ℕ → ℕ → File
 fileAt s at = record {
@@ -78,7 +78,7 @@ abbrev pub functionWords : Function → List ℕ
 functionWords f = f .«name_offset» ∷ f .«comp_dir_offset» ∷ f .«entry_pc» ∷ f .lang ∷ []
 
 unfoldable pub functionBytes : Function → List ℕ
-functionBytes f = words (functionWords f)
+functionBytes f = wordBytes (functionWords f)
 
 unfoldable pub functionAt : List ℕ → ℕ → Function
 functionAt s at = record {
@@ -93,7 +93,7 @@ abbrev pub locationWords : SourceLocation → List ℕ
 locationWords l = l .«file_idx» ∷ l .line ∷ l .«function_idx» ∷ l .«inlined_into_idx» ∷ []
 
 unfoldable pub locationBytes : SourceLocation → List ℕ
-locationBytes l = words (locationWords l)
+locationBytes l = wordBytes (locationWords l)
 
 unfoldable pub locationAt : List ℕ → ℕ → SourceLocation
 locationAt s at = record {
@@ -115,7 +115,7 @@ isNoSourceLocation l =
 
 -- Range: 4 bytes, the start address
 unfoldable pub rangeBytes : Range → List ℕ
-rangeBytes r = words (r .0 ∷ [])
+rangeBytes r = wordBytes (r .0 ∷ [])
 
 unfoldable pub rangeAt : List ℕ → ℕ → Range
 rangeAt s at = record { 0 = leAt 4 s at }

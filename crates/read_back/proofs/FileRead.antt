@@ -9,7 +9,7 @@ use native.Mathlib.Omega.{arith}
 use lib.ListN.{length, getD, take, drop, length-append, length-replicate, length-drop}
 use lib.Seq.{take-at, drop-at, drop-drop, take-append-le, drop-append-le}
 use borrow.Author.Tests.{lt-ltb, le-ltb}
-use Rattle.slices.specs.Bytes.{words, Stands, tableBytes}
+use Rattle.slices.specs.Bytes.{wordBytes, Stands, tableBytes}
 use Rattle.raw.specs.Rows.{versionInfoBytes, versionInfoAt, headerBytes, headerAt, HeaderFits, rangeAt}
 use Rattle.raw.specs.Head.{version-info, padding}
 use Rattle.raw.specs.declared.Header.{Header}
@@ -108,16 +108,16 @@ module _ (id : List ℕ) (a : ℕ) (z : Sections) (ok : Readable id a z) (rest :
   head = versionInfoBytes version-info
 
   abbrev files : List ℕ
-  files = tableBytes words (z .files)
+  files = tableBytes wordBytes (z .files)
 
   abbrev functions : List ℕ
-  functions = tableBytes words (z .functions)
+  functions = tableBytes wordBytes (z .functions)
 
   abbrev locations : List ℕ
-  locations = tableBytes words (z .locations)
+  locations = tableBytes wordBytes (z .locations)
 
   abbrev starts : List ℕ
-  starts = words (z .starts)
+  starts = wordBytes (z .starts)
 
   abbrev pad : List ℕ
   pad = padding (length (z .starts) * 4)

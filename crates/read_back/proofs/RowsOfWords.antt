@@ -1,11 +1,11 @@
--- Rows of words in a list of bytes: each stands where its index says, and its words are read back.
+-- Rows of wordBytes in a list of bytes: each stands where its index says, and its wordBytes are read back.
 use Prim.Native.Nat.{ℕ, zero, suc, _+_, _*_, _<_}
 use mathlib.Core.Path.{_≡_, refl, sym, ap, _∙_}
 use mathlib.Core.List.{List, [], _∷_, _++_, map, append-assoc}
 use native.Mathlib.Nat.{add-zero, mul-zero, mul-suc}
 use native.Mathlib.Omega.{arith}
 use lib.ListN.{length, getD, length-append}
-use Rattle.slices.specs.Bytes.{le, words, Words, Stands, tableBytes}
+use Rattle.slices.specs.Bytes.{le, wordBytes, Words32, Stands, tableBytes}
 use Rattle.raw.specs.Rows.{fileAt, functionAt, locationAt}
 use Rattle.raw.specs.declared.File.{File}
 use Rattle.raw.specs.declared.Function.{Function}
@@ -14,31 +14,31 @@ use Rattle.slices.proofs.Bytes.{length-words, stands-left, stands-right, word-b
 use Rattle.model.proofs.Sections.{word}
 use Rattle.read_back.specs.Bytes.{Rows}
 
--- a row of n words that stands at m
+-- a row of n wordBytes that stands at m
 pub record RowAt (n : ℕ) (r s : List ℕ) (m : ℕ) : Type 0 where
   pub size : length r ≡ n
-  pub low : Words r
-  pub stands : Stands (words r) s m
+  pub low : Words32 r
+  pub stands : Stands (wordBytes r) s m
 
 module _ (n b : ℕ) (wide : 4 * n ≡ b) where
-  row-size : (r : List ℕ) → length r ≡ n → length (words r) ≡ b
+  row-size : (r : List ℕ) → length r ≡ n → length (wordBytes r) ≡ b
   row-size r e = length-words r ∙ rw e wide
 
-  pub table-size : (rs : List (List ℕ)) → Rows n rs → length (tableBytes words rs) ≡ b * length rs
+  pub table-size : (rs : List (List ℕ)) → Rows n rs → length (tableBytes wordBytes rs) ≡ b * length rs
   unfolding tableBytes
   table-size [] w = sym (mul-zero b)
   table-size (r ∷ rs) w = simp (length-append, row-size r (w .0 .0), table-size rs (w .1), mul-suc) (omega arith)
 
   -- row i stands i rows further on
-  pub row-there : (rs : List (List ℕ)) (d s : List ℕ) (at i m : ℕ) → Rows n rs → i < length rs → m ≡ at + b * i → Stands (tableBytes words rs) s at → RowAt n (getD rs i d) s m
+  pub row-there : (rs : List (List ℕ)) (d s : List ℕ) (at i m : ℕ) → Rows n rs → i < length rs → m ≡ at + b * i → Stands (tableBytes wordBytes rs) s at → RowAt n (getD rs i d) s m
   unfolding tableBytes
   row-there [] d s at i m w h e g = absurd (omega arith)
   row-there (r ∷ rs) d s at zero m w h e g =
       let e′ : m ≡ at = e ∙ rw (mul-zero b, add-zero) in
-      record { size = w .0 .0; low = w .0 .1; stands = rw e′ (stands-left (words r) (tableBytes words rs) s at g) }
+      record { size = w .0 .0; low = w .0 .1; stands = rw e′ (stands-left (wordBytes r) (tableBytes wordBytes rs) s at g) }
   row-there (r ∷ rs) d s at (suc i) m w h e g =
       let e′ : m ≡ at + b + b * i = e ∙ rw (mul-suc b i) (omega arith) in
-      row-there rs d s (at + b) i m (w .1) (omega arith) e′ (stands-right (words r) (tableBytes words rs) s at (at + b) (rw (row-size r (w .0 .0))) g)
+      row-there rs d s (at + b) i m (w .1) (omega arith) e′ (stands-right (wordBytes r) (tableBytes wordBytes rs) s at (at + b) (rw (row-size r (w .0 .0))) g)
 
 -- ── Tables of other rows are such tables ──
 
@@ -60,12 +60,12 @@ module _ {A : Type 0} where
   table-same f g e (x ∷ xs) = rw (e x, table-same f g e xs)
 
   -- a table of one word a row
-  pub table-words : (f : A → ℕ) (xs : List A) → tableBytes (λ (x : A). words (f x ∷ [])) xs ≡ words (map f xs)
-  unfolding tableBytes words
+  pub table-words : (f : A → ℕ) (xs : List A) → tableBytes (λ (x : A). wordBytes (f x ∷ [])) xs ≡ wordBytes (map f xs)
+  unfolding tableBytes wordBytes
   table-words f [] = refl
-  table-words f (x ∷ xs) = append-assoc (le 4 (f x)) [] (tableBytes (λ (y : A). words (f y ∷ [])) xs) ∙ ap (λ (l : List ℕ). le 4 (f x) ++ l) (table-words f xs)
+  table-words f (x ∷ xs) = append-assoc (le 4 (f x)) [] (tableBytes (λ (y : A). wordBytes (f y ∷ [])) xs) ∙ ap (λ (l : List ℕ). le 4 (f x) ++ l) (table-words f xs)
 
--- ── Words as rows ──
+-- ── Words32 as rows ──
 
 abbrev pub file-of : List ℕ → File
 file-of r = record {

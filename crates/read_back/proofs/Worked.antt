@@ -8,7 +8,7 @@ use native.Mathlib.Omega.{arith}
 use lib.ListN.{getD, replicate}
 use Rattle.text.specs.Leb128.{encoded-in, encoded}
 use Rattle.text.specs.Utf8.{utf8, chars, charLen, UTF8-char, fits, within}
-use Rattle.slices.specs.Bytes.{le, words, tableBytes}
+use Rattle.slices.specs.Bytes.{le, wordBytes, tableBytes}
 use Rattle.raw.specs.Rows.{versionInfoBytes, headerBytes}
 use Rattle.raw.specs.Head.{padding}
 use Rattle.read_back.proofs.WorkedBytes as original
@@ -33,7 +33,7 @@ bytes s = file-bytes (replicate 32 0) 0 (sections (as-written s))
 
 -- THE BYTES ARE THE ORIGINAL'S
 pub worked-bytes : bytes (converted plain-setup worked) ≡ original.worked
-unfolding encoded-in encoded text-size place-range by-start string-section le words tableBytes versionInfoBytes headerBytes padding file-bytes original.worked
+unfolding encoded-in encoded text-size place-range by-start string-section le wordBytes tableBytes versionInfoBytes headerBytes padding file-bytes original.worked
 worked-bytes = ap bytes (worked-file .tables) ∙ refl
 
 -- ── The calls fit ──

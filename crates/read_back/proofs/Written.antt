@@ -5,7 +5,7 @@ use mathlib.Core.Bool.{true}
 use mathlib.Core.List.{List, [], _∷_, _++_, map, reverse}
 use native.Mathlib.Omega.{arith}
 use lib.ListN.{length, length-map}
-use Rattle.slices.specs.Bytes.{Words}
+use Rattle.slices.specs.Bytes.{Words32}
 use Rattle.model.specs.Basics.{_∈_, Entry, Covers, items, depths, upto}
 use Rattle.model.specs.Rows.{MAX, LineRow, FunctionRow, Given, tree-rows}
 use Rattle.model.specs.Converter.{Setup, Location, nowhere, at, Tables, converted}
@@ -31,15 +31,15 @@ use Rattle.read_back.proofs.Walks.{found-words}
 
 -- ── The words of tables have a file ──
 
-rows-of : {A : Type 0} (n : ℕ) (f : A → List ℕ) (xs : List A) → ((i : ℕ) (x : A) → At xs i x → (length (f x) ≡ n) × Words (f x)) → Rows n (map f xs)
+rows-of : {A : Type 0} (n : ℕ) (f : A → List ℕ) (xs : List A) → ((i : ℕ) (x : A) → At xs i x → (length (f x) ≡ n) × Words32 (f x)) → Rows n (map f xs)
 rows-of n f [] h = tt
 rows-of n f (x ∷ xs) h = (h 0 x refl, rows-of n f xs (λ i y g. h (suc i) y g))
 
-four : (l : Location) → file-rows.Words (location-words l) → (length (location-words l) ≡ 4) × Words (location-words l)
+four : (l : Location) → file-rows.Words (location-words l) → (length (location-words l) ≡ 4) × Words32 (location-words l)
 four nowhere h = (refl, h)
 four (at f n i c) h = (refl, h)
 
-keys-low : (t : List (Entry Location)) → ((i : ℕ) (e : Entry Location) → At t i e → e .key ≤ MAX) → Words (map (λ (e : Entry Location). e .key) t)
+keys-low : (t : List (Entry Location)) → ((i : ℕ) (e : Entry Location) → At t i e → e .key ≤ MAX) → Words32 (map (λ (e : Entry Location). e .key) t)
 keys-low [] h = tt
 keys-low (e ∷ t) h = (omega (arith, h 0 e refl), keys-low t (λ i d g. h (suc i) d g))
 

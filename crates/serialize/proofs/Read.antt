@@ -8,7 +8,7 @@ use native.Mathlib.Omega.{arith}
 use lib.Dec.{ltb}
 use lib.ListN.{length, getD}
 use Rattle.model.specs.Basics.{Span}
-use Rattle.slices.specs.Bytes.{Words, Stands, tableBytes}
+use Rattle.slices.specs.Bytes.{Words32, Stands, tableBytes}
 use Rattle.raw.specs.Rows.{versionInfoAt, headerAt, HeaderFits, fileAt, functionAt, locationWords, locationAt, rangeAt, noSourceLocation}
 use Rattle.raw.specs.Head.{version-info}
 use Rattle.slices.proofs.Bytes.{row-stands}
@@ -43,10 +43,10 @@ row-there bytes size long t n s at i h g =
     rw e at (row-stands bytes size long (rowsOf t n) no-row s at i (at + size * i) (rw (rows-length t 0 n) h) refl g)
 
 -- the words of an entry's location
-location-words : (t : List ℕ) → Words32 t → (n : ℕ) (p : Span) → Words (locationWords (entry-location t n p))
+location-words : (t : List ℕ) → Words32 t → (n : ℕ) (p : Span) → Words32 (locationWords (entry-location t n p))
 unfolding entry-location rowAt
 location-words t w n p = go (ltb (p .to) n) where
-  go : (b : Bool) → Words (locationWords (cond b (locationOf (rowAt t (p .to))) noSourceLocation))
+  go : (b : Bool) → Words32 (locationWords (cond b (locationOf (rowAt t (p .to))) noSourceLocation))
   go true = (w (p .to * 7 + 1), (w (p .to * 7 + 1 + 1), (w (p .to * 7 + 1 + 1 + 1), (w (p .to * 7 + 1 + 1 + 1 + 1), tt))))
   go false = (omega arith, (omega arith, (omega arith, (omega arith, tt))))
 

@@ -8,7 +8,7 @@ use native.Mathlib.Omega.{arith}
 use lib.ListN.{length}
 use lib.Seq.{sets}
 use Rattle.model.specs.Basics.{Span}
-use Rattle.slices.specs.Bytes.{le, leAt, words, tableBytes}
+use Rattle.slices.specs.Bytes.{le, leAt, wordBytes, tableBytes}
 use Rattle.raw.specs.Rows.{rangeBytes}
 use Rattle.raw.specs.Head.{padding}
 use Rattle.slices.proofs.Bytes.{sets-join, length-table, length-words}
@@ -92,7 +92,7 @@ entries-turn s out new at to t i r er h e f =
 
 -- an entry is stored as two ranges are
 range-bytes : (v : ℕ) → rangeBytes (record { 0 = v }) ≡ le 4 v
-unfolding rangeBytes words
+unfolding rangeBytes wordBytes
 range-bytes v = append-nil (le 4 v)
 
 pub entry-stored : (s s₁ s₂ : List ℕ) (at start row : ℕ) → s₁ ≡ sets s at (rangeBytes (record { 0 = start })) → s₂ ≡ sets s₁ (at + 4) (rangeBytes (record { 0 = row })) → s₂ ≡ sets s at (entry-row (record { from = start; to = row }))
@@ -116,7 +116,7 @@ entries-at-more (suc n) s at = let e : at + 8 * suc n ≡ at + 8 + 8 * n = omega
 -- ── Padding ──
 
 pub padding-odd : (n : ℕ) → n % 2 ≡ 1 → padding (n * 4) ≡ rangeBytes (record { 0 = 0 })
-unfolding padding rangeBytes words le
+unfolding padding rangeBytes wordBytes le
 padding-odd n h = let e : n * 4 ≡ 4 + 8 * (n / 2) = omega arith in rw (e, add-mul-mod-self-left 4 8 (n / 2))
 
 pub padding-even : (n : ℕ) → n % 2 ≡ 0 → padding (n * 4) ≡ []

@@ -8,7 +8,7 @@ use lib.ListN.{length, getD, take, drop, length-append}
 use lib.Seq.{sets, sets-eq, take-at, drop-at, length-take-le, drop-drop}
 use borrow.Rule.Slice.PartMut.{midOf, putMid}
 use Rattle.model.specs.Basics.{Span, before, place, sort}
-use Rattle.slices.specs.Bytes.{le, words, Words, Stands, tableBytes}
+use Rattle.slices.specs.Bytes.{le, wordBytes, Words32, Stands, tableBytes}
 use Rattle.slices.proofs.Bytes.{sets-join, length-table, length-words, length-le, stands-left, stands-right, stands-stored, le-back}
 use Rattle.tables.specs.Table.{rowAt, rowsFrom, rowsOf}
 use Rattle.table_laws.proofs.Rows.{rows-length}
@@ -23,14 +23,14 @@ use Rattle.serialize.proofs.Rows.{length-entry-row, length-location-row
 
 -- ── Entries as pairs of 32-bit numbers ──
 
-pub entry-words : (ps : List Span) → tableBytes entry-row ps ≡ words (pairWords ps)
-unfolding tableBytes entry-row pairWords words
+pub entry-words : (ps : List Span) → tableBytes entry-row ps ≡ wordBytes (pairWords ps)
+unfolding tableBytes entry-row pairWords wordBytes
 entry-words [] = refl
-entry-words (p ∷ ps) = rw (entry-words ps, append-nil (le 4 (p .to)), append-assoc (le 4 (p .from)) (le 4 (p .to)) (words (pairWords ps)))
+entry-words (p ∷ ps) = rw (entry-words ps, append-nil (le 4 (p .to)), append-assoc (le 4 (p .from)) (le 4 (p .to)) (wordBytes (pairWords ps)))
 
 -- each number of each entry has 32 bits
 abbrev pub Fit : List Span → Type 0
-Fit ps = Words (pairWords ps)
+Fit ps = Words32 (pairWords ps)
 
 pub fit-append : (ps qs : List Span) → Fit ps → Fit qs → Fit (ps ++ qs)
 unfolding pairWords
@@ -66,11 +66,11 @@ unfolding tableBytes pairWords
 sentinel-one s s₁ at end a n h b d e = rw h (rw (append-nil (entry-row (record { from = a; to = n }))) e, (b, (d, tt)))
 
 -- entries that stand are read back
-pub entries-back : (ps : List Span) (s : List ℕ) (at : ℕ) → Fit ps → Stands (words (pairWords ps)) s at → entries-at (length ps) s at ≡ ps
-unfolding entries-at pairWords words
+pub entries-back : (ps : List Span) (s : List ℕ) (at : ℕ) → Fit ps → Stands (wordBytes (pairWords ps)) s at → entries-at (length ps) s at ≡ ps
+unfolding entries-at pairWords wordBytes
 entries-back [] s at f h = refl
 entries-back (p ∷ ps) s at f h =
-    let rest = words (pairWords ps) in
+    let rest = wordBytes (pairWords ps) in
     let h₁ : Stands (le 4 (p .to) ++ rest) s (at + 4) = stands-right (le 4 (p .from)) (le 4 (p .to) ++ rest) s at (at + 4) (rw length-le) h in
     let h₂ : Stands rest s (at + 8) = stands-right (le 4 (p .to)) rest s (at + 4) (at + 8) (rw length-le (omega arith)) h₁ in
     rw (
@@ -94,11 +94,11 @@ length-sections t n ps = simp (length-append, length-table (location-row t n) 16
 module _ (t : List ℕ) (n : ℕ) (ps : List Span) (fit : Fit ps) (all : ℕ) (size : length ps ≡ all) (s : List ℕ) (at : ℕ) (room : at + all * 20 ≤ length s) where
   -- the part that is sorted is the entries, and nothing else changes
   sorted-there : (s₁ part : List ℕ) (k : ℕ) → s₁ ≡ sets s (at + all * 8) (tableBytes entry-row ps) → k ≡ all * 8 → part ≡ sortedBytesOf (midOf (at + all * 8) k s₁)
-      → putMid (at + all * 8) k s₁ part ≡ sets s (at + all * 8) (words (pairWords (sort ps)))
+      → putMid (at + all * 8) k s₁ part ≡ sets s (at + all * 8) (wordBytes (pairWords (sort ps)))
   sorted-there s₁ part k e f g =
       let from = at + all * 8 in
-      let b = words (pairWords ps) in
-      let c = words (pairWords (sort ps)) in
+      let b = wordBytes (pairWords ps) in
+      let c = wordBytes (pairWords (sort ps)) in
       let lb : length b ≡ 8 * all = simp (length-words, length-pairWords) (omega arith) in
       let lc : length c ≡ 8 * all = simp (length-words, length-pairWords, sort-length) (omega arith) in
       let e′ : s₁ ≡ sets s from b = rw (← entry-words ps) e in
@@ -115,7 +115,7 @@ module _ (t : List ℕ) (n : ℕ) (ps : List Span) (fit : Fit ps) (all : ℕ) (s
       → s₂ ≡ sets s at (range-sections t n (sort ps))
   ranges-sorted s₁ part s₂ k e f g e₂ =
       let from = at + all * 8 in
-      let c = words (pairWords (sort ps)) in
+      let c = wordBytes (pairWords (sort ps)) in
       let lc : length c ≡ 8 * all = simp (length-words, length-pairWords, sort-length) (omega arith) in
       let lr : length (range-sections t n (sort ps)) ≡ 20 * all = rw (length-sections t n (sort ps), sort-length ps) (omega arith) in
       let there : putMid from k s₁ part ≡ sets s from c = sorted-there s₁ part k e f g in

@@ -4,7 +4,7 @@ use mathlib.Core.Bool.{cond}
 use mathlib.Core.List.{List, [], _∷_, _++_}
 use lib.Dec.{ltb}
 use Rattle.model.specs.Basics.{Span, sort}
-use Rattle.slices.specs.Bytes.{leAt, words, tableBytes}
+use Rattle.slices.specs.Bytes.{leAt, wordBytes, tableBytes}
 use Rattle.raw.specs.Rows.{fileBytes, functionBytes, locationBytes, rangeBytes, noSourceLocation}
 use Rattle.raw.specs.declared.SourceLocation.{SourceLocation}
 use Rattle.tables.specs.Table.{rowAt, rowsOf}
@@ -71,7 +71,7 @@ range-sections t n ps = tableBytes (location-row t n) ps ++ tableBytes start-row
 
 -- an entry as eight bytes, while the entries are sorted; and n entries read from `at` on
 unfoldable pub entry-row : Span → List ℕ
-entry-row p = words (p .from ∷ p .to ∷ [])
+entry-row p = wordBytes (p .from ∷ p .to ∷ [])
 
 unfoldable pub entries-at : ℕ → List ℕ → ℕ → List Span
 entries-at zero s at = []

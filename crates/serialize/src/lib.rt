@@ -18,7 +18,7 @@ ghost use mathlib.Core.List.{List, _++_};
 ghost use lib.ListN.{length, take};
 ghost use lib.Seq.{sets};
 ghost use Rattle.model.specs.Basics.{sort};
-ghost use Rattle.slices.specs.Bytes.{Words, tableBytes};
+ghost use Rattle.slices.specs.Bytes.{Words32, tableBytes};
 ghost use Rattle.tables.specs.Table.{rowsOf};
 ghost use Rattle.sorting.specs.Pairs.{pairWords};
 ghost use Rattle.serialize.specs.Sections.{file-row, function-row, call-row, entries, entry-row, entries-at, entry-location, range-sections, vacant-end, sentinel};
@@ -275,7 +275,7 @@ fn write_entries(out: &mut [u8], at: usize, ranges: &[u32], count: u32)
 // The sentinel's entry, if there is one.
 fn write_sentinel(out: &mut [u8], at: usize, end: LastAddr, count: u32)
     requires { ⌜ at + 8 * length (sentinel end count) ≤ length (now out) ⌝ }
-    ensures { λ _. ⌜ (now (out .exit) ≡ sets (now (out .entry)) at (tableBytes entry-row (sentinel end count))) × Words (pairWords (sentinel end count)) ⌝ }
+    ensures { λ _. ⌜ (now (out .exit) ≡ sets (now (out .entry)) at (tableBytes entry-row (sentinel end count))) × Words32 (pairWords (sentinel end count)) ⌝ }
 {
     match end {
         LastAddr::Unset => {}

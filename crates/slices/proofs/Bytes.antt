@@ -10,7 +10,7 @@ use lib.Dec.{leb}
 use borrow.Author.Tests.{leb-true, leb-false, le-leb, lt-leb}
 use lib.ListN.{length, getD, set, take, drop, length-append, drop-of-length-le, take-append-drop}
 use lib.Seq.{sets, sets-eq, getD-append-seam, length-take-le, take-at, drop-cons, take-suc, take-suc-set, take-length, getD-take, set-out, length-sets}
-use Rattle.slices.specs.Bytes.{le, leAt, bytesAt, words, Words, Stands, tableBytes}
+use Rattle.slices.specs.Bytes.{le, leAt, bytesAt, wordBytes, Words32, Stands, tableBytes}
 
 -- lengths
 pub length-le : (w v : ℕ) → length (le w v) ≡ w
@@ -23,8 +23,8 @@ unfolding bytesAt
 length-bytesAt zero s at = refl
 length-bytesAt (suc n) s at = ap suc (length-bytesAt n s (suc at))
 
-pub length-words : (vs : List ℕ) → length (words vs) ≡ 4 * length vs
-unfolding words
+pub length-words : (vs : List ℕ) → length (wordBytes vs) ≡ 4 * length vs
+unfolding wordBytes
 length-words [] = refl
 length-words (v ∷ vs) = simp (length-append, length-le, length-words vs) (omega arith)
 
@@ -82,12 +82,12 @@ bytes-back [] s at e = refl
 bytes-back (b ∷ bs) s at e = rw (e .0, bytes-back bs s (suc at) (e .1))
 
 -- the number at index i among 32-bit numbers
-pub word-back : (vs s : List ℕ) (at i n : ℕ) → Words vs → i < length vs → n ≡ at + 4 * i → Stands (words vs) s at → leAt 4 s n ≡ getD vs i 0
-unfolding words
+pub word-back : (vs s : List ℕ) (at i n : ℕ) → Words32 vs → i < length vs → n ≡ at + 4 * i → Stands (wordBytes vs) s at → leAt 4 s n ≡ getD vs i 0
+unfolding wordBytes
 word-back [] s at i n f h e g = omega arith
-word-back (v ∷ vs) s at zero n f h e g = let e′ : n ≡ at = omega arith in rw e′ (le-back 4 v s at (f .0) (stands-left (le 4 v) (words vs) s at g))
+word-back (v ∷ vs) s at zero n f h e g = let e′ : n ≡ at = omega arith in rw e′ (le-back 4 v s at (f .0) (stands-left (le 4 v) (wordBytes vs) s at g))
 word-back (v ∷ vs) s at (suc i) n f h e g =
-    word-back vs s (at + 4) i n (f .1) (omega arith) (omega arith) (stands-right (le 4 v) (words vs) s at (at + 4) (rw length-le) g)
+    word-back vs s (at + 4) i n (f .1) (omega arith) (omega arith) (stands-right (le 4 v) (wordBytes vs) s at (at + 4) (rw length-le) g)
 
 -- A part cut out, with zeros past the end, reads as the whole does
 

@@ -9,7 +9,7 @@ use lib.Dec.{leb}
 use lib.ListN.{length, take}
 use lib.Seq.{sets, take-all}
 use borrow.Author.Tests.{leb-true, leb-false}
-use Rattle.slices.specs.Words.{fitting}
+use Rattle.slices.specs.Slices.{fitting}
 use Rattle.slices.proofs.Bytes.{sets-fitting}
 
 -- r of n bytes have room from `at` on, and no more

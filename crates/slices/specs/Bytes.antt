@@ -20,14 +20,14 @@ bytesAt zero s at = []
 bytesAt (suc n) s at = getD s at 0 ∷ bytesAt n s (suc at)
 
 -- numbers of 32 bits, one after the other
-unfoldable pub words : List ℕ → List ℕ
-words [] = []
-words (v ∷ vs) = le 4 v ++ words vs
+unfoldable pub wordBytes : List ℕ → List ℕ
+wordBytes [] = []
+wordBytes (v ∷ vs) = le 4 v ++ wordBytes vs
 
 -- each of them has 32 bits
-abbrev pub Words : List ℕ → Type 0
-Words [] = Unit {0}
-Words (v ∷ vs) = (v < 2 ^ 32) × Words vs
+abbrev pub Words32 : List ℕ → Type 0
+Words32 [] = Unit {0}
+Words32 (v ∷ vs) = (v < 2 ^ 32) × Words32 vs
 
 -- the bytes `bs` stand in `s` from `at` on
 abbrev pub Stands : List ℕ → List ℕ → ℕ → Type 0

@@ -17,7 +17,7 @@ use Rattle.memory.specs.declared.Lengths.{Lengths}
 use Rattle.memory.specs.Record.{fitsIn, usableIn, fits?, with-state, words-of, usable?, unused}
 use Rattle.steps.specs.Steps.{over-words}
 use Rattle.writer.specs.Calls.{Called, called, setup, finished, rows-converted, treeOf, symbolOf}
-use Rattle.slices.specs.Words.{zeros}
+use Rattle.slices.specs.Slices.{zeros}
 use Rattle.steps.specs.Symbols.{symbolRow}
 
 -- ── A test that is denied ─────────────────────────────────────────────────────────────────────────────────────────────

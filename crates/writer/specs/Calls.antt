@@ -12,7 +12,7 @@ use Rattle.rows.specs.Refusals.{refusalOf, optional?}
 use Rattle.rows.specs.declared.OptionalPart.{OptionalPart}
 use Rattle.memory.specs.Memory.{Memory, Words, zeroed}
 use Rattle.memory.specs.Record.{fits?, usable?, with-state, words-of, unused, begun}
-use Rattle.slices.specs.Words.{zeros}
+use Rattle.slices.specs.Slices.{zeros}
 use Rattle.steps.specs.Steps.{over-words}
 use Rattle.memory.specs.declared.Converter.{Converter}
 use Rattle.steps.specs.Symbols.{symbolRow}

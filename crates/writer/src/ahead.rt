@@ -1,8 +1,8 @@
 // Reading ahead: before any text of a tree is stored, its first functions are looked at in the tables. Each step is made for all of
 // them, so that what one has to wait for is fetched from memory while the others are. What is read goes to scratch memory, four words
 // a function, and nothing of it is used.
-use crate::stack::set_word;
-use crate::stack::word;
+use slices::put;
+use slices::word;
 use crate::tree::entry_pc;
 use tables::Row;
 
@@ -19,7 +19,7 @@ fn name_link(
     let k = (i as usize) * 4;
     let q = rows::function_row(functions64, functions32, i as usize);
     let name = steps::shown_name(rows::part(text, q.name), undecorate);
-    set_word(s, k, tables::strings::newest(strings, name));
+    put(s, k, tables::strings::newest(strings, name));
 }
 
 // The same for the range that starts at its address.
@@ -27,7 +27,7 @@ fn range_link(ranges: &[u32], s: &mut [u32], functions64: &[u64], functions32: &
     let k = (i as usize) * 4 + 1;
     let q = rows::function_row(functions64, functions32, i as usize);
     let address = (q.address % 4294967296) as u32;
-    set_word(s, k, tables::ranges::newest(ranges, address));
+    put(s, k, tables::ranges::newest(ranges, address));
 }
 
 // The row that a link names; row 0 where it names none.
@@ -42,8 +42,8 @@ fn linked(t: &[u32], link: u32) -> Row {
 fn name_row(strings: &[u32], s: &mut [u32], i: u32) {
     let k = (i as usize) * 4;
     let row = linked(strings, word(s, k));
-    set_word(s, k, row.a);
-    set_word(s, k + 2, row.b);
+    put(s, k, row.a);
+    put(s, k + 2, row.b);
 }
 
 fn wide(b: u8) -> u32 {
@@ -62,7 +62,7 @@ fn byte(string_bytes: &[u8], at: usize) -> u32 {
 fn name_bytes(string_bytes: &[u8], s: &mut [u32], i: u32) {
     let k = (i as usize) * 4 + 2;
     let at = word(s, k) as usize;
-    set_word(s, k, byte(string_bytes, at) ^ byte(string_bytes, at + 60));
+    put(s, k, byte(string_bytes, at) ^ byte(string_bytes, at + 60));
 }
 
 // The newest row in the bucket of the function, as a link.
@@ -83,14 +83,14 @@ fn function_link(
         e: 0,
         f: 0,
     };
-    set_word(s, k, tables::index_set::newest(functions, row));
+    put(s, k, tables::index_set::newest(functions, row));
 }
 
 // A word of the function's row.
 fn function_word(functions: &[u32], s: &mut [u32], i: u32) {
     let k = (i as usize) * 4;
     let row = linked(functions, word(s, k));
-    set_word(s, k, row.a);
+    put(s, k, row.a);
 }
 
 // A step for function i. Later steps go on from what earlier ones left in scratch memory.

@@ -3,7 +3,7 @@ use rows::OptionalPart;
 ghost use mathlib.Core.Path.{_≡_};
 ghost use mathlib.Core.List.{List, []};
 ghost use Prim.Native.Nat.{ℕ};
-ghost use Rattle.slices.specs.Words.{zeros};
+ghost use Rattle.slices.specs.Slices.{zeros};
 ghost use Rattle.memory.specs.Memory.{memory};
 ghost use Rattle.rows.specs.Columns.{columns};
 ghost use Rattle.rows.specs.Refusals.{optional?};

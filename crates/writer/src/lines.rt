@@ -1,7 +1,7 @@
 // A function's lines.
 use crate::stack::Pairs;
-use crate::stack::set_word;
-use crate::stack::word;
+use slices::put;
+use slices::word;
 use raw::SourceLocation;
 use rows::FunctionRow;
 use memory::State;
@@ -248,7 +248,7 @@ pub(crate) fn process_lines(
             let inline_end = word(s, k + 1);
             let call_location = insert_call_location(now, call_locations, source_location);
             now = call_location.state;
-            set_word(s, k + 1, call_location.index);
+            put(s, k + 1, call_location.index);
 
             // Advance current_address to the end of this inlinee range.
             current_address = inline_end;

@@ -6,7 +6,7 @@ use crate::stack::Pairs;
 use crate::stack::calls_at;
 use crate::stack::gather;
 use crate::stack::set_calls;
-use crate::stack::word;
+use slices::word;
 use raw::SourceLocation;
 use rows::FunctionRow;
 use steps::Indexed;

@@ -7,7 +7,7 @@ use native.Mathlib.Omega.{arith}
 use borrow.Author.Needs.{needs}
 use lib.ListN.{length, getD, set, take, length-set}
 use lib.Seq.{sets}
-use Rattle.slices.specs.Words.{fitting}
+use Rattle.slices.specs.Slices.{fitting}
 use Rattle.slices.proofs.Bytes.{copied-more}
 use Rattle.slices.proofs.Fitting.{Fits, fits, copied-all}
 use Rattle.slices.proofs.copy.Statement.{statement}

@@ -99,7 +99,7 @@ ranged c = c .before .before .before .before
 abbrev covered : tie.After-word2 Inv-loop2 μ-loop2 Inv-loop μ-loop → tie.Else4 Inv-loop2 μ-loop2 Inv-loop μ-loop
 covered c = c .before .before
 
-abbrev entered : tie.After-set-word Inv-loop2 μ-loop2 Inv-loop μ-loop → tie.After-insert-call-location Inv-loop2 μ-loop2 Inv-loop μ-loop
+abbrev entered : tie.After-put Inv-loop2 μ-loop2 Inv-loop μ-loop → tie.After-insert-call-location Inv-loop2 μ-loop2 Inv-loop μ-loop
 entered c = c .before .before .before .before .before
 
 -- ── What is known there ──
@@ -253,8 +253,8 @@ loop2-again c =
           (m .loop2 .s) (m .loop2 .next-inline) (m .loop2 .current-address) (words-at m g) (m .loop2 .inv .2 X g) (o .before .if2 .left) (o .if3 .left)
           (p .before .before .word .result) (p .before .before .word .ensures) (words-self p g) (p .insert-self-range .ensures (t .1 .0) (t .1 .1 .0) (t .1 .1 .1 .0) g (m .loop2 .call-locations)) (v .if4 .left)
           (u .word2 .result) (k .insert-call-location .result .index)
-          (words (k .insert-call-location .result .state) (t .1 .0) (t .1 .1 .0) (t .1 .1 .1 .0) g (k .insert-call-location .last .1 .0) (p .insert-self-range .last .1 .0)) (z .set-word .last .0)
-          (u .word2 .ensures) (k .insert-call-location .ensures (t .1 .0) (t .1 .1 .0) (t .1 .1 .1 .0) g (p .insert-self-range .last .1 .0)) (z .set-word .ensures),
+          (words (k .insert-call-location .result .state) (t .1 .0) (t .1 .1 .0) (t .1 .1 .1 .0) g (k .insert-call-location .last .1 .0) (p .insert-self-range .last .1 .0)) (z .put .last .0)
+          (u .word2 .ensures) (k .insert-call-location .ensures (t .1 .0) (t .1 .1 .0) (t .1 .1 .1 .0) g (p .insert-self-range .last .1 .0)) (z .put .ensures),
     )
 
 -- the line is at its end

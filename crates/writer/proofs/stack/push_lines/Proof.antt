@@ -21,7 +21,7 @@ abbrev μ-loop : tie.MeasureT-loop
 abbrev start : tie.At-loop Inv-loop μ-loop → tie.Start Inv-loop μ-loop
 start c = c .before .before .before .before
 
-abbrev bounded : tie.After-set-word Inv-loop μ-loop → tie.After-line-boundaries Inv-loop μ-loop
+abbrev bounded : tie.After-put Inv-loop μ-loop → tie.After-line-boundaries Inv-loop μ-loop
 bounded c = c .before .before
 
 loop-holds : tie.Need-loop-holds Inv-loop μ-loop
@@ -31,17 +31,17 @@ loop-holds c =
 
 loop-again : tie.Need-loop-again Inv-loop μ-loop
 loop-again c =
-    let two = c .before .before .set-word2 in
+    let two = c .before .before .put2 in
     let one = c .before .before .before .before .before .before in
     let b = bounded one in
     let m = b .before .before .before in
     let a = start m .args in
     let l = m .loop in (
       omega arith,
-      two .kept .0 ∙ one .set-word .kept .0 ∙ l .inv .1,
+      two .kept .0 ∙ one .put .kept .0 ∙ l .inv .1,
       λ f g t.
           line-pushed (columns f g (a .lines64 .now) (a .lines32 .now) t) (a .first) (a .count) (a .at) (a .s .now) (l .s) _ _ (l .i) _ _ (b .before .line-row .ensures) (b .line-boundaries .ensures)
-          (one .set-word .ensures) (two .ensures) (b .before .before .loop-test .taken) (l .inv .2 f g t),
+          (one .put .ensures) (two .ensures) (b .before .before .loop-test .taken) (l .inv .2 f g t),
     )
 
 returns : tie.Need-returns Inv-loop μ-loop

@@ -4,10 +4,10 @@ use borrow.Author.Needs.{needs}
 use Rattle.writer.proofs.stack.set_calls.Statement.{statement}
 use Rattle.writer.proofs.stack.set_calls.Tie as tie
 
-abbrev stored : tie.After-set-word2 → tie.After-set-word
+abbrev stored : tie.After-put2 → tie.After-put
 stored c = c .before .before .before .before
 
-abbrev third : tie.After-slice-known5 → tie.After-set-word3
+abbrev third : tie.After-slice-known5 → tie.After-put3
 third c = c .before .before .before .before .before .before
 
 returns : tie.Need-returns
@@ -15,7 +15,7 @@ returns c =
     let two = third c .before .before .before .before in
     let one = stored two in
     let a = one .before .before .before .args in
-    calls-stored (a .s .now) _ _ _ _ (a .d) (a .start) (a .len) (one .set-word .ensures) (two .set-word2 .ensures) (third c .set-word3 .ensures) (c .before .before .set-word4 .ensures)
+    calls-stored (a .s .now) _ _ _ _ (a .d) (a .start) (a .len) (one .put .ensures) (two .put2 .ensures) (third c .put3 .ensures) (c .before .before .put4 .ensures)
 
 pub set-calls-spec : {M : Type 1} → statement M
 set-calls-spec =
