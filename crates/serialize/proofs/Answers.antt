@@ -13,8 +13,9 @@ use Rattle.model.proofs.Chains.{both-true}
 use Rattle.tables.specs.Table.{capacityOf}
 use Rattle.tables.specs.Strings.{textCapacityOf}
 use Rattle.tables.proofs.Room.{cap-most, text-room}
-use Rattle.memory.specs.Memory.{Memory}
-use Rattle.memory.specs.Record.{fits?}
+use Rattle.memory.specs.Memory.{Memory, lent}
+use Rattle.memory.specs.Record.{fitsIn, usableIn, usable?}
+use Rattle.memory.specs.declared.Lengths.{Lengths}
 use Rattle.memory.specs.declared.LastAddr.{LastAddr}
 use Rattle.memory.specs.declared.LastAddr.the-variants.{Unset, Set}
 use Rattle.memory.specs.declared.Converter.{Converter}
@@ -29,20 +30,25 @@ pub record Counts (c : Converter) (m : Memory) : Type 0 where
   pub calls : c .state .«call_locations» ≤ 16777216
   pub ranges : c .state .ranges ≤ 16777216
 
-pub counts : (c : Converter) (m : Memory) (b : Bool) → b ≡ fits? (record { st = c .state; mm = m }) → not b ≡ false → Counts c m
-unfolding fits?
-counts c m b e h =
+-- the test on lengths is the one on the tables
+usable-is : (c : Converter) (m : Memory) {l : Lengths} → l ≡ lent m → (b : Bool) → b ≡ usableIn c l → not b ≡ false → usable? c m ≡ true
+usable-is c m g b e h = sym (e ∙ ap (λ (l : Lengths). usableIn c l) g) ∙ not-false b h
+
+pub counts : (c : Converter) (m : Memory) {l : Lengths} → l ≡ lent m → (b : Bool) → b ≡ usableIn c l → not b ≡ false → Counts c m
+unfolding usableIn fitsIn
+counts c m g b e h =
     let st = c .state in
     let x = leb (st .«string_bytes») (textCapacityOf (length (m .text))) in
     let i = leb (st .strings) (capacityOf (length (m .strings))) in
     let f = leb (st .files) (capacityOf (length (m .files))) in
-    let g = leb (st .functions) (capacityOf (length (m .functions))) in
+    let n = leb (st .functions) (capacityOf (length (m .functions))) in
     let k = leb (st .«call_locations») (capacityOf (length (m .calls))) in
     let r = leb (st .ranges) (capacityOf (length (m .ranges))) in
-    let p₁ : (x ≡ true) × ((i && (f && (g && (k && r)))) ≡ true) = both-true x (i && (f && (g && (k && r)))) (sym e ∙ not-false b h) in
-    let p₂ : (i ≡ true) × ((f && (g && (k && r))) ≡ true) = both-true i (f && (g && (k && r))) (p₁ .1) in
-    let p₃ : (f ≡ true) × ((g && (k && r)) ≡ true) = both-true f (g && (k && r)) (p₂ .1) in
-    let p₄ : (g ≡ true) × ((k && r) ≡ true) = both-true g (k && r) (p₃ .1) in
+    let p₀ = both-true (c .open) (x && (i && (f && (n && (k && r))))) (usable-is c m g b e h) in
+    let p₁ : (x ≡ true) × ((i && (f && (n && (k && r)))) ≡ true) = both-true x (i && (f && (n && (k && r)))) (p₀ .1) in
+    let p₂ : (i ≡ true) × ((f && (n && (k && r))) ≡ true) = both-true i (f && (n && (k && r))) (p₁ .1) in
+    let p₃ : (f ≡ true) × ((n && (k && r)) ≡ true) = both-true f (n && (k && r)) (p₂ .1) in
+    let p₄ : (n ≡ true) × ((k && r) ≡ true) = both-true n (k && r) (p₃ .1) in
     let p₅ : (k ≡ true) × (r ≡ true) = both-true k r (p₄ .1) in
     record {
       texts = le-trans (leb-true (st .«string_bytes») (textCapacityOf (length (m .text))) (p₁ .0)) (text-room (length (m .text)) .fits);
@@ -54,52 +60,45 @@ sentinel-few : (end : LastAddr) (n : ℕ) → length (sentinel end n) ≤ 1
 sentinel-few Unset n = omega arith
 sentinel-few (Set a) n = omega arith
 
--- the definition, over the tests and the file
-abbrev answer : Bool → Bool → List ℕ → List ℕ → Wrote
-answer opened fits file s =
-    cond (opened && fits) (cond (leb (length file) (length s)) (wrote 0 (length file) (file ++ drop (length file) s)) (wrote 18 0 s)) (wrote 19 0 s)
+-- the definition, over the test and the file
+abbrev answer : Bool → List ℕ → List ℕ → Wrote
+answer usable file s = cond usable (cond (leb (length file) (length s)) (wrote 0 (length file) (file ++ drop (length file) s)) (wrote 18 0 s)) (wrote 19 0 s)
 
-module _ (o b : Bool) (file s : List ℕ) where
-  closed-answer : o ≡ false → wrote 19 0 s ≡ answer o b file s
+module _ (b : Bool) (file s : List ℕ) where
+  closed-answer : b ≡ false → wrote 19 0 s ≡ answer b file s
   closed-answer h = rw h
 
-  over-answer : o ≡ true → b ≡ false → wrote 19 0 s ≡ answer o b file s
-  over-answer h f = rw (h, f)
+  short-answer : b ≡ true → length s < length file → wrote 18 0 s ≡ answer b file s
+  short-answer h k = rw (h, lt-leb (length file) (length s) k)
 
-  short-answer : o ≡ true → b ≡ true → length s < length file → wrote 18 0 s ≡ answer o b file s
-  short-answer h f k = rw (h, f, lt-leb (length file) (length s) k)
+  done-answer : b ≡ true → length file ≤ length s → (r : List ℕ) → r ≡ sets s 0 file → wrote 0 (length file) r ≡ answer b file s
+  done-answer h k r e = rw (h, le-leb (length file) (length s) k, e, sets-eq file s 0 (omega arith), zero-add)
 
-  done-answer : o ≡ true → b ≡ true → length file ≤ length s → (r : List ℕ) → r ≡ sets s 0 file → wrote 0 (length file) r ≡ answer o b file s
-  done-answer h f k r e = rw (h, f, le-leb (length file) (length s) k, e, sets-eq file s 0 (omega arith), zero-add)
-
-module _ (c : Converter) (m : Memory) (s : List ℕ) where
-  is-answer : serializeOf c m s ≡ answer (c .open) (fits? (record { st = c .state; mm = m })) (written-file c m) s
+module _ (c : Converter) (m : Memory) (s : List ℕ) {l : Lengths} (g : l ≡ lent m) (b : Bool) (e-usable : b ≡ usableIn c l) where
+  is-answer : serializeOf c m s ≡ answer (usable? c m) (written-file c m) s
   unfolding serializeOf
   is-answer = refl
 
-  pub closed : not (c .open) ≡ true → wrote 19 0 s ≡ serializeOf c m s
-  closed h = closed-answer (c .open) (fits? (record { st = c .state; mm = m })) (written-file c m) s (not-true (c .open) h) ∙ sym is-answer
+  pub closed : not b ≡ true → wrote 19 0 s ≡ serializeOf c m s
+  closed h =
+      closed-answer (usable? c m) (written-file c m) s (sym (e-usable ∙ ap (λ (l : Lengths). usableIn c l) g) ∙ not-true b h) ∙ sym is-answer
 
-  pub over : not (c .open) ≡ false → (b : Bool) → b ≡ fits? (record { st = c .state; mm = m }) → not b ≡ true → wrote 19 0 s ≡ serializeOf c m s
-  over h b e f = over-answer (c .open) (fits? (record { st = c .state; mm = m })) (written-file c m) s (not-false (c .open) h) (sym e ∙ not-true b f) ∙ sym is-answer
+  module _ (id : length (c .«debug_id») ≡ 32) (usable : not b ≡ false) (end : LastAddr) (e-end : end ≡ vacant-end (c .state .«last_addr») (m .ranges) (c .state .ranges))
+      (n : ℕ) (e-n : n ≡ c .state .ranges + length (sentinel end (c .state .ranges))) (at : Layout) (e-at : at ≡ layout-of (c .state) n) where
+    len : length (written-file c m) ≡ at .len
+    len = written-length c m id n (length-ranges c m ∙ sym (rw e-end at e-n)) at (laid (c .state) n at e-at) (counts c m g b e-usable usable .texts)
 
-module _ (c : Converter) (m : Memory) (s : List ℕ) (id : length (c .«debug_id») ≡ 32) (opened : not (c .open) ≡ false) (b : Bool) (e-fits : b ≡ fits? (record { st = c .state; mm = m })) (fits : not b ≡ false)
-    (end : LastAddr) (e-end : end ≡ vacant-end (c .state .«last_addr») (m .ranges) (c .state .ranges)) (n : ℕ) (e-n : n ≡ c .state .ranges + length (sentinel end (c .state .ranges)))
-    (at : Layout) (e-at : at ≡ layout-of (c .state) n) where
-  len : length (written-file c m) ≡ at .len
-  len = written-length c m id n (length-ranges c m ∙ sym (rw e-end at e-n)) at (laid (c .state) n at e-at) (counts c m b e-fits fits .texts)
+    pub short : length s < at .len → wrote 18 0 s ≡ serializeOf c m s
+    short h = short-answer (usable? c m) (written-file c m) s (usable-is c m g b e-usable usable) (rw len h) ∙ sym is-answer
 
-  pub short : length s < at .len → wrote 18 0 s ≡ serializeOf c m s
-  short h = short-answer (c .open) (fits? (record { st = c .state; mm = m })) (written-file c m) s (not-false (c .open) opened) (sym e-fits ∙ not-false b fits) (rw len h) ∙ sym (is-answer c m s)
+    pub ready : at .len ≤ length s → Ready c (m .ranges) end n (length (m .text)) (length s)
+    ready h =
+        let k = counts c m g b e-usable usable in
+        let few : length (sentinel end (c .state .ranges)) ≤ 1 = sentinel-few end (c .state .ranges) in
+        record { last = e-end; size = e-n; calls = omega arith; texts-there = k .texts; room = rw e-at at h }
 
-  pub ready : at .len ≤ length s → Ready c (m .ranges) end n (length (m .text)) (length s)
-  ready h =
-      let k = counts c m b e-fits fits in
-      let few : length (sentinel end (c .state .ranges)) ≤ 1 = sentinel-few end (c .state .ranges) in
-      record { last = e-end; size = e-n; calls = omega arith; texts-there = k .texts; room = rw e-at at h }
-
-  pub done : at .len ≤ length s → (r : List ℕ) → r ≡ sets s 0 (written-file c m) → wrote 0 (at .len) r ≡ serializeOf c m s
-  done h r e =
-      ap (λ (l : ℕ). wrote 0 l r) (sym len)
-      ∙ done-answer (c .open) (fits? (record { st = c .state; mm = m })) (written-file c m) s (not-false (c .open) opened) (sym e-fits ∙ not-false b fits) (rw len h) r e
-      ∙ sym (is-answer c m s)
+    pub done : at .len ≤ length s → (r : List ℕ) → r ≡ sets s 0 (written-file c m) → wrote 0 (at .len) r ≡ serializeOf c m s
+    done h r e =
+        ap (λ (l : ℕ). wrote 0 l r) (sym len)
+        ∙ done-answer (usable? c m) (written-file c m) s (usable-is c m g b e-usable usable) (rw len h) r e
+        ∙ sym is-answer

@@ -12,7 +12,7 @@ use Rattle.raw.specs.Head.{version-info, header, padding}
 use Rattle.raw.specs.declared.Header.{Header}
 use Rattle.tables.specs.Table.{rowsOf}
 use Rattle.memory.specs.Memory.{Memory}
-use Rattle.memory.specs.Record.{fits?}
+use Rattle.memory.specs.Record.{usable?}
 use Rattle.memory.specs.declared.LastAddr.{LastAddr}
 use Rattle.memory.specs.declared.State.{State}
 use Rattle.memory.specs.declared.Converter.{Converter}
@@ -64,7 +64,7 @@ wrote n l o = record { code = n; len = l; output = o }
 -- "Writing: 19, 18"; "Output beyond the written file keeps its content". A refusal answers length 0
 unfoldable pub serializeOf : Converter → Memory → List ℕ → Wrote
 serializeOf c m out =
-    cond (c .open && fits? (record { st = c .state; mm = m }))
+    cond (usable? c m)
     (cond (leb (length (written-file c m)) (length out)) (wrote 0 (length (written-file c m)) (written-file c m ++ drop (length (written-file c m)) out)) (wrote 18 0 out))
     (wrote 19 0 out)
 

@@ -6,6 +6,8 @@ use raw::VersionInfo;
 use memory::Converter;
 use memory::LastAddr;
 use memory::State;
+use memory::is_usable;
+use memory::lent;
 use tables::kinds::call_of_row;
 use tables::kinds::file_of_row;
 use tables::kinds::function_of_row;
@@ -27,6 +29,9 @@ ghost use Rattle.raw.specs.Head.{version-info, padding};
 ghost use Rattle.memory.specs.Memory.{memory};
 ghost use Rattle.serialize.specs.File.{header-of, layout-of, written-file, Ready, wrote, serializeOf};
 
+// Document 01's number for an output that is shorter than the file.
+const OUTPUT_TOO_SHORT: u32 = 18;
+
 // What writing answers: document 01's number, 0 for success, and the file's length.
 pub struct Written {
     pub code: u32,
@@ -47,19 +52,19 @@ pub fn serialize(
     ensures { λ r. ⌜ wrote (r .code) (r .len) (now (out .exit)) ≡ serializeOf converter (memory (now («string_bytes» .entry)) (now (strings .entry)) (now (files .entry)) (now (functions .entry)) (now («call_locations» .entry)) (now (ranges .entry))) (now (out .entry)) ⌝ }
 {
     let state = converter.state;
-    if !converter.open {
-        return Written { code: 19, len: 0 };
-    }
-    if !steps::fits(
-        state,
+    let tables = lent(
         string_bytes,
         strings,
         files,
         functions,
         call_locations,
         ranges,
-    ) {
-        return Written { code: 19, len: 0 };
+    );
+    if !is_usable(converter, tables) {
+        return Written {
+            code: memory::CLOSED,
+            len: 0,
+        };
     }
     let last = state.last_addr;
     let end = vacant_end(last, ranges, state.ranges);
@@ -67,7 +72,10 @@ pub fn serialize(
     let at = lay_out(state, all);
     let len = at.len;
     if out.len() < len {
-        return Written { code: 18, len: 0 };
+        return Written {
+            code: OUTPUT_TOO_SHORT,
+            len: 0,
+        };
     }
     write_sections(
         out,

@@ -1,6 +1,6 @@
 -- What the calls do after their tests, in the words of their definitions.
-use mathlib.Core.Path.{_≡_, refl, sym, _∙_, ap}
-use mathlib.Core.Bool.{Bool, true, false, not}
+use mathlib.Core.Path.{_≡_, sym, _∙_, ap}
+use mathlib.Core.Bool.{Bool, true, false}
 use mathlib.Core.List.{List, []}
 use Prim.Native.Nat.{ℕ}
 use lib.ListN.{length, replicate}
@@ -19,16 +19,6 @@ use Rattle.steps.specs.Steps.{over-words}
 use Rattle.writer.specs.Calls.{Called, called, setup, finished, rows-converted, treeOf, symbolOf}
 use Rattle.slices.specs.Slices.{zeros}
 use Rattle.steps.specs.Symbols.{symbolRow}
-
--- ── A test that is denied ─────────────────────────────────────────────────────────────────────────────────────────────
-
-pub denied : {b : Bool} → not b ≡ true → b ≡ false
-denied {b = true} h = sym h
-denied {b = false} h = refl
-
-pub granted : {b : Bool} → not b ≡ false → b ≡ true
-granted {b = true} h = refl
-granted {b = false} h = sym h
 
 -- ── The end of a call ──────────────────────────────────────────────────────────────────────────────────────────────────
 

@@ -2,8 +2,9 @@
 use mathlib.Core.Path.{_∙_}
 use Rattle.memory.specs.Memory.{memory, words}
 use Rattle.rows.specs.Columns.{columns}
-use Rattle.writer.proofs.CallLaws.{denied, granted, tree-taken, tree-refused, tree-closed}
+use Rattle.writer.proofs.CallLaws.{tree-taken, tree-refused, tree-closed}
 use borrow.Author.Needs.{needs}
+use borrow.Author.Tests.{not-true, not-false}
 use Rattle.writer.proofs.calls.process_symbolic_function.Statement.{statement}
 use Rattle.writer.proofs.calls.process_symbolic_function.Tie as tie
 
@@ -11,13 +12,13 @@ returns : tie.Need-returns
 returns c =
     let a = c .before .before .before .before .before .before .before .before .before .before .before .before .before .before .before .before .before .before .before .before .before .args in
     tree-closed (a .converter) (memory (a .string-bytes .now) (a .strings .now) (a .files .now) (a .functions .now) (a .call-locations .now) (a .ranges .now)) (a .scratch .now) (columns (a .functions64 .now) (a .functions32 .now) (a .lines64 .now) (a .lines32 .now) (a .text .now))
-    (c .before .before .lent .ensures) (c .before .is-usable .ensures) (denied (c .if1 .taken))
+    (c .before .before .lent .ensures) (c .before .is-usable .ensures) (not-true _ (c .if1 .taken))
 
 returns-2 : tie.Need-returns-2
 returns-2 c =
     let a = c .before .before .before .before .before .before .before .before .before .before .before .before .before .before .before .before .before .before .before .before .before .before .before .args in
     tree-refused (a .converter) (memory (a .string-bytes .now) (a .strings .now) (a .files .now) (a .functions .now) (a .call-locations .now) (a .ranges .now)) (a .scratch .now) (columns (a .functions64 .now) (a .functions32 .now) (a .lines64 .now) (a .lines32 .now) (a .text .now))
-    (c .before .before .before .before .lent .ensures) (c .before .before .before .is-usable .ensures) (granted (c .before .before .if1 .left)) (c .before .refusal .ensures) (c .if2 .taken)
+    (c .before .before .before .before .lent .ensures) (c .before .before .before .is-usable .ensures) (not-false _ (c .before .before .if1 .left)) (c .before .refusal .ensures) (c .if2 .taken)
 
 same-length-13 : tie.Need-same-length-13
 same-length-13 c = c .before .before .before .before .before .before .before .before .before .before .before .before .finish .kept .1 .1 .0 ∙ c .before .before .before .before .before .before .before .before .before .before .before .before .before .before .before .before .before .before .before .before .before .before .before .before .before .before .before .before .before .before .before .before .before .before .before .before .before .process-tree .kept .1 .1 .0
@@ -47,7 +48,7 @@ returns-3 c =
     let z = c .before .before .before .before .before .before .before .before .before .before .before .before .before .before .before .before .before .before .before .before .before .zero in
     let f = c .before .before .before .before .before .before .before .before .before .before .before .before .finish in
     tree-taken (a .converter) (memory (a .string-bytes .now) (a .strings .now) (a .files .now) (a .functions .now) (a .call-locations .now) (a .ranges .now)) (a .scratch .now) (columns (a .functions64 .now) (a .functions32 .now) (a .lines64 .now) (a .lines32 .now) (a .text .now))
-    (c .before .before .before .before .before .before .before .before .before .before .before .before .before .before .before .before .before .before .before .before .before .before .before .before .before .before .before .before .before .before .before .before .before .before .before .before .before .before .before .before .before .before .before .before .before .before .before .before .before .lent .ensures) (c .before .before .before .before .before .before .before .before .before .before .before .before .before .before .before .before .before .before .before .before .before .before .before .before .before .before .before .before .before .before .before .before .before .before .before .before .before .before .before .before .before .before .before .before .before .before .before .before .is-usable .ensures) (granted (c .before .before .before .before .before .before .before .before .before .before .before .before .before .before .before .before .before .before .before .before .before .before .before .before .before .before .before .before .before .before .before .before .before .before .before .before .before .before .before .before .before .before .before .before .before .before .before .if1 .left)) (c .before .before .before .before .before .before .before .before .before .before .before .before .before .before .before .before .before .before .before .before .before .before .before .before .before .before .before .before .before .before .before .before .before .before .before .before .before .before .before .before .before .before .before .before .before .before .refusal .ensures) (c .before .before .before .before .before .before .before .before .before .before .before .before .before .before .before .before .before .before .before .before .before .before .before .before .before .before .before .before .before .before .before .before .before .before .before .before .before .before .before .before .before .before .before .before .before .if2 .left)
+    (c .before .before .before .before .before .before .before .before .before .before .before .before .before .before .before .before .before .before .before .before .before .before .before .before .before .before .before .before .before .before .before .before .before .before .before .before .before .before .before .before .before .before .before .before .before .before .before .before .before .lent .ensures) (c .before .before .before .before .before .before .before .before .before .before .before .before .before .before .before .before .before .before .before .before .before .before .before .before .before .before .before .before .before .before .before .before .before .before .before .before .before .before .before .before .before .before .before .before .before .before .before .before .is-usable .ensures) (not-false _ (c .before .before .before .before .before .before .before .before .before .before .before .before .before .before .before .before .before .before .before .before .before .before .before .before .before .before .before .before .before .before .before .before .before .before .before .before .before .before .before .before .before .before .before .before .before .before .before .if1 .left)) (c .before .before .before .before .before .before .before .before .before .before .before .before .before .before .before .before .before .before .before .before .before .before .before .before .before .before .before .before .before .before .before .before .before .before .before .before .before .before .before .before .before .before .before .before .before .before .refusal .ensures) (c .before .before .before .before .before .before .before .before .before .before .before .before .before .before .before .before .before .before .before .before .before .before .before .before .before .before .before .before .before .before .before .before .before .before .before .before .before .before .before .before .before .before .before .before .before .if2 .left)
     {w = words (p .result) (p .last .1 .1 .0) (p .last .1 .1 .1 .0) (p .last .1 .1 .1 .1 .0) (p .last .1 .1 .1 .1 .1 .0) (p .last .1 .1 .1 .1 .1 .1 .0) (p .last .1 .1 .1 .1 .1 .1 .1 .0)} (p .ensures (a .converter .«undecorate_symbols»))
     (p .last .1 .1 .1 .1 .1 .1 .1 .1 .0) (p .kept .1 .1 .1 .1 .1 .1 .1 .1 .0) {s₂ = z .last .0} (z .ensures)
     {n = f .result .code} {c₂ = f .result .converter} {m₂ = memory (f .last .1 .1 .0) (f .last .1 .1 .1 .0) (f .last .1 .1 .1 .1 .0) (f .last .1 .1 .1 .1 .1 .0) (f .last .1 .1 .1 .1 .1 .1 .0) (f .last .1 .1 .1 .1 .1 .1 .1 .0)} (f .ensures (a .scratch .now))

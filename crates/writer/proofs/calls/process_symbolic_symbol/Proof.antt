@@ -2,8 +2,9 @@
 use mathlib.Core.List.{[]}
 use Rattle.memory.specs.Memory.{memory, words}
 use Rattle.writer.specs.Calls.{called}
-use Rattle.writer.proofs.CallLaws.{denied, granted, symbol-taken, symbol-unreadable, symbol-closed}
+use Rattle.writer.proofs.CallLaws.{symbol-taken, symbol-unreadable, symbol-closed}
 use borrow.Author.Needs.{needs}
+use borrow.Author.Tests.{not-true, not-false}
 use Rattle.writer.proofs.calls.process_symbolic_symbol.Statement.{statement}
 use Rattle.writer.proofs.calls.process_symbolic_symbol.Tie as tie
 
@@ -11,13 +12,13 @@ returns : tie.Need-returns
 returns c =
     let a = c .before .before .before .before .before .before .before .before .before .before .before .before .before .before .before .before .args in
     symbol-closed (a .converter) (memory (a .string-bytes .now) (a .strings .now) (a .files .now) (a .functions .now) (a .call-locations .now) (a .ranges .now)) (a .text .now) (a .address) (a .size) (a .name)
-    (c .before .before .lent .ensures) (c .before .is-usable .ensures) (denied (c .if1 .taken))
+    (c .before .before .lent .ensures) (c .before .is-usable .ensures) (not-true _ (c .if1 .taken))
 
 returns-2 : tie.Need-returns-2
 returns-2 c =
     let a = c .before .before .before .before .before .before .before .before .before .before .before .before .before .before .before .before .before .before .args in
     symbol-unreadable (a .converter) (memory (a .string-bytes .now) (a .strings .now) (a .files .now) (a .functions .now) (a .call-locations .now) (a .ranges .now)) (a .text .now) (a .address) (a .size) (a .name)
-    (c .before .before .before .before .lent .ensures) (c .before .before .before .is-usable .ensures) (granted (c .before .before .if1 .left)) (c .before .is-readable .ensures) (denied (c .if2 .taken))
+    (c .before .before .before .before .lent .ensures) (c .before .before .before .is-usable .ensures) (not-false _ (c .before .before .if1 .left)) (c .before .is-readable .ensures) (not-true _ (c .if2 .taken))
 
 returns-3 : tie.Need-returns-3
 returns-3 c =
@@ -25,7 +26,7 @@ returns-3 c =
     let p = c .before .before .before .before .before .before .before .before .before .before .before .before .before .before .before .before .before .before .before .before .before .before .before .before .before .before .before .process-symbol in
     let f = c .before .before .before .before .before .before .before .before .before .before .before .before .finish in
     symbol-taken (a .converter) (memory (a .string-bytes .now) (a .strings .now) (a .files .now) (a .functions .now) (a .call-locations .now) (a .ranges .now)) (a .text .now) (a .address) (a .size) (a .name)
-    (c .before .before .before .before .before .before .before .before .before .before .before .before .before .before .before .before .before .before .before .before .before .before .before .before .before .before .before .before .before .before .before .before .before .before .before .before .lent .ensures) (c .before .before .before .before .before .before .before .before .before .before .before .before .before .before .before .before .before .before .before .before .before .before .before .before .before .before .before .before .before .before .before .before .before .before .before .is-usable .ensures) (granted (c .before .before .before .before .before .before .before .before .before .before .before .before .before .before .before .before .before .before .before .before .before .before .before .before .before .before .before .before .before .before .before .before .before .before .if1 .left)) (c .before .before .before .before .before .before .before .before .before .before .before .before .before .before .before .before .before .before .before .before .before .before .before .before .before .before .before .before .before .before .before .before .before .is-readable .ensures) (granted (c .before .before .before .before .before .before .before .before .before .before .before .before .before .before .before .before .before .before .before .before .before .before .before .before .before .before .before .before .before .before .before .before .if2 .left))
+    (c .before .before .before .before .before .before .before .before .before .before .before .before .before .before .before .before .before .before .before .before .before .before .before .before .before .before .before .before .before .before .before .before .before .before .before .before .lent .ensures) (c .before .before .before .before .before .before .before .before .before .before .before .before .before .before .before .before .before .before .before .before .before .before .before .before .before .before .before .before .before .before .before .before .before .before .before .is-usable .ensures) (not-false _ (c .before .before .before .before .before .before .before .before .before .before .before .before .before .before .before .before .before .before .before .before .before .before .before .before .before .before .before .before .before .before .before .before .before .before .if1 .left)) (c .before .before .before .before .before .before .before .before .before .before .before .before .before .before .before .before .before .before .before .before .before .before .before .before .before .before .before .before .before .before .before .before .before .is-readable .ensures) (not-false _ (c .before .before .before .before .before .before .before .before .before .before .before .before .before .before .before .before .before .before .before .before .before .before .before .before .before .before .before .before .before .before .before .before .if2 .left))
     {w = words (p .result) (p .last .1 .1 .0) (p .last .1 .1 .1 .0) (a .files .now) (p .last .1 .1 .1 .1 .0) (a .call-locations .now) (p .last .1 .1 .1 .1 .1 .0)}
     {l = called (f .result .code) (f .result .converter) (memory (f .last .1 .1 .0) (f .last .1 .1 .1 .0) (f .last .1 .1 .1 .1 .0) (f .last .1 .1 .1 .1 .1 .0) (f .last .1 .1 .1 .1 .1 .1 .0) (f .last .1 .1 .1 .1 .1 .1 .1 .0)) []}
     (p .ensures (a .converter .«undecorate_functions») (a .files .now) (a .call-locations .now)) (f .ensures [])
