@@ -1,4 +1,5 @@
--- The written file, and what writing answers: document 01 "Writer" and "Who causes which number"; writer.rs, `serialize`. For any record and any content of the tables.
+-- The written file, and what writing answers: document 01 "Writer" and "Who causes which number"; writer.rs, `serialize`. For any record and any content of the
+-- tables.
 use Prim.Native.Nat.{ℕ, _+_, _*_, _%_, _<_, _≤_}
 use mathlib.Core.Bool.{cond, _&&_}
 use mathlib.Core.Path.{_≡_}
@@ -16,6 +17,7 @@ use Rattle.memory.specs.Record.{usable?}
 use Rattle.memory.specs.declared.LastAddr.{LastAddr}
 use Rattle.memory.specs.declared.State.{State}
 use Rattle.memory.specs.declared.Converter.{Converter}
+use Rattle.serialize.specs.Sections.{head-size, file-size, function-size, location-size, range-size}
 use Rattle.serialize.specs.Sections.{file-row, function-row, call-row, vacant-end, sentinel, in-order, location-row, start-row}
 use Rattle.serialize.specs.declared.Layout.{Layout}
 
@@ -38,17 +40,17 @@ written-file c m =
     ++ (tableBytes function-row (rowsOf (m .functions) (c .state .functions))
     ++ (tableBytes call-row (rowsOf (m .calls) (c .state .«call_locations»))
     ++ (tableBytes (location-row (m .ranges) (c .state .ranges)) ps
-    ++ (tableBytes start-row ps ++ (padding (length ps * 4) ++ take (c .state .«string_bytes») (m .text))))))))
+    ++ (tableBytes start-row ps ++ (padding (length ps * range-size) ++ take (c .state .«string_bytes») (m .text))))))))
 
--- where the sections begin in a file with n ranges, and its length; the files begin at 80
+-- where the sections begin in a file with n ranges, and its length; the files follow the head, and four zeros an odd number of range starts
 unfoldable pub layout-of : State → ℕ → Layout
 layout-of st n =
-    let functions = 80 + st .files * 24 in
-    let calls = functions + st .functions * 16 in
-    let locations = calls + st .«call_locations» * 16 in
-    let starts = locations + n * 16 in
-    let texts = starts + n * 4 + n % 2 * 4 in
-    record { functions = functions; «call_locations» = calls; locations = locations; padding = starts + n * 4; texts = texts; len = texts + st .«string_bytes» }
+    let functions = head-size + st .files * file-size in
+    let calls = functions + st .functions * function-size in
+    let locations = calls + st .«call_locations» * location-size in
+    let padding = locations + n * location-size + n * range-size in
+    let texts = padding + n % 2 * 4 in
+    record { functions = functions; «call_locations» = calls; locations = locations; padding = padding; texts = texts; len = texts + st .«string_bytes» }
 
 -- ── The call ───────────────────────────────────────────────────────────────────────────────────────────────────────────
 
@@ -65,7 +67,9 @@ wrote n l o = record { code = n; len = l; output = o }
 unfoldable pub serializeOf : Converter → Memory → List ℕ → Wrote
 serializeOf c m out =
     cond (usable? c m)
-    (cond (leb (length (written-file c m)) (length out)) (wrote 0 (length (written-file c m)) (written-file c m ++ drop (length (written-file c m)) out)) (wrote 18 0 out))
+    (cond (leb (length (written-file c m)) (length out))
+    (wrote 0 (length (written-file c m)) (written-file c m ++ drop (length (written-file c m)) out))
+    (wrote 18 0 out))
     (wrote 19 0 out)
 
 -- ── What a private function's contract cites ───────────────────────────────────────────────────────────────────────────

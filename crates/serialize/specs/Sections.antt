@@ -1,4 +1,5 @@
--- The sections of the written file: rows of the lent tables as rows of the file. Document 01 "Rows" and "Writer"; writer.rs, `serialize`. For any content of the tables.
+-- The sections of the written file: rows of the lent tables as rows of the file, for any content of the tables. Document 01 "Rows" and "Writer"; writer.rs,
+-- `serialize`.
 use Prim.Native.Nat.{ℕ, zero, suc, _+_}
 use mathlib.Core.Bool.{cond}
 use mathlib.Core.List.{List, [], _∷_, _++_}
@@ -15,6 +16,29 @@ use Rattle.tables.specs.declared.ranges.Found.{Found}
 use Rattle.tables.specs.declared.ranges.Found.the-variants.{Absent, At}
 use Rattle.memory.specs.declared.LastAddr.{LastAddr}
 use Rattle.memory.specs.declared.LastAddr.the-variants.{Unset, Set}
+
+-- ── Sizes, in bytes ────────────────────────────────────────────────────────────────────────────────────────────────────
+
+-- magic, version and header
+abbrev pub head-size : ℕ
+head-size = 80
+
+-- "File 24 bytes, function 16, location 16, range 4"
+abbrev pub file-size : ℕ
+file-size = 24
+
+abbrev pub function-size : ℕ
+function-size = 16
+
+abbrev pub location-size : ℕ
+location-size = 16
+
+abbrev pub range-size : ℕ
+range-size = 4
+
+-- an entry, while the ranges are sorted
+abbrev pub entry-size : ℕ
+entry-size = 8
 
 -- ── Files, functions, call locations ───────────────────────────────────────────────────────────────────────────────────
 

@@ -21,9 +21,11 @@ ghost use lib.ListN.{length, take};
 ghost use lib.Seq.{sets};
 ghost use Rattle.model.specs.Basics.{sort};
 ghost use Rattle.slices.specs.Bytes.{Words32, tableBytes};
-ghost use Rattle.tables.specs.Table.{rowsOf};
+ghost use Rattle.tables.specs.Table.{maxRows, rowsOf};
 ghost use Rattle.sorting.specs.Pairs.{pairWords};
-ghost use Rattle.serialize.specs.Sections.{file-row, function-row, call-row, entries, entry-row, entries-at, entry-location, range-sections, vacant-end, sentinel};
+ghost use Rattle.serialize.specs.Sections.{file-size, function-size, location-size, range-size, entry-size};
+ghost use Rattle.serialize.specs.Sections.{file-row, function-row, call-row, entries, entry-row, entries-at};
+ghost use Rattle.serialize.specs.Sections.{entry-location, range-sections, vacant-end, sentinel};
 ghost use Rattle.raw.specs.Rows.{versionInfoBytes, headerBytes};
 ghost use Rattle.raw.specs.Head.{version-info, padding};
 ghost use Rattle.memory.specs.Memory.{memory};
@@ -31,6 +33,20 @@ ghost use Rattle.serialize.specs.File.{header-of, layout-of, written-fil
 
 // Document 01's number for an output that is shorter than the file.
 const OUTPUT_TOO_SHORT: u32 = 18;
+
+// Magic, version and header; then the rows, of these sizes in bytes.
+const HEAD_SIZE: usize = 80;
+
+const FILE_SIZE: usize = 24;
+
+const FUNCTION_SIZE: usize = 16;
+
+const LOCATION_SIZE: usize = 16;
+
+const RANGE_SIZE: usize = 4;
+
+// An entry, while the ranges are sorted: a start and a row number.
+const ENTRY_SIZE: usize = 8;
 
 // What writing answers: document 01's number, 0 for success, and the file's length.
 pub struct Written {
@@ -49,7 +65,9 @@ pub fn serialize(
     ranges: &[u32],
     out: &mut [u8],
 ) -> Written
-    ensures { λ r. ⌜ wrote (r .code) (r .len) (now (out .exit)) ≡ serializeOf converter (memory (now («string_bytes» .entry)) (now (strings .entry)) (now (files .entry)) (now (functions .entry)) (now («call_locations» .entry)) (now (ranges .entry))) (now (out .entry)) ⌝ }
+    ensures { λ r. ⌜ (let lent = memory (now («string_bytes» .entry)) (now (strings .entry)) (now (files .entry))
+        (now (functions .entry)) (now («call_locations» .entry)) (now (ranges .entry)) in
+        wrote (r .code) (r .len) (now (out .exit)) ≡ serializeOf converter lent (now (out .entry))) ⌝ }
 {
     let state = converter.state;
     let tables = lent(
@@ -104,12 +122,15 @@ fn write_sections(
     ranges: &[u32],
 )
     requires { ⌜ Ready converter (now ranges) end all (length (now «string_bytes»)) (length (now out)) ⌝ }
-    ensures { λ _. ⌜ ((i : List ℕ) → now (out .exit) ≡ sets (now (out .entry)) 0 (written-file converter (memory (now («string_bytes» .entry)) i (now (files .entry)) (now (functions .entry)) (now («call_locations» .entry)) (now (ranges .entry))))) ⌝ }
+    ensures { λ _. ⌜ ((index : List ℕ) →
+        let lent = memory (now («string_bytes» .entry)) index (now (files .entry))
+        (now (functions .entry)) (now («call_locations» .entry)) (now (ranges .entry)) in
+        now (out .exit) ≡ sets (now (out .entry)) 0 (written-file converter lent)) ⌝ }
 {
     let state = converter.state;
     let at = lay_out(state, all);
     write_head(out, converter, all);
-    write_files(out, 80, files, state.files);
+    write_files(out, HEAD_SIZE, files, state.files);
     write_functions(out, at.functions, functions, state.functions);
     write_call_locations(out, at.call_locations, call_locations, state.call_locations);
     write_sorted(out, at.locations, ranges, state.ranges, end, all);
@@ -132,7 +153,7 @@ fn vacant_end(last: LastAddr, ranges: &[u32], count: u32) -> LastAddr
 
 // How many ranges the file has: the sentinel is one more.
 fn num_ranges(count: u32, end: LastAddr) -> u32
-    requires { ⌜ count ≤ 16777216 ⌝ }
+    requires { ⌜ count ≤ maxRows ⌝ }
     ensures { λ r. ⌜ r ≡ count + length (sentinel end count) ⌝ }
 {
     match end {
@@ -141,7 +162,7 @@ fn num_ranges(count: u32, end: LastAddr) -> u32
     }
 }
 
-// Where the sections begin, and the file's length. The files begin at 80.
+// Where the sections begin, and the file's length. The files follow the head.
 struct Layout {
     functions: usize,
     call_locations: usize,
@@ -156,10 +177,10 @@ fn lay_out(state: State, all: u32) -> Layout
     ensures { λ r. ⌜ r ≡ layout-of state all ⌝ }
 {
     let n = all as usize;
-    let functions = 80 + (state.files as usize) * 24;
-    let call_locations = functions + (state.functions as usize) * 16;
-    let locations = call_locations + (state.call_locations as usize) * 16;
-    let padding = locations + n * 16 + n * 4;
+    let functions = HEAD_SIZE + (state.files as usize) * FILE_SIZE;
+    let call_locations = functions + (state.functions as usize) * FUNCTION_SIZE;
+    let locations = call_locations + (state.call_locations as usize) * LOCATION_SIZE;
+    let padding = locations + n * LOCATION_SIZE + n * RANGE_SIZE;
     let texts = padding + n % 2 * 4;
     let len = texts + (state.string_bytes as usize);
     Layout {
@@ -208,81 +229,82 @@ fn write_head(out: &mut [u8], converter: Converter, all: u32)
 
 // `count` file rows from `at` on.
 fn write_files(out: &mut [u8], at: usize, files: &[u32], count: u32)
-    requires { ⌜ at + count * 24 ≤ length (now out) ⌝ }
+    requires { ⌜ at + count * file-size ≤ length (now out) ⌝ }
     ensures { λ _. ⌜ now (out .exit) ≡ sets (now (out .entry)) at (tableBytes file-row (rowsOf (now (files .entry)) count)) ⌝ }
 {
     let mut i: u32 = 0;
     while i < count {
         let file = file_of_row(tables::row_at(files, i));
-        raw::write_file(out, at + (i as usize) * 24, file);
+        raw::write_file(out, at + (i as usize) * FILE_SIZE, file);
         i += 1;
     }
 }
 
 // `count` function rows from `at` on.
 fn write_functions(out: &mut [u8], at: usize, functions: &[u32], count: u32)
-    requires { ⌜ at + count * 16 ≤ length (now out) ⌝ }
+    requires { ⌜ at + count * function-size ≤ length (now out) ⌝ }
     ensures { λ _. ⌜ now (out .exit) ≡ sets (now (out .entry)) at (tableBytes function-row (rowsOf (now (functions .entry)) count)) ⌝ }
 {
     let mut i: u32 = 0;
     while i < count {
         let function = function_of_row(tables::row_at(functions, i));
-        raw::write_function(out, at + (i as usize) * 16, function);
+        raw::write_function(out, at + (i as usize) * FUNCTION_SIZE, function);
         i += 1;
     }
 }
 
 // `count` call locations from `at` on.
 fn write_call_locations(out: &mut [u8], at: usize, call_locations: &[u32], count: u32)
-    requires { ⌜ at + count * 16 ≤ length (now out) ⌝ }
+    requires { ⌜ at + count * location-size ≤ length (now out) ⌝ }
     ensures { λ _. ⌜ now (out .exit) ≡ sets (now (out .entry)) at (tableBytes call-row (rowsOf (now («call_locations» .entry)) count)) ⌝ }
 {
     let mut i: u32 = 0;
     while i < count {
         let location = call_of_row(tables::row_at(call_locations, i));
-        raw::write_location(out, at + (i as usize) * 16, location);
+        raw::write_location(out, at + (i as usize) * LOCATION_SIZE, location);
         i += 1;
     }
 }
 
 // The locations of the ranges from `at` on and then their starts, ascending. The entries are sorted in the second half of the room for the locations.
 fn write_sorted(out: &mut [u8], at: usize, ranges: &[u32], count: u32, end: LastAddr, all: u32)
-    requires { ⌜ (all ≡ count + length (sentinel end count)) × (at + all * 20 ≤ length (now out)) ⌝ }
-    ensures { λ _. ⌜ now (out .exit) ≡ sets (now (out .entry)) at (range-sections (now (ranges .entry)) count (sort (entries 0 (rowsOf (now (ranges .entry)) count) ++ sentinel end count))) ⌝ }
+    requires { ⌜ (all ≡ count + length (sentinel end count)) × (at + all * (location-size + range-size) ≤ length (now out)) ⌝ }
+    ensures { λ _. ⌜ (let ascending = sort (entries 0 (rowsOf (now (ranges .entry)) count) ++ sentinel end count) in
+        now (out .exit) ≡ sets (now (out .entry)) at (range-sections (now (ranges .entry)) count ascending)) ⌝ }
 {
-    let entries = at + (all as usize) * 8;
-    let starts = at + (all as usize) * 16;
+    let entries = at + (all as usize) * ENTRY_SIZE;
+    let starts = at + (all as usize) * LOCATION_SIZE;
     write_entries(out, entries, ranges, count);
-    write_sentinel(out, entries + (count as usize) * 8, end, count);
+    write_sentinel(out, entries + (count as usize) * ENTRY_SIZE, end, count);
     sorting::sort_entries(&mut out[entries..starts]);
     write_ranges(out, at, ranges, count, all);
 }
 
 // An entry: a range's start and its row number, eight bytes.
 fn write_entry(out: &mut [u8], at: usize, start: u32, row: u32)
-    requires { ⌜ at + 8 ≤ length (now out) ⌝ }
+    requires { ⌜ at + entry-size ≤ length (now out) ⌝ }
     ensures { λ _. ⌜ now (out .exit) ≡ sets (now (out .entry)) at (entry-row (record { from = start; to = row })) ⌝ }
 {
     raw::write_range(out, at, Range(start));
-    raw::write_range(out, at + 4, Range(row));
+    raw::write_range(out, at + RANGE_SIZE, Range(row));
 }
 
 // The entries of the ranges from `at` on.
 fn write_entries(out: &mut [u8], at: usize, ranges: &[u32], count: u32)
-    requires { ⌜ at + count * 8 ≤ length (now out) ⌝ }
+    requires { ⌜ at + count * entry-size ≤ length (now out) ⌝ }
     ensures { λ _. ⌜ now (out .exit) ≡ sets (now (out .entry)) at (tableBytes entry-row (entries 0 (rowsOf (now (ranges .entry)) count))) ⌝ }
 {
     let mut i: u32 = 0;
     while i < count {
         let start = start_of_row(tables::row_at(ranges, i));
-        write_entry(out, at + (i as usize) * 8, start, i);
+        write_entry(out, at + (i as usize) * ENTRY_SIZE, start, i);
         i += 1;
     }
 }
 
 // The sentinel's entry, if there is one.
 fn write_sentinel(out: &mut [u8], at: usize, end: LastAddr, count: u32)
-    requires { ⌜ at + 8 * length (sentinel end count) ≤ length (now out) ⌝ }
+    requires { ⌜ at + entry-size * length (sentinel end count) ≤ length (now out) ⌝ }
     ensures { λ _. ⌜ (now (out .exit) ≡ sets (now (out .entry)) at (tableBytes entry-row (sentinel end count))) × Words32 (pairWords (sentinel end count)) ⌝ }
 {
     match end {
@@ -294,19 +316,20 @@ fn write_sentinel(out: &mut [u8], at: usize, end: LastAddr, count: u32)
 // The locations of the ranges from `at` on, then their starts, in the order of the entries. There are `all` of them, in the second half of the room for
 // the locations: location i ends where entry i does at the latest, and nothing is read that was written over.
 fn write_ranges(out: &mut [u8], at: usize, ranges: &[u32], count: u32, all: u32)
-    requires { ⌜ at + all * 20 ≤ length (now out) ⌝ }
-    ensures { λ _. ⌜ now (out .exit) ≡ sets (now (out .entry)) at (range-sections (now (ranges .entry)) count (entries-at all (now (out .entry)) (at + all * 8))) ⌝ }
+    requires { ⌜ at + all * (location-size + range-size) ≤ length (now out) ⌝ }
+    ensures { λ _. ⌜ (let read = entries-at all (now (out .entry)) (at + all * entry-size) in
+        now (out .exit) ≡ sets (now (out .entry)) at (range-sections (now (ranges .entry)) count read)) ⌝ }
 {
-    let entries = at + (all as usize) * 8;
-    let starts = at + (all as usize) * 16;
+    let entries = at + (all as usize) * ENTRY_SIZE;
+    let starts = at + (all as usize) * LOCATION_SIZE;
     let mut i: u32 = 0;
     while i < all {
         let k = i as usize;
-        let start = raw::range_at(out, entries + k * 8);
-        let row = raw::range_at(out, entries + k * 8 + 4);
+        let start = raw::range_at(out, entries + k * ENTRY_SIZE);
+        let row = raw::range_at(out, entries + k * ENTRY_SIZE + RANGE_SIZE);
         let l = entry_location(ranges, count, start.0, row.0);
-        raw::write_range(out, starts + k * 4, start);
-        raw::write_location(out, at + k * 16, l);
+        raw::write_range(out, starts + k * RANGE_SIZE, start);
+        raw::write_location(out, at + k * LOCATION_SIZE, l);
         i += 1;
     }
 }
@@ -323,7 +346,7 @@ fn entry_location(ranges: &[u32], count: u32, start: u32, row: u32) -> SourceLoc
 
 // Zeros from the end of so many range starts up to a multiple of 8: four or none.
 fn write_padding(out: &mut [u8], at: usize, all: u32)
-    ensures { λ _. ⌜ now (out .exit) ≡ sets (now (out .entry)) at (padding (all * 4)) ⌝ }
+    ensures { λ _. ⌜ now (out .exit) ≡ sets (now (out .entry)) at (padding (all * range-size)) ⌝ }
 {
     if all % 2 == 1 {
         raw::write_range(out, at, Range(0));

@@ -1,4 +1,4 @@
--- What taking back rests on: everything above the counts is zero, at a beginning and always. And any list of puts with a journal, and how many entries they make.
+-- What taking back rests on: everything above the counts is zero, at a beginning and always. And any list of puts with a journal, and how many entries it has.
 use Prim.Native.Nat.{ℕ, _+_, _*_, _<_, _≤_}
 use mathlib.Core.Path.{_≡_}
 use mathlib.Core.List.{List, [], _∷_}

@@ -26,7 +26,9 @@ module _ {A : Type 0} where
   -- `IndexSet::insert_full`: the place of the first item equal to a, or a at the end
   unfoldable pub intern : (A → A → Bool) → List A → A → Interned A
   intern eq [] a = record { index = 0; table = a ∷ [] }
-  intern eq (x ∷ xs) a = cond (eq x a) (record { index = 0; table = x ∷ xs }) (record { index = suc (intern eq xs a .index); table = x ∷ intern eq xs a .table })
+  intern eq (x ∷ xs) a =
+      cond (eq x a) (record { index = 0; table = x ∷ xs })
+      (record { index = suc (intern eq xs a .index); table = x ∷ intern eq xs a .table })
 
   -- the list after a list of calls, and the indices that they answer
   unfoldable pub internAll : (A → A → Bool) → List A → List A → List A

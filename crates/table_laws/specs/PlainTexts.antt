@@ -1,5 +1,5 @@
--- The string table over a plain list of texts, and when the lent memory is that list. The plain list has each text once and none that is empty; the offset of a text is
--- the sum of the sizes of those before it (document 01, "Texts").
+-- The string table over a plain list of texts, and when the lent memory is that list. The plain list has each text once and none that is empty; the offset of a
+-- text is the sum of the sizes of those before it (document 01, "Texts").
 use Prim.Native.Nat.{ℕ, _+_, _<_, _≤_}
 use mathlib.Core.Path.{_≡_}
 use mathlib.Core.List.{List, [], _∷_, _++_}
@@ -47,13 +47,14 @@ offsetsIn ts (q ∷ qs) = offsetIn ts q ∷ offsetsIn (withText ts q) qs
 unfoldable pub insertTexts : List ℕ → List ℕ → ℕ → ℕ → List (List ℕ) → StringsLeft
 insertTexts text strings bytes count [] = stringsLeft (stored 4294967295 bytes count) text strings
 insertTexts text strings bytes count (q ∷ qs) =
-    insertTexts (insertTextOf text strings bytes count q .text) (insertTextOf text strings bytes count q .strings) (insertTextOf text strings bytes count q .got .bytes) (insertTextOf text strings bytes count q .got .count) qs
+    let x = insertTextOf text strings bytes count q in
+    insertTexts (x .text) (x .strings) (x .got .bytes) (x .got .count) qs
 
 unfoldable pub offsetsOf : List ℕ → List ℕ → ℕ → ℕ → List (List ℕ) → List ℕ
 offsetsOf text strings bytes count [] = []
 offsetsOf text strings bytes count (q ∷ qs) =
-    insertTextOf text strings bytes count q .got .offset
-    ∷ offsetsOf (insertTextOf text strings bytes count q .text) (insertTextOf text strings bytes count q .strings) (insertTextOf text strings bytes count q .got .bytes) (insertTextOf text strings bytes count q .got .count) qs
+    let x = insertTextOf text strings bytes count q in
+    x .got .offset ∷ offsetsOf (x .text) (x .strings) (x .got .bytes) (x .got .count) qs
 
 -- ── When the lent memory is the plain list ─────────────────────────────────────────────────────────────────────────────
 

@@ -1,5 +1,5 @@
--- What the rows of the converter's tables stand for: the fields of each kind as the words of a row, and back. Words that a kind has no field for are 0. The order of the
--- fields is that of the structs (raw.rs, `File`, `Function`, `SourceLocation`; document 01, "Rows"), and a range has its start before its location's fields.
+-- What the rows of the converter's tables stand for: the fields of each kind as the words of a row, and back. Words that a kind has no field for are 0. The
+-- order of the fields is that of the structs (raw.rs, `File`, `Function`, `SourceLocation`; document 01, "Rows"); a range has its start before its location's.
 use Prim.Native.Nat.{ℕ}
 use Rattle.raw.specs.declared.File.{File}
 use Rattle.raw.specs.declared.Function.{Function}

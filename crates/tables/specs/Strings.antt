@@ -1,5 +1,5 @@
--- The string table (document 01, "Texts"): the bytes of the string section, and an index of its texts, for any content and any counts. The Rust's `StringTable` keeps a
--- hash map; here the index is one more table, with a row for each text.
+-- The string table (document 01, "Texts"): the bytes of the string section, and an index of its texts, for any content and any counts. The Rust's `StringTable`
+-- keeps a hash map; here the index is one more table, with a row for each text.
 use Prim.Native.Nat.{ℕ, _+_, _*_, _/_, _%_, _<_}
 use mathlib.Core.Path.{_≡_}
 use mathlib.Core.List.{List, [], _∷_, _++_}
@@ -14,8 +14,11 @@ use Rattle.tables.specs.declared.Row.{Row}
 use Rattle.tables.specs.declared.strings.Stored.{Stored}
 
 -- "text: 268,435,456 bytes"
+abbrev pub maxBytes : ℕ
+maxBytes = 268435456
+
 unfoldable pub textCapacityOf : ℕ → ℕ
-textCapacityOf n = cond (ltb n 268435456) n 268435456
+textCapacityOf n = cond (ltb n maxBytes) n maxBytes
 
 -- "shortest unsigned LEB128 length, then bytes"
 unfoldable pub storedText : List ℕ → List ℕ
@@ -105,7 +108,10 @@ fullOf bytes count size limit cap = cond (leb (bytes + size) limit) (stored byte
 unfoldable pub storeOf : List ℕ → List ℕ → ℕ → ℕ → List ℕ → StringsLeft
 storeOf text strings bytes count t =
     cond (leb (bytes + textSize t) (textCapacityOf (length text)) && ltb count (capacityOf (length strings)))
-    (stringsLeft (stored bytes (bytes + textSize t) (count + 1)) (sets text bytes (storedText t)) (indexOf (capacityOf (length strings)) strings count (textRow bytes t)))
+    (stringsLeft
+    (stored bytes (bytes + textSize t) (count + 1))
+    (sets text bytes (storedText t))
+    (indexOf (capacityOf (length strings)) strings count (textRow bytes t)))
     (stringsLeft (fullOf bytes count (textSize t) (textCapacityOf (length text)) (capacityOf (length strings))) text strings)
 
 -- with the row found at hand

@@ -13,8 +13,11 @@ use Rattle.tables.specs.declared.Inserted.{Inserted}
 -- ── Rows ───────────────────────────────────────────────────────────────────────────────────────────────────────────────
 
 -- "A table's capacity is its lent length, at most 16,777,216 rows": the rows that fit in so many words
+abbrev pub maxRows : ℕ
+maxRows = 16777216
+
 unfoldable pub capacityOf : ℕ → ℕ
-capacityOf words = cond (ltb (words / 8) 16777216) (words / 8) 16777216
+capacityOf words = cond (ltb (words / 8) maxRows) (words / 8) maxRows
 
 -- n words from k on
 abbrev pub wordsAt : List ℕ → ℕ → ℕ → List ℕ
@@ -85,10 +88,13 @@ sameWords (x ∷ xs) (y ∷ ys) = eqb x y && sameWords xs ys
 unfoldable pub sameRow : Row → Row → Bool
 sameRow x y = sameWords (rowWords x) (rowWords y)
 
--- any arithmetic would do. Every word counts, and 4,294,966,769 is prime: starts that are multiples of a large power of two are spread like others. Of the first word the
--- block of 4,096 is spread, by the golden section of the prime, and its place there is added by sixteens: near starts have near buckets, and blocks hardly overlap
+-- any arithmetic would do. Every word counts, and 4,294,966,769 is prime: starts that are multiples of a large power of two are spread like others. Of the
+-- first word the block of 4,096 is spread, by the golden section of the prime, and its place there is added by sixteens: near starts have near buckets, and
+-- blocks hardly overlap
 unfoldable pub hashOf : Row → ℕ
-hashOf k = (k .a / 4096 * 2654435443 + k .b * 378551279 + k .c * 511286833 + k .d * 296414521 + k .e * 347229887 + k .f * 467201681) % 4294966769 / 512 * 512 + k .a % 4096 / 16
+hashOf k =
+    (k .a / 4096 * 2654435443 + k .b * 378551279 + k .c * 511286833 + k .d * 296414521 + k .e * 347229887 + k .f * 467201681) % 4294966769 / 512 * 512
+    + k .a % 4096 / 16
 
 -- row i has the key k
 unfoldable pub hitAt : List ℕ → ℕ → Row → ℕ → Bool

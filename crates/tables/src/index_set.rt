@@ -8,12 +8,12 @@ ghost use Rattle.tables.specs.Table.{newestOf, insertOf, left};
 pub fn insert_full(t: &mut [u32], count: u32, row: Row) -> Inserted
     ensures { λ r. ⌜ left r (now (t .exit)) ≡ insertOf 6 (now (t .entry)) count row ⌝ }
 {
-    crate::insert(t, count, row, 6)
+    crate::insert(t, count, row, crate::WHOLE)
 }
 
 // The number + 1 of the newest row in the bucket of `row`; 0 where there is none.
 pub fn newest(t: &[u32], row: Row) -> u32
     ensures { λ r. ⌜ r ≡ newestOf 6 (now (t .entry)) row ⌝ }
 {
-    crate::newest(t, row, 6)
+    crate::newest(t, row, crate::WHOLE)
 }

@@ -1,4 +1,4 @@
-// Ranges with a journal, so that puts since a mark can be taken back. An entry has eight words: the number of a row, 1 where its start was vacant and 2 where its
+// Ranges with a journal, so that puts since a mark can be taken back. An entry has eight words: the number of a row, 1 where the row was added and 2 where its
 // location was changed, and the row as it was. An entry that there is no room for makes the count of entries capacity + 1, and there it stays.
 use crate::Row;
 use crate::kinds::row_of_range;
@@ -10,6 +10,13 @@ ghost use Prim.Native.Nat.{_<_};
 ghost use Rattle.tables.specs.Table.{left};
 ghost use Rattle.tables.specs.Ranges.{rangeRow};
 ghost use Rattle.tables.specs.Undo.{setEntry, noteOf, noteWas, putNotedOf, putMarkedOf, journaled, undoEntry, undoAt, undoneRanges, undone};
+
+// The words of an entry, and the second of them.
+const ENTRY: usize = 8;
+
+const ADDED: u32 = 1;
+
+const CHANGED: u32 = 2;
 
 pub struct Noted {
     pub change: Change,
@@ -27,7 +34,8 @@ pub fn put(
     start: u32,
     loc: SourceLocation,
 ) -> Noted
-    ensures { λ r. ⌜ journaled r (now (t .exit)) (now (journal .exit)) ≡ putMarkedOf on (now (t .entry)) count (now (journal .entry)) entries (rangeRow start loc) ⌝ }
+    ensures { λ r. ⌜ (let after = journaled r (now (t .exit)) (now (journal .exit)) in
+        after ≡ putMarkedOf on (now (t .entry)) count (now (journal .entry)) entries (rangeRow start loc)) ⌝ }
 {
     if on {
         return put_noted(t, count, journal, entries, start, loc);
@@ -48,10 +56,11 @@ fn put_noted(
     start: u32,
     loc: SourceLocation,
 ) -> Noted
-    ensures { λ r. ⌜ journaled r (now (t .exit)) (now (journal .exit)) ≡ putNotedOf (now (t .entry)) count (now (journal .entry)) entries (rangeRow start loc) ⌝ }
+    ensures { λ r. ⌜ (let after = journaled r (now (t .exit)) (now (journal .exit)) in
+        after ≡ putNotedOf (now (t .entry)) count (now (journal .entry)) entries (rangeRow start loc)) ⌝ }
 {
     let row = row_of_range(start, loc);
-    let i = crate::lookup(t, count, row, 1);
+    let i = crate::lookup(t, count, row, crate::FIRST);
     let old = crate::row_at(t, i);
     let change = crate::ranges::put(t, count, start, loc);
     let was = change.was;
@@ -64,9 +73,9 @@ fn note_was(journal: &mut [u32], m: u32, was: Was, n: u32, i: u32, old: Row) -> 
     ensures { λ r. ⌜ left r (now (journal .exit)) ≡ noteWas (now (journal .entry)) m was n i old ⌝ }
 {
     match was {
-        Was::Vacant => note(journal, m, n, 1, Row::ZERO),
+        Was::Vacant => note(journal, m, n, ADDED, Row::ZERO),
         Was::Same => m,
-        Was::Changed => note(journal, m, i, 2, old),
+        Was::Changed => note(journal, m, i, CHANGED, old),
     }
 }
 
@@ -85,7 +94,7 @@ fn note(journal: &mut [u32], m: u32, i: u32, v: u32, old: Row) -> u32
 fn set_entry(journal: &mut [u32], k: u32, i: u32, v: u32, old: Row)
     ensures { λ _. ⌜ now (journal .exit) ≡ setEntry (now (journal .entry)) k i v old ⌝ }
 {
-    let at = (k as usize) * 8;
+    let at = (k as usize) * ENTRY;
     crate::set_word(journal, at, i);
     crate::set_word(journal, at + 1, v);
     crate::set_six(journal, at + 2, old);
@@ -107,7 +116,7 @@ pub fn undo_ranges(t: &mut [u32], journal: &mut [u32], entries: u32, to: u32)
 fn undo_at(t: &mut [u32], journal: &[u32], k: u32)
     ensures { λ _. ⌜ now (t .exit) ≡ undoAt (now (t .entry)) (now (journal .entry)) k ⌝ }
 {
-    let at = (k as usize) * 8;
+    let at = (k as usize) * ENTRY;
     let i = crate::word(journal, at);
     let v = crate::word(journal, at + 1);
     let old = crate::six(journal, at + 2);
@@ -118,11 +127,11 @@ fn undo_at(t: &mut [u32], journal: &[u32], k: u32)
 fn undo_entry(t: &mut [u32], i: u32, v: u32, old: Row)
     ensures { λ _. ⌜ now (t .exit) ≡ undoEntry (now (t .entry)) i v old ⌝ }
 {
-    if v == 1 {
-        crate::undo::take_off(t, i, 1);
+    if v == ADDED {
+        crate::undo::take_off(t, i, crate::FIRST);
         return;
     }
-    if v == 2 {
+    if v == CHANGED {
         crate::set_row(t, i, old);
     }
 }

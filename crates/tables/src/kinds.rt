@@ -1,4 +1,4 @@
-// What the rows of the converter's tables stand for: the fields of each kind as the words of a row, and back. The order of the fields stands here and nowhere else.
+// What the rows of the converter's tables stand for: the fields of each kind as the words of a row, and back. The order of the fields stands nowhere else.
 use crate::Row;
 use raw::File;
 use raw::Function;

@@ -8,7 +8,9 @@ ghost use mathlib.Core.Path.{_≡_};
 ghost use Prim.Native.Nat.{_<_, _≤_};
 ghost use lib.ListN.{length, getD, set};
 ghost use lib.Seq.{sets};
-ghost use Rattle.tables.specs.Table.{wordsAt, rowWords, rowOf, rowAt, setRow, keyOf, sameRow, capacityOf, hashOf, bucketOf, linkAt, headAt, hitAt, walk, appendOf, newestOf, lookupOf, overOf, insertOf, left};
+ghost use Rattle.tables.specs.Table.{maxRows, capacityOf, wordsAt, rowWords, rowOf, rowAt, setRow, linkAt, headAt, appendOf, overOf};
+ghost use Rattle.tables.specs.Strings.{maxBytes};
+ghost use Rattle.tables.specs.Table.{bucketOf, walk, keyOf, sameRow, hashOf, hitAt, newestOf, lookupOf, insertOf, left};
 
 pub mod index_set;
 pub mod journal;
@@ -16,6 +18,21 @@ pub mod kinds;
 pub mod ranges;
 pub mod strings;
 pub mod undo;
+
+// A table has room for so many rows at most, with eight words for each: seven of the row and one of the heads.
+const MAX_ROWS: u32 = 16777216;
+
+const WORDS: usize = 8;
+
+const ROW: usize = 7;
+
+// The link is the last word of a row.
+const LINK: usize = 6;
+
+// What of a row is compared: its first word alone, or all of it.
+const FIRST: u32 = 1;
+
+const WHOLE: u32 = 6;
 
 // The six words of a row.
 pub struct Row {
@@ -48,18 +65,18 @@ pub struct Inserted {
 pub fn capacity(t: &[u32]) -> u32
     ensures { λ r. ⌜ r ≡ capacityOf (length (now (t .entry))) ⌝ }
 {
-    let n = t.len() / 8;
-    if n < 16777216 {
+    let n = t.len() / WORDS;
+    if n < MAX_ROWS as usize {
         return n as u32;
     }
-    16777216
+    MAX_ROWS
 }
 
 // Row i; words past the end are 0.
 pub fn row_at(t: &[u32], i: u32) -> Row
     ensures { λ r. ⌜ r ≡ rowAt (now (t .entry)) i ⌝ }
 {
-    six(t, (i as usize) * 7)
+    six(t, (i as usize) * ROW)
 }
 
 // The six words from k0 on.
@@ -95,7 +112,7 @@ fn six(t: &[u32], k0: usize) -> Row
 fn set_row(t: &mut [u32], i: u32, r: Row)
     ensures { λ _. ⌜ now (t .exit) ≡ setRow (now (t .entry)) i r ⌝ }
 {
-    set_six(t, (i as usize) * 7, r);
+    set_six(t, (i as usize) * ROW, r);
 }
 
 // The six words from k0 on become r.
@@ -148,14 +165,14 @@ fn set_word(t: &mut [u32], j: usize, v: u32)
 fn link_at(t: &[u32], i: u32) -> u32
     ensures { λ r. ⌜ r ≡ linkAt (now (t .entry)) i ⌝ }
 {
-    word(t, (i as usize) * 7 + 6)
+    word(t, (i as usize) * ROW + LINK)
 }
 
 // The head of bucket h, in a table of cap rows.
 fn head_at(t: &[u32], cap: u32, h: u32) -> u32
     ensures { λ r. ⌜ r ≡ headAt cap (now (t .entry)) h ⌝ }
 {
-    word(t, (cap as usize) * 7 + (h as usize))
+    word(t, (cap as usize) * ROW + (h as usize))
 }
 
 // The bucket of a hash among as many as cap; 0 where there is none. All but its last nine bits say where from 0 to cap, and those are added.
@@ -175,17 +192,17 @@ fn bucket(hash: u32, cap: u32) -> u32
 
 // Row n, with its link, at the head of bucket h.
 fn append(t: &mut [u32], cap: u32, n: u32, row: Row, link: u32, h: u32)
-    requires { ⌜ n < 16777216 ⌝ }
+    requires { ⌜ n < maxRows ⌝ }
     ensures { λ _. ⌜ now (t .exit) ≡ appendOf cap (now (t .entry)) n row link h ⌝ }
 {
     set_row(t, n, row);
-    set_word(t, (n as usize) * 7 + 6, link);
-    set_word(t, (cap as usize) * 7 + (h as usize), n + 1);
+    set_word(t, (n as usize) * ROW + LINK, link);
+    set_word(t, (cap as usize) * ROW + (h as usize), n + 1);
 }
 
 // A count after what there was no room for: capacity + 1, and above that as it was.
 fn over(n: u32, cap: u32) -> u32
-    requires { ⌜ cap ≤ 268435456 ⌝ }
+    requires { ⌜ cap ≤ maxBytes ⌝ }
     ensures { λ r. ⌜ r ≡ overOf n cap ⌝ }
 {
     if cap < n {
@@ -194,11 +211,11 @@ fn over(n: u32, cap: u32) -> u32
     cap + 1
 }
 
-// What of a row is compared: its first word alone where the width is 1, else all of it.
+// What of a row is compared: its first word alone where the width is that, else all of it.
 fn key(row: Row, width: u32) -> Row
     ensures { λ r. ⌜ r ≡ keyOf width row ⌝ }
 {
-    if width == 1 {
+    if width == FIRST {
         return Row {
             a: row.a,
             b: 0,
@@ -214,22 +231,27 @@ fn key(row: Row, width: u32) -> Row
 fn same(x: Row, y: Row) -> bool
     ensures { λ r. ⌜ r ≡ sameRow x y ⌝ }
 {
-    if x.a == y.a {
-        if x.b == y.b {
-            if x.c == y.c {
-                if x.d == y.d {
-                    if x.e == y.e {
-                        return x.f == y.f;
-                    }
-                }
-            }
-        }
+    if x.a != y.a {
+        return false;
     }
-    false
+    if x.b != y.b {
+        return false;
+    }
+    if x.c != y.c {
+        return false;
+    }
+    if x.d != y.d {
+        return false;
+    }
+    if x.e != y.e {
+        return false;
+    }
+    x.f == y.f
 }
 
-// The words by factors that no power of two divides, modulo a prime. Of the first word its block of 4,096 counts there, and its place in the block is added by sixteens, so that starts
-// that are near each other have buckets that are. Blocks go by the golden section: those that follow each other lie apart, and hardly overlap.
+// The words by factors that no power of two divides, modulo a prime. Of the first word its block of 4,096 counts there, and its place in the block is added by
+// sixteens, so that starts that are near each other have buckets that are. Blocks go by the golden section: those that follow each other lie apart, and hardly
+// overlap.
 fn hash(k: Row) -> u32
     ensures { λ r. ⌜ r ≡ hashOf k ⌝ }
 {
@@ -246,7 +268,7 @@ fn hash(k: Row) -> u32
 fn hit(t: &[u32], i: u32, k: Row, width: u32) -> bool
     ensures { λ r. ⌜ r ≡ hitAt (now (t .entry)) width k i ⌝ }
 {
-    let a = word(t, (i as usize) * 7);
+    let a = word(t, (i as usize) * ROW);
     if a == k.a {
         return same(key(row_at(t, i), width), k);
     }

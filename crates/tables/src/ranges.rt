@@ -32,14 +32,14 @@ pub struct Change {
 pub fn newest(t: &[u32], start: u32) -> u32
     ensures { λ r. ⌜ r ≡ newestOf 1 (now (t .entry)) (startRow start) ⌝ }
 {
-    crate::newest(t, row_of_start(start), 1)
+    crate::newest(t, row_of_start(start), crate::FIRST)
 }
 
 // The location at a start.
 pub fn get(t: &[u32], count: u32, start: u32) -> Found
     ensures { λ r. ⌜ r ≡ getOf (now (t .entry)) count start ⌝ }
 {
-    let i = crate::lookup(t, count, row_of_start(start), 1);
+    let i = crate::lookup(t, count, row_of_start(start), crate::FIRST);
     if i < count {
         return Found::At(location_of_row(crate::row_at(t, i)));
     }
@@ -59,7 +59,7 @@ pub fn put(t: &mut [u32], count: u32, start: u32, loc: SourceLocation) -> Change
         };
     }
     let row = row_of_range(start, loc);
-    let got = crate::insert(t, count, row, 1);
+    let got = crate::insert(t, count, row, crate::FIRST);
     let index = got.index;
     if index < count {
         let was = replace(t, index, row);

@@ -13,8 +13,12 @@ ghost use lib.ListN.{length, getD, take, drop};
 ghost use lib.Seq.{sets};
 ghost use Rattle.text.specs.Leb128.{encoded};
 ghost use Rattle.tables.specs.Kinds.{rowOfText};
-ghost use Rattle.tables.specs.Table.{linkAt, sameWords, walk};
-ghost use Rattle.tables.specs.Strings.{textCapacityOf, storedText, mixed, fourAt, hashFrom, textHash, textAt, newestText, findText, indexOf, fullOf, storeOf, insertTextOf, stringsLeft};
+ghost use Rattle.tables.specs.Table.{maxRows, linkAt, sameWords, walk};
+ghost use Rattle.tables.specs.Strings.{textCapacityOf, storedText, textAt, newestText, findText, indexOf, fullOf, storeOf, insertTextOf, stringsLeft};
+ghost use Rattle.tables.specs.Strings.{maxBytes, mixed, fourAt, hashFrom, textHash};
+
+// A string section has room for so many bytes at most.
+const MAX_BYTES: u32 = 268435456;
 
 pub struct Stored {
     // Where the prefix of the text begins.
@@ -28,20 +32,21 @@ pub struct Stored {
 pub fn text_capacity(text: &[u8]) -> u32
     ensures { λ r. ⌜ r ≡ textCapacityOf (length (now (text .entry))) ⌝ }
 {
-    if text.len() < 268435456 {
+    if text.len() < MAX_BYTES as usize {
         return text.len() as u32;
     }
-    268435456
+    MAX_BYTES
 }
 
 // The offset of t, which is stored where it is not in the section yet; MAX for an empty text, which is not stored. With no room for the bytes or for the row
 // nothing is written, and the count that has none is capacity + 1.
 pub fn insert(text: &mut [u8], strings: &mut [u32], bytes: u32, count: u32, t: &[u8]) -> Stored
-    ensures { λ r. ⌜ stringsLeft r (now (text .exit)) (now (strings .exit)) ≡ insertTextOf (now (text .entry)) (now (strings .entry)) bytes count (now (t .entry)) ⌝ }
+    ensures { λ r. ⌜ (let after = stringsLeft r (now (text .exit)) (now (strings .exit)) in
+        after ≡ insertTextOf (now (text .entry)) (now (strings .entry)) bytes count (now (t .entry))) ⌝ }
 {
     if t.len() == 0 {
         return Stored {
-            offset: 4294967295,
+            offset: u32::MAX,
             bytes,
             count,
         };
@@ -69,7 +74,8 @@ fn store(
     hash: u32,
 ) -> Stored
     requires { ⌜ hash ≡ textHash (now t) ⌝ }
-    ensures { λ r. ⌜ stringsLeft r (now (text .exit)) (now (strings .exit)) ≡ storeOf (now (text .entry)) (now (strings .entry)) bytes count (now (t .entry)) ⌝ }
+    ensures { λ r. ⌜ (let after = stringsLeft r (now (text .exit)) (now (strings .exit)) in
+        after ≡ storeOf (now (text .entry)) (now (strings .entry)) bytes count (now (t .entry))) ⌝ }
 {
     let cap = crate::capacity(strings);
     let limit = text_capacity(text);
@@ -124,7 +130,7 @@ fn room(bytes: u32, prefix: usize, len: usize, limit: u32) -> bool
 
 // The answer where there is no room: the count of bytes is above its capacity if the text had none, else the count of texts.
 fn full(bytes: u32, count: u32, prefix: usize, len: usize, limit: u32, cap: u32) -> Stored
-    requires { ⌜ (limit ≤ 268435456) × (cap ≤ 268435456) ⌝ }
+    requires { ⌜ (limit ≤ maxBytes) × (cap ≤ maxRows) ⌝ }
     ensures { λ r. ⌜ r ≡ fullOf bytes count (prefix + len) limit cap ⌝ }
 {
     if room(bytes, prefix, len, limit) {
@@ -165,7 +171,7 @@ fn copy(text: &mut [u8], start: usize, t: &[u8])
 
 // Row n, at the head of the bucket of its text's hash.
 fn index(strings: &mut [u32], cap: u32, n: u32, text: IndexedText)
-    requires { ⌜ n < 16777216 ⌝ }
+    requires { ⌜ n < maxRows ⌝ }
     ensures { λ _. ⌜ now (strings .exit) ≡ indexOf cap (now (strings .entry)) n (rowOfText text) ⌝ }
 {
     let h = crate::bucket(text.hash, cap);

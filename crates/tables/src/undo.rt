@@ -5,6 +5,9 @@ ghost use mathlib.Core.Path.{_≡_};
 ghost use lib.ListN.{set};
 ghost use Rattle.tables.specs.Undo.{rowHashOf, undoOf, offOf, undoneTo, cutTo};
 
+// The width of the index of texts: its rows are found by their hash.
+const TEXT: u32 = 4;
+
 // Of `count` rows the newest are taken off until `to` are left. The width is 6 for an index set, 1 for ranges, 4 for the index of texts.
 pub fn undo_rows(t: &mut [u32], count: u32, to: u32, width: u32)
     ensures { λ _. ⌜ now (t .exit) ≡ undoneTo width to (now (t .entry)) count ⌝ }
@@ -25,10 +28,13 @@ pub fn undo_strings(
     to_bytes: u32,
     to_count: u32,
 )
-    ensures { λ _. ⌜ (now (text .exit) ≡ cutTo «to_bytes» (now (text .entry)) bytes) × (now (strings .exit) ≡ undoneTo 4 «to_count» (now (strings .entry)) count) ⌝ }
+    ensures { λ _. ⌜
+        (now (text .exit) ≡ cutTo «to_bytes» (now (text .entry)) bytes)
+        × (now (strings .exit) ≡ undoneTo 4 «to_count» (now (strings .entry)) count)
+        ⌝ }
 {
     cut(text, to_bytes, bytes);
-    undo_rows(strings, count, to_count, 4);
+    undo_rows(strings, count, to_count, TEXT);
 }
 
 // The bytes from `to` to n become 0.
@@ -66,7 +72,7 @@ pub fn take_off(t: &mut [u32], n: u32, width: u32)
 fn row_hash(row: Row, width: u32) -> u32
     ensures { λ r. ⌜ r ≡ rowHashOf width row ⌝ }
 {
-    if width == 4 {
+    if width == TEXT {
         let text = text_of_row(row);
         return text.hash;
     }
@@ -78,7 +84,7 @@ fn unlink(t: &mut [u32], cap: u32, n: u32, h: u32)
     ensures { λ _. ⌜ now (t .exit) ≡ undoOf cap (now (t .entry)) n h ⌝ }
 {
     let link = crate::link_at(t, n);
-    crate::set_word(t, (cap as usize) * 7 + (h as usize), link);
+    crate::set_word(t, (cap as usize) * crate::ROW + (h as usize), link);
     crate::set_row(t, n, Row::ZERO);
-    crate::set_word(t, (n as usize) * 7 + 6, 0);
+    crate::set_word(t, (n as usize) * crate::ROW + crate::LINK, 0);
 }

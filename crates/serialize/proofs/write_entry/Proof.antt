@@ -6,8 +6,10 @@ use Rattle.serialize.proofs.write_entry.Tie as tie
 
 returns : tie.Need-returns
 returns c =
-    let a = c .before .before .before .before .before .before .before .before .before .args in
-    entry-stored (a .out .now) _ _ (a .at) (a .start) (a .row) (c .before .before .before .before .before .before .write-range .ensures) (c .before .before .write-range2 .ensures)
+    let at-write-range = c .before .before .before .before .before .before in
+    let start = at-write-range .before .before .before in
+    let a = start .args in
+    entry-stored (a .out .now) _ _ (a .at) (a .start) (a .row) (at-write-range .write-range .ensures) (c .before .before .write-range2 .ensures)
 
 pub write-entry-spec : {M : Type 1} → statement M
 write-entry-spec =

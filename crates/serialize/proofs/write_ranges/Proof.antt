@@ -14,6 +14,25 @@ Inv-loop out₀ at ranges count all entries starts i₀ out i = (i ≤ all) × (
 abbrev μ-loop : tie.MeasureT-loop
 μ-loop out₀ at ranges count all entries starts i₀ out i = all - i
 
+-- places
+abbrev at-write-range : tie.After-slice-known3 Inv-loop μ-loop → tie.After-write-range Inv-loop μ-loop
+at-write-range c = c .before .before .before .before .before .before
+
+abbrev at-entry-location : tie.After-slice-known3 Inv-loop μ-loop → tie.After-entry-location Inv-loop μ-loop
+at-entry-location c = at-write-range c .before .before
+
+abbrev at-range-at2 : tie.After-slice-known3 Inv-loop μ-loop → tie.After-range-at2 Inv-loop μ-loop
+at-range-at2 c = at-entry-location c .before
+
+abbrev at-range-at : tie.After-slice-known3 Inv-loop μ-loop → tie.After-range-at Inv-loop μ-loop
+at-range-at c = at-range-at2 c .before .before
+
+abbrev at-loop : tie.After-slice-known3 Inv-loop μ-loop → tie.At-loop Inv-loop μ-loop
+at-loop c = at-range-at c .before .before .before
+
+abbrev start : tie.After-slice-known3 Inv-loop μ-loop → tie.Start Inv-loop μ-loop
+start c = at-loop c .before .before .before
+
 loop-holds : tie.Need-loop-holds Inv-loop μ-loop
 loop-holds c =
     let a = c .before .before .args in
@@ -21,14 +40,14 @@ loop-holds c =
 
 loop-again : tie.Need-loop-again Inv-loop μ-loop
 loop-again c =
-    let l = c .before .before .before .before .before .before .before .before .before .before .before .before .before .before .loop in
-    let a = c .before .before .before .before .before .before .before .before .before .before .before .before .before .before .before .before .before .args in (
+    let l = at-loop c .loop in
+    let a = start c .args in (
       omega arith,
       turned-step (a .ranges .now) (a .count) (a .out .now) (a .at) (a .all) (l .i) (l .out) (l .inv .1) (omega arith) _ _ _ _ _
-          (c .before .before .before .before .before .before .before .before .before .before .before .range-at .ensures)
-          (c .before .before .before .before .before .before .before .before .before .range-at2 .ensures)
-          (c .before .before .before .before .before .before .before .before .entry-location .ensures)
-          (c .before .before .before .before .before .before .write-range .ensures)
+          (at-range-at c .range-at .ensures)
+          (at-range-at2 c .range-at2 .ensures)
+          (at-entry-location c .entry-location .ensures)
+          (at-write-range c .write-range .ensures)
           (c .before .before .write-location .ensures),
     )
 

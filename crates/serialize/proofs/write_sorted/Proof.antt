@@ -6,19 +6,35 @@ use borrow.Author.Needs.{needs}
 use Rattle.serialize.proofs.write_sorted.Statement.{statement}
 use Rattle.serialize.proofs.write_sorted.Tie as tie
 
+-- places
+abbrev at-sort-entries : tie.After-slice-known5 → tie.After-sort-entries
+at-sort-entries c = c .before .before .before .before .before .before
+
+abbrev at-write-sentinel : tie.After-slice-known5 → tie.After-write-sentinel
+at-write-sentinel c = at-sort-entries c .before .before .before .before
+
+abbrev at-write-entries : tie.After-slice-known5 → tie.After-write-entries
+at-write-entries c = at-write-sentinel c .before .before .before .before
+
+abbrev at-shared-slice-known : tie.After-slice-known5 → tie.After-shared-slice-known
+at-shared-slice-known c = at-write-entries c .before .before
+
+abbrev start : tie.After-slice-known5 → tie.Start
+start c = at-shared-slice-known c .before .before
+
 returns : tie.Need-returns
 returns c =
-    let a = c .before .before .before .before .before .before .before .before .before .before .before .before .before .before .before .before .before .before .args in
-    written-sorted (a .ranges .now) (λ j. omega (arith, c .before .before .before .before .before .before .before .before .before .before .before .before .before .before .before .before .shared-slice-known .given j)) (a .count) (a .all) (search needs) (a .end) (search needs) (a .out .now) (a .at) (search needs)
-    (c .before .before .before .before .before .before .before .before .before .before .before .before .before .before .write-entries .last .0)
-    (c .before .before .before .before .before .before .before .before .before .before .write-sentinel .last .0)
-    (c .before .before .before .before .before .before .sort-entries .last .0)
+    let a = start c .args in
+    written-sorted (a .ranges .now) (λ j. omega (arith, at-shared-slice-known c .shared-slice-known .given j)) (a .count) (a .all) (search needs) (a .end) (search needs) (a .out .now) (a .at) (search needs)
+    (at-write-entries c .write-entries .last .0)
+    (at-write-sentinel c .write-sentinel .last .0)
+    (at-sort-entries c .sort-entries .last .0)
     (c .before .before .write-ranges .last .0)
     (a .at + a .all * 16 - (a .at + a .all * 8))
-    (c .before .before .before .before .before .before .before .before .before .before .before .before .before .before .write-entries .ensures)
-    (c .before .before .before .before .before .before .before .before .before .before .write-sentinel .ensures)
+    (at-write-entries c .write-entries .ensures)
+    (at-write-sentinel c .write-sentinel .ensures)
     (omega arith)
-    (c .before .before .before .before .before .before .sort-entries .ensures)
+    (at-sort-entries c .sort-entries .ensures)
     (c .before .before .write-ranges .ensures)
 
 pub write-sorted-spec : {M : Type 1} → statement M

@@ -13,7 +13,12 @@ unfolding appendOf
 append-law m t n q l h e1 e2 e3 = rw (e3, e2, e1)
 
 returns : tie.Need-returns
-returns c = let a = c .before .before .before .before .before .before .before .before .before .before .before .before .before .args in append-law (a .cap) (a .t .now) (a .n) (a .row) (a .link) (a .h) (c .before .before .before .before .before .before .before .before .before .before .set-row .ensures) (c .before .before .before .before .before .before .set-word .ensures) (c .before .before .set-word2 .ensures)
+returns c =
+    let at-set-word = c .before .before .before .before .before .before in
+    let at-set-row = at-set-word .before .before .before .before in
+    let start = at-set-row .before .before .before in
+    let a = start .args in
+    append-law (a .cap) (a .t .now) (a .n) (a .row) (a .link) (a .h) (at-set-row .set-row .ensures) (at-set-word .set-word .ensures) (c .before .before .set-word2 .ensures)
 
 pub append-spec : {M : Type 1} → statement M
 append-spec =

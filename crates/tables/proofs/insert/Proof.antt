@@ -36,27 +36,57 @@ small t e h = let m = cap-most (length t) in omega arith
 
 returns : tie.Need-returns
 returns c =
-    let a = c .before .before .before .before .before .before .before .before .before .before .before .args in
-    found (a .width) (a .t .now) (a .n) (a .row) (c .before .before .before .before .before .before .before .before .capacity .ensures) (c .before .before .before .before .before .before .before .key .ensures) (c .before .before .before .before .before .before .hash .ensures) (c .before .before .before .before .before .bucket .ensures) (c .before .before .before .head-at .ensures)
+    let at-head-at = c .before .before .before in
+    let at-bucket = at-head-at .before .before in
+    let at-hash = at-bucket .before in
+    let at-key = at-hash .before in
+    let at-capacity = at-key .before in
+    let start = at-capacity .before .before .before in
+    let a = start .args in
+    found (a .width) (a .t .now) (a .n) (a .row) (at-capacity .capacity .ensures) (at-key .key .ensures) (at-hash .hash .ensures) (at-bucket .bucket .ensures) (at-head-at .head-at .ensures)
     (c .before .find .ensures) (c .if1 .taken)
 
 append-requires : tie.Need-append-requires
-append-requires c κs = small (c .before .before .before .before .before .before .before .before .before .before .before .before .before .args .t .now) (c .before .before .before .before .before .before .before .before .before .before .capacity .ensures) (c .before .if2 .taken)
+append-requires c κs =
+    let at-key = c .before .before .before .before .before .before .before .before .before in
+    let at-capacity = at-key .before in
+    let start = at-capacity .before .before .before in
+    small (start .args .t .now) (at-capacity .capacity .ensures) (c .before .if2 .taken)
 
 returns-2 : tie.Need-returns-2
 returns-2 c =
-    let a = c .before .before .before .before .before .before .before .before .before .before .before .before .before .before .before .before .args in
-    stored (a .width) (a .t .now) (a .n) (a .row) (c .before .before .before .before .before .before .before .before .before .before .before .before .before .capacity .ensures) (c .before .before .before .before .before .before .before .before .before .before .before .before .key .ensures) (c .before .before .before .before .before .before .before .before .before .before .before .hash .ensures) (c .before .before .before .before .before .before .before .before .before .before .bucket .ensures) (c .before .before .before .before .before .before .before .before .head-at .ensures)
-    (c .before .before .before .before .before .before .find .ensures) (c .before .before .before .before .before .if1 .left) (c .before .before .before .before .if2 .taken) (c .before .before .append .ensures)
+    let at-if2 = c .before .before .before .before in
+    let at-if1 = at-if2 .before in
+    let at-find = at-if1 .before in
+    let at-head-at = at-find .before .before in
+    let at-bucket = at-head-at .before .before in
+    let at-hash = at-bucket .before in
+    let at-key = at-hash .before in
+    let at-capacity = at-key .before in
+    let start = at-capacity .before .before .before in
+    let a = start .args in
+    stored (a .width) (a .t .now) (a .n) (a .row) (at-capacity .capacity .ensures) (at-key .key .ensures) (at-hash .hash .ensures) (at-bucket .bucket .ensures) (at-head-at .head-at .ensures)
+    (at-find .find .ensures) (at-if1 .if1 .left) (at-if2 .if2 .taken) (c .before .before .append .ensures)
 
 over-requires : tie.Need-over-requires
-over-requires c κs = few (c .before .before .before .before .before .before .before .before .before .before .before .before .args .t .now) (c .before .before .before .before .before .before .before .before .before .capacity .ensures)
+over-requires c κs =
+    let at-key = c .before .before .before .before .before .before .before .before in
+    let at-capacity = at-key .before in
+    let start = at-capacity .before .before .before in
+    few (start .args .t .now) (at-capacity .capacity .ensures)
 
 returns-3 : tie.Need-returns-3
 returns-3 c =
-    let a = c .before .before .before .before .before .before .before .before .before .before .before .before .before .args in
-    full (a .width) (a .t .now) (a .n) (a .row) (c .before .before .before .before .before .before .before .before .before .before .capacity .ensures) (c .before .before .before .before .before .before .before .before .before .key .ensures) (c .before .before .before .before .before .before .before .before .hash .ensures) (c .before .before .before .before .before .before .before .bucket .ensures) (c .before .before .before .before .before .head-at .ensures)
-    (c .before .before .before .find .ensures) (c .before .before .if1 .left) (c .before .if2 .left) (c .over .ensures)
+    let at-find = c .before .before .before in
+    let at-head-at = at-find .before .before in
+    let at-bucket = at-head-at .before .before in
+    let at-hash = at-bucket .before in
+    let at-key = at-hash .before in
+    let at-capacity = at-key .before in
+    let start = at-capacity .before .before .before in
+    let a = start .args in
+    full (a .width) (a .t .now) (a .n) (a .row) (at-capacity .capacity .ensures) (at-key .key .ensures) (at-hash .hash .ensures) (at-bucket .bucket .ensures) (at-head-at .head-at .ensures)
+    (at-find .find .ensures) (c .before .before .if1 .left) (c .before .if2 .left) (c .over .ensures)
 
 pub insert-spec : {M : Type 1} → statement M
 insert-spec =

@@ -34,8 +34,15 @@ returns : tie.Need-returns
 returns c = stores (c .before .before .args .t .now) (c .before .before .args .k0) (c .before .before .args .r)
 
 returns-2 : tie.Need-returns-2
-returns-2 c = let a = c .before .before .before .before .before .before .before .before .before .before .before .before .before .before .before .before .before .before .before .before .before .before .before .before .before .before .args in
-    calls (a .t .now) (a .k0) (a .r) (c .before .before .before .before .before .before .before .before .before .before .before .before .before .before .before .before .before .before .before .before .before .before .set-word .ensures) (c .before .before .before .before .before .before .before .before .before .before .before .before .before .before .before .before .before .before .set-word2 .ensures) (c .before .before .before .before .before .before .before .before .before .before .before .before .before .before .set-word3 .ensures) (c .before .before .before .before .before .before .before .before .before .before .set-word4 .ensures) (c .before .before .before .before .before .before .set-word5 .ensures) (c .before .before .set-word6 .ensures)
+returns-2 c =
+    let at-set-word5 = c .before .before .before .before .before .before in
+    let at-set-word4 = at-set-word5 .before .before .before .before in
+    let at-set-word3 = at-set-word4 .before .before .before .before in
+    let at-set-word2 = at-set-word3 .before .before .before .before in
+    let at-set-word = at-set-word2 .before .before .before .before in
+    let start = at-set-word .before .before .before .before in
+    let a = start .args in
+    calls (a .t .now) (a .k0) (a .r) (at-set-word .set-word .ensures) (at-set-word2 .set-word2 .ensures) (at-set-word3 .set-word3 .ensures) (at-set-word4 .set-word4 .ensures) (at-set-word5 .set-word5 .ensures) (c .before .before .set-word6 .ensures)
 
 pub set-six-spec : {M : Type 1} → statement M
 set-six-spec =

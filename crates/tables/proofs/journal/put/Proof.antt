@@ -21,7 +21,12 @@ module _ (on : Bool) (t : List ℕ) (n : ℕ) (j : List ℕ) (m : ℕ) (q : Row)
   plain e f = rw (e, ← f)
 
 returns : tie.Need-returns
-returns c = let a = c .before .before .before .before .before .before .before .before .before .before .args in let y = c .before .before .before .before .put-noted in marked (a .on) (a .t .now) (a .count) (a .journal .now) (a .entries) (rangeRow (a .start) (a .loc)) (c .before .before .before .before .before .before .before .if1 .taken) {x = journaled (y .result) (y .last .0) (y .last .1 .1 .0)} (y .ensures)
+returns c =
+    let at-put-noted = c .before .before .before .before in
+    let at-if1 = at-put-noted .before .before .before in
+    let start = at-if1 .before .before .before in
+    let a = start .args in
+    let y = at-put-noted .put-noted in marked (a .on) (a .t .now) (a .count) (a .journal .now) (a .entries) (rangeRow (a .start) (a .loc)) (at-if1 .if1 .taken) {x = journaled (y .result) (y .last .0) (y .last .1 .1 .0)} (y .ensures)
 
 returns-2 : tie.Need-returns-2
 returns-2 c = let a = c .before .before .before .before .before .before .before .args in let x = c .before .before .put in plain (a .on) (a .t .now) (a .count) (a .journal .now) (a .entries) (rangeRow (a .start) (a .loc)) (c .before .before .before .before .if1 .left) {x = left (x .result) (x .last .0)} (x .ensures)

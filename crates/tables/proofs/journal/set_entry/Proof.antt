@@ -19,7 +19,12 @@ law j k i v old e1 e2 e3 =
     rw (e3, e2, e1, p, q)
 
 returns : tie.Need-returns
-returns c = let a = c .before .before .before .before .before .before .before .before .before .before .before .before .before .args in law (a .journal .now) (a .k) (a .i) (a .v) (a .old) (c .before .before .before .before .before .before .before .before .before .before .set-word .ensures) (c .before .before .before .before .before .before .set-word2 .ensures) (c .before .before .set-six .ensures)
+returns c =
+    let at-set-word2 = c .before .before .before .before .before .before in
+    let at-set-word = at-set-word2 .before .before .before .before in
+    let start = at-set-word .before .before .before in
+    let a = start .args in
+    law (a .journal .now) (a .k) (a .i) (a .v) (a .old) (at-set-word .set-word .ensures) (at-set-word2 .set-word2 .ensures) (c .before .before .set-six .ensures)
 
 pub set-entry-spec : {M : Type 1} → statement M
 set-entry-spec =

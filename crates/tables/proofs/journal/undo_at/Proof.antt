@@ -14,7 +14,13 @@ unfolding undoAt
 law t j k e1 e2 e3 e4 = rw (e4, e3, e2, e1)
 
 returns : tie.Need-returns
-returns c = let a = c .before .before .before .before .before .before .before .before .before .args in law (a .t .now) (a .journal .now) (a .k) (c .before .before .before .before .before .before .word .ensures) (c .before .before .before .before .before .word2 .ensures) (c .before .before .before .before .six .ensures) (c .before .before .undo-entry .ensures)
+returns c =
+    let at-six = c .before .before .before .before in
+    let at-word2 = at-six .before in
+    let at-word = at-word2 .before in
+    let start = at-word .before .before .before in
+    let a = start .args in
+    law (a .t .now) (a .journal .now) (a .k) (at-word .word .ensures) (at-word2 .word2 .ensures) (at-six .six .ensures) (c .before .before .undo-entry .ensures)
 
 pub undo-at-spec : {M : Type 1} → statement M
 undo-at-spec =

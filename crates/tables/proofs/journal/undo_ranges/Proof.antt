@@ -18,7 +18,13 @@ loop-holds : tie.Need-loop-holds Inv-loop μ-loop
 loop-holds c = (refl, refl, refl)
 
 loop-again : tie.Need-loop-again Inv-loop μ-loop
-loop-again c = let a = c .before .before .before .before .before .before .before .before .before .before .before .before .before .args in let l = c .before .before .before .before .before .before .before .before .before .before .loop in (search needs, search needs, ranges-turn (a .to) (l .t) (l .journal) (l .m) (c .before .before .before .before .before .before .before .before .before .loop-test .taken) (c .before .before .before .before .before .before .undo-at .ensures) (c .before .before .set-entry .ensures) (l .inv .2))
+loop-again c =
+    let at-undo-at = c .before .before .before .before .before .before in
+    let at-loop-test = at-undo-at .before .before .before in
+    let at-loop = at-loop-test .before in
+    let start = at-loop .before .before .before in
+    let a = start .args in
+    let l = at-loop .loop in (search needs, search needs, ranges-turn (a .to) (l .t) (l .journal) (l .m) (at-loop-test .loop-test .taken) (at-undo-at .undo-at .ensures) (c .before .before .set-entry .ensures) (l .inv .2))
 
 same-length : tie.Need-same-length Inv-loop μ-loop
 same-length c = c .before .loop .inv .0

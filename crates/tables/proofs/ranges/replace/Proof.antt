@@ -24,8 +24,12 @@ returns c = let a = c .before .before .before .before .before .args in kept (a .
 
 returns-2 : tie.Need-returns-2
 returns-2 c =
-    let a = c .before .before .before .before .before .before .before .before .before .args in
-    changed (a .t .now) (a .i) (a .row) (c .before .before .before .before .before .before .row-at .ensures) (c .before .before .before .before .before .same .ensures) (c .before .before .before .before .if1 .left) (c .before .before .set-row .ensures)
+    let at-if1 = c .before .before .before .before in
+    let at-same = at-if1 .before in
+    let at-row-at = at-same .before in
+    let start = at-row-at .before .before .before in
+    let a = start .args in
+    changed (a .t .now) (a .i) (a .row) (at-row-at .row-at .ensures) (at-same .same .ensures) (at-if1 .if1 .left) (c .before .before .set-row .ensures)
 
 pub replace-spec : {M : Type 1} → statement M
 replace-spec =

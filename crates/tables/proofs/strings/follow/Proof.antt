@@ -39,10 +39,14 @@ loop-less c = let l = c .before .before .before .before .before .loop in less (c
 
 loop-again : tie.Need-loop-again Inv-loop μ-loop
 loop-again c =
-    let a = c .before .before .before .before .before .before .before .before .before .args in
-    let l = c .before .before .before .before .before .loop in
-    walk-next (linkAt (a .strings .now)) (textAt (a .text .now) (a .strings .now) (a .t .now)) (a .n) (l .bound) (l .at) (l .inv) (c .before .before .before .before .loop-test .taken)
-    (leb-true (l .at) (l .bound) (c .before .before .before .if1 .taken)) (c .before .before .is-text .ensures) (c .before .if2 .left) (c .link-at .ensures)
+    let at-if1 = c .before .before .before in
+    let at-loop-test = at-if1 .before in
+    let at-loop = at-loop-test .before in
+    let start = at-loop .before .before .before .before in
+    let a = start .args in
+    let l = at-loop .loop in
+    walk-next (linkAt (a .strings .now)) (textAt (a .text .now) (a .strings .now) (a .t .now)) (a .n) (l .bound) (l .at) (l .inv) (at-loop-test .loop-test .taken)
+    (leb-true (l .at) (l .bound) (at-if1 .if1 .taken)) (c .before .before .is-text .ensures) (c .before .if2 .left) (c .link-at .ensures)
 
 returns-2 : tie.Need-returns-2 Inv-loop μ-loop
 returns-2 c =

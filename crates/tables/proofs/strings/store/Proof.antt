@@ -9,9 +9,9 @@ use lib.Seq.{sets}
 use borrow.Author.Needs.{needs}
 use borrow.Author.Tests.{leb-true, ltb-true}
 use Rattle.text.specs.Leb128.{encoded}
-use Rattle.tables.specs.Table.{capacityOf}
+use Rattle.tables.specs.Table.{maxRows, capacityOf}
 use Rattle.tables.specs.Kinds.{rowOfText}
-use Rattle.tables.specs.Strings.{textCapacityOf, textSize, storedText, textHash, textRow, indexOf, fullOf, storeOf, stringsLeft, stored}
+use Rattle.tables.specs.Strings.{maxBytes, textCapacityOf, textSize, storedText, textHash, textRow, indexOf, fullOf, storeOf, stringsLeft, stored}
 use Rattle.tables.specs.declared.strings.Stored.{Stored}
 use Rattle.tables.proofs.Room.{cap-most, TextRoom, text-room}
 use Rattle.tables.proofs.strings.store.Statement.{statement}
@@ -20,8 +20,8 @@ use Rattle.tables.proofs.strings.store.Tie as tie
 -- what the test says where it holds
 record Inside (text strings : List ℕ) (bytes count prefix len : ℕ) : Type 0 where
   within : bytes + (prefix + len) ≤ length text
-  small : bytes + (prefix + len) ≤ 268435456
-  few : count < 16777216
+  small : bytes + (prefix + len) ≤ maxBytes
+  few : count < maxRows
 
 both : (x y : Bool) → (x && y) ≡ true → (x ≡ true) × (y ≡ true)
 both true true e = (refl, refl)
@@ -40,7 +40,7 @@ module _ (text strings : List ℕ) (bytes count : ℕ) (t : List ℕ) {cap limit
       let s = cap-most (length strings) in
       record { within = omega arith; small = omega arith; few = omega arith }
 
-  few : (limit ≤ 268435456) × (cap ≤ 268435456)
+  few : (limit ≤ maxBytes) × (cap ≤ maxRows)
   few = let r : TextRoom (length text) (textCapacityOf (length text)) = text-room (length text) in let s = cap-most (length strings) in (omega arith, omega arith)
 
   size-is : prefix + length t ≡ textSize t

@@ -32,7 +32,11 @@ copy-requires : tie.Need-copy-requires
 copy-requires c κs = let a = c .before .before .before .before .before .before .before .args in fits (a .text .now) (a .at) (a .start) (a .t .now) (c .before .before .before .before .before .before .before .pre) (c .before .before .before .write-leb128 .ensures)
 
 returns : tie.Need-returns
-returns c = let a = c .before .before .before .before .before .before .before .before .before .before .args in both (a .text .now) (a .at) (a .start) (a .t .now) (c .before .before .before .before .before .before .before .before .before .before .pre) (c .before .before .before .before .before .before .write-leb128 .ensures) (c .before .before .copy .ensures)
+returns c =
+    let at-write-leb128 = c .before .before .before .before .before .before in
+    let start = at-write-leb128 .before .before .before .before in
+    let a = start .args in
+    both (a .text .now) (a .at) (a .start) (a .t .now) (start .pre) (at-write-leb128 .write-leb128 .ensures) (c .before .before .copy .ensures)
 
 pub write-spec : {M : Type 1} → statement M
 write-spec = tie.close (tie.spec (λ c κs. search needs) copy-requires (λ c. search needs) returns)

@@ -20,7 +20,15 @@ module _ (w : ℕ) (t : List ℕ) (n : ℕ) {m : ℕ} (e : m ≡ capacityOf (len
   none p = rw (← e, le-ltb n m p)
 
 returns : tie.Need-returns
-returns c = let a = c .before .before .before .before .before .before .before .before .before .before .before .before .args in off (a .width) (a .t .now) (a .n) (c .before .before .before .before .before .before .before .before .before .capacity .ensures) (c .before .before .before .before .before .before .before .before .if1 .taken) (c .before .before .before .before .before .before .row-at .ensures) (c .before .before .before .before .before .row-hash .ensures) (c .before .before .before .before .bucket .ensures) (c .before .before .unlink .ensures)
+returns c =
+    let at-bucket = c .before .before .before .before in
+    let at-row-hash = at-bucket .before in
+    let at-row-at = at-row-hash .before in
+    let at-if1 = at-row-at .before .before in
+    let at-capacity = at-if1 .before in
+    let start = at-capacity .before .before .before in
+    let a = start .args in
+    off (a .width) (a .t .now) (a .n) (at-capacity .capacity .ensures) (at-if1 .if1 .taken) (at-row-at .row-at .ensures) (at-row-hash .row-hash .ensures) (at-bucket .bucket .ensures) (c .before .before .unlink .ensures)
 
 returns-2 : tie.Need-returns-2
 returns-2 c = let a = c .before .before .before .before .args in none (a .width) (a .t .now) (a .n) (c .before .capacity .ensures) (c .if1 .left)

@@ -16,7 +16,13 @@ law m t n h e e1 e2 e3 =
     rw (e3, e2, e1, e, s)
 
 returns : tie.Need-returns
-returns c = let a = c .before .before .before .before .before .before .before .before .before .before .before .before .before .before .before .args in law (a .cap) (a .t .now) (a .n) (a .h) (c .before .before .before .before .before .before .before .before .before .before .before .before .link-at .ensures) (c .before .before .before .before .before .before .before .before .before .before .set-word .ensures) (c .before .before .before .before .before .before .set-row .ensures) (c .before .before .set-word2 .ensures)
+returns c =
+    let at-set-row = c .before .before .before .before .before .before in
+    let at-set-word = at-set-row .before .before .before .before in
+    let at-link-at = at-set-word .before .before in
+    let start = at-link-at .before .before .before in
+    let a = start .args in
+    law (a .cap) (a .t .now) (a .n) (a .h) (at-link-at .link-at .ensures) (at-set-word .set-word .ensures) (at-set-row .set-row .ensures) (c .before .before .set-word2 .ensures)
 
 pub unlink-spec : {M : Type 1} → statement M
 unlink-spec =
