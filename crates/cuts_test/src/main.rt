@@ -55,12 +55,7 @@ fn print_cuts(s: &[u8]) {
 }
 
 fn main() {
-    let fd = os::open_read(b"worked.sym");
-    if fd < 0 {
-        return;
-    }
     let mut file = [0u8; 512];
-    let used = io::read_full(fd, &mut file);
-    libc::close(fd);
+    let used = replay::read_file(b"worked.sym", &mut file);
     print_cuts(&file[..used]);
 }

@@ -1,61 +1,136 @@
-// What a call leaves in lent memory and in the record, held against what was there before it.
+// What a call leaves in the tables and in the record, held against what was there before it.
 use crate::calls::Done;
-use crate::calls::Memory;
-use crate::cases::Case;
-use crate::cases::TREE;
-use crate::cases::WRITE;
-use crate::words::both;
-use crate::words::byte;
-use crate::words::is_left;
-use crate::words::is_left_bytes;
-use crate::words::same_bytes;
+use crate::calls::Tables;
+use crate::case::BEGIN;
+use crate::case::Case;
+use crate::case::WRITE;
 use memory::Converter;
 use memory::LastAddr;
 use memory::State;
 
-// Whether the tables are as before.
-fn tables_same(before: Memory, after: Memory) -> bool {
-    let text = is_left_bytes(&before.string_bytes, &after.string_bytes, 0);
-    let strings = is_left(&before.strings, &after.strings, 0);
-    let files = is_left(&before.files, &after.files, 0);
-    let functions = is_left(&before.functions, &after.functions, 0);
-    let calls = is_left(&before.call_locations, &after.call_locations, 0);
-    let ranges = is_left(&before.ranges, &after.ranges, 0);
-    both(
-        text,
-        both(strings, both(files, both(functions, both(calls, ranges)))),
-    )
+// What lent memory holds at first.
+pub(crate) const OTHER: u32 = 2779096485;
+
+// What is left where memory was lent: what was there; zeros; anything.
+
+const SAME: u32 = 0;
+
+const ZEROS: u32 = 1;
+
+const ANY: u32 = 2;
+
+// A refused call and a write change nothing; a beginning, and a call that finds a table full, leave zeros.
+fn left_by(call: usize, code: u32) -> u32 {
+    if code == 17 || call == BEGIN {
+        return ZEROS;
+    }
+    if code == 0 && call != WRITE {
+        return ANY;
+    }
+    SAME
 }
 
-// Whether what was lent of the tables is 0, and what wasn't is as before.
-pub(crate) fn tables_zero(before: Memory, after: Memory, c: Case) -> bool {
-    let text = is_left_bytes(
-        &before.string_bytes,
-        &after.string_bytes,
-        c.string_bytes as usize,
-    );
-    let strings = is_left(&before.strings, &after.strings, c.strings as usize);
-    let files = is_left(&before.files, &after.files, c.files as usize);
-    let functions = is_left(&before.functions, &after.functions, c.functions as usize);
-    let calls = is_left(
-        &before.call_locations,
-        &after.call_locations,
-        c.call_locations as usize,
-    );
-    let ranges = is_left(&before.ranges, &after.ranges, c.ranges as usize);
-    both(
-        text,
-        both(strings, both(files, both(functions, both(calls, ranges)))),
-    )
+fn expected(before: u32, now: u32, lent: bool, left: u32) -> u32 {
+    if lent && left == ZEROS {
+        return 0;
+    }
+    if lent && left == ANY {
+        return now;
+    }
+    before
 }
 
-// Whether the first `zeros` words of scratch are 0, and the others as before.
-fn scratch_left(before: Memory, after: Memory, zeros: usize) -> bool {
-    is_left(&before.scratch, &after.scratch, zeros)
+// Whether the first n words are left so, and the others as before.
+fn is_left(before: &[u32; 96], t: &[u32; 96], n: usize, left: u32) -> bool {
+    let mut i: usize = 0;
+    while i < 96 {
+        if t[i] != expected(before[i], t[i], i < n, left) {
+            return false;
+        }
+        i += 1;
+    }
+    true
 }
 
-fn out_same(before: Memory, after: Memory) -> bool {
-    is_left_bytes(&before.out, &after.out, 0)
+fn wide(b: u8) -> u32 {
+    b as u32
+}
+
+fn is_left_bytes(before: &[u8; 96], t: &[u8; 96], n: usize, left: u32) -> bool {
+    let mut i: usize = 0;
+    while i < 96 {
+        if wide(t[i]) != expected(wide(before[i]), wide(t[i]), i < n, left) {
+            return false;
+        }
+        i += 1;
+    }
+    true
+}
+
+fn are_tables_left(before: Tables, after: Tables, c: Case, left: u32) -> bool {
+    let n = c.lent;
+    is_left_bytes(&before.string_bytes, &after.string_bytes, n[0], left)
+        && is_left(&before.strings, &after.strings, n[1], left)
+        && is_left(&before.files, &after.files, n[2], left)
+        && is_left(&before.functions, &after.functions, n[3], left)
+        && is_left(&before.call_locations, &after.call_locations, n[4], left)
+        && is_left(&before.ranges, &after.ranges, n[5], left)
+}
+
+// Scratch and the output
+
+// Whether the first `zeros` words are 0, and the others what they were.
+fn is_zero_up_to(t: &[u32; 262144], zeros: usize) -> bool {
+    let mut i: usize = 0;
+    while i < 262144 {
+        if t[i] != zero_or_other(i, zeros) {
+            return false;
+        }
+        i += 1;
+    }
+    true
+}
+
+fn zero_or_other(i: usize, zeros: usize) -> u32 {
+    if i < zeros {
+        return 0;
+    }
+    OTHER
+}
+
+// Scratch after a tree: zero where it was lent if the tree was accepted or found a table full, and what it was if it was refused.
+pub(crate) fn is_scratch_left(t: &[u32; 262144], n: usize, code: u32) -> bool {
+    if code == 0 || code == 17 {
+        return is_zero_up_to(t, n);
+    }
+    is_zero_up_to(t, 0)
+}
+
+fn byte(t: &[u8], at: usize, n: usize) -> u8 {
+    if at < n && at < t.len() {
+        return t[at];
+    }
+    165
+}
+
+// Whether the output begins with the file's first n bytes, and goes on as it was.
+fn begins_with(t: &[u8; 400], file: &[u8], n: usize) -> bool {
+    let mut i: usize = 0;
+    while i < 400 {
+        if t[i] != byte(file, i, n) {
+            return false;
+        }
+        i += 1;
+    }
+    true
+}
+
+// The output after a write.
+pub(crate) fn is_written(t: &[u8; 400], file: &[u8], code: u32, len: usize) -> bool {
+    if code == 0 {
+        return len == file.len() && begins_with(t, file, len);
+    }
+    len == 0 && begins_with(t, file, 0)
 }
 
 // The record
@@ -68,166 +143,67 @@ fn last_of(a: LastAddr) -> u64 {
 }
 
 fn same_state(a: State, b: State) -> bool {
-    if a.string_bytes != b.string_bytes {
-        return false;
-    }
-    if a.strings != b.strings {
-        return false;
-    }
-    if a.files != b.files {
-        return false;
-    }
-    if a.functions != b.functions {
-        return false;
-    }
-    if a.call_locations != b.call_locations {
-        return false;
-    }
-    if a.ranges != b.ranges {
-        return false;
-    }
-    let end = a.last_addr;
+    let last = a.last_addr;
     let other = b.last_addr;
-    last_of(end) == last_of(other)
-}
-
-fn same_bool(a: bool, b: bool) -> bool {
-    if a {
-        return b;
-    }
-    !b
+    a.string_bytes == b.string_bytes
+        && a.strings == b.strings
+        && a.files == b.files
+        && a.functions == b.functions
+        && a.call_locations == b.call_locations
+        && a.ranges == b.ranges
+        && last_of(last) == last_of(other)
 }
 
 // What the converter was begun with.
 fn same_begun(a: Converter, b: Converter) -> bool {
     let id = a.debug_id;
     let other = b.debug_id;
-    let same = same_bytes(&id, &other);
-    let functions = same_bool(a.undecorate_functions, b.undecorate_functions);
-    let symbols = same_bool(a.undecorate_symbols, b.undecorate_symbols);
-    both(same, both(a.arch == b.arch, both(functions, symbols)))
+    check::same(&id, &other)
+        && a.arch == b.arch
+        && a.undecorate_functions == b.undecorate_functions
+        && a.undecorate_symbols == b.undecorate_symbols
+}
+
+// A record of nothing in use.
+pub(crate) fn unused(open: bool) -> Converter {
+    let id = [0u8; 32];
+    Converter {
+        debug_id: id,
+        arch: 0,
+        undecorate_functions: false,
+        undecorate_symbols: false,
+        open,
+        state: State {
+            string_bytes: 0,
+            strings: 0,
+            files: 0,
+            functions: 0,
+            call_locations: 0,
+            ranges: 0,
+            last_addr: LastAddr::Unset,
+        },
+    }
 }
 
 fn same_record(a: Converter, b: Converter) -> bool {
-    let begun = same_begun(a, b);
-    let open = same_bool(a.open, b.open);
-    let state = same_state(a.state, b.state);
-    both(begun, both(open, state))
+    same_begun(a, b) && a.open == b.open && same_state(a.state, b.state)
 }
 
-pub(crate) fn unused() -> State {
-    State {
-        string_bytes: 0,
-        strings: 0,
-        files: 0,
-        functions: 0,
-        call_locations: 0,
-        ranges: 0,
-        last_addr: LastAddr::Unset,
+// A beginning opens the converter; one that finds a table full closes it, with nothing in use.
+fn is_record_left(before: Converter, after: Converter, call: usize, left: u32) -> bool {
+    if left == ZEROS {
+        return same_record(after, unused(call == BEGIN));
     }
-}
-
-// After 17: what it was begun with, closed, and nothing in use.
-fn is_closed(a: Converter, b: Converter) -> bool {
-    let begun = same_begun(a, b);
-    let state = same_state(b.state, unused());
-    both(begun, both(!b.open, state))
-}
-
-pub(crate) fn closed_record(c: Case, converter: Converter) -> Converter {
-    let id = converter.debug_id;
-    let state = converter.state;
-    Converter {
-        debug_id: id,
-        arch: converter.arch,
-        undecorate_functions: converter.undecorate_functions,
-        undecorate_symbols: converter.undecorate_symbols,
-        open: !c.closed,
-        state,
+    if left == ANY {
+        return same_begun(before, after) && after.open;
     }
+    same_record(before, after)
 }
 
-// Whether the output begins with the file, and goes on as before.
-fn is_written(before: &[u8], out: &[u8], file: &[u8]) -> bool {
-    let mut i = 0;
-    while i < out.len() {
-        if i < file.len() {
-            if out[i] != file[i] {
-                return false;
-            }
-        } else {
-            if out[i] != byte(before, i) {
-                return false;
-            }
-        }
-        i += 1;
-    }
-    true
-}
-
-fn out_written(before: Memory, after: Memory, file: &[u8]) -> bool {
-    is_written(&before.out, &after.out, file)
-}
-
-// An accepted call. After a tree scratch is 0; a write leaves the tables and the record as they were, and the worked file at the front of the output.
-fn is_accepted(c: Case, before: Converter, memory: Memory, done: Done, file: &[u8]) -> bool {
-    let after = done.memory;
-    if c.call == TREE {
-        let zero = scratch_left(memory, after, c.scratch as usize);
-        let kept = out_same(memory, after);
-        return both(zero, both(kept, both(done.same, done.converter.open)));
-    }
-    let scratch = scratch_left(memory, after, 0);
-    if c.call != WRITE {
-        let kept = out_same(memory, after);
-        return both(scratch, both(kept, both(done.same, done.converter.open)));
-    }
-    let written = out_written(memory, after, file);
-    let record = same_record(before, done.converter);
-    let tables = tables_same(memory, after);
-    both(scratch, both(written, both(record, tables)))
-}
-
-// A refused call: nothing is changed.
-fn is_refused(before: Converter, memory: Memory, done: Done) -> bool {
-    let after = done.memory;
-    let tables = tables_same(memory, after);
-    let scratch = scratch_left(memory, after, 0);
-    let out = out_same(memory, after);
-    let record = same_record(before, done.converter);
-    both(tables, both(scratch, both(out, both(record, done.same))))
-}
-
-// How much scratch a call is lent.
-fn lent_scratch(c: Case) -> usize {
-    if c.call == TREE {
-        return c.scratch as usize;
-    }
-    0
-}
-
-// 17: all that was lent of tables and scratch is 0, and the converter is closed.
-fn is_overfull(c: Case, before: Converter, memory: Memory, done: Done) -> bool {
-    let after = done.memory;
-    let tables = tables_zero(memory, after, c);
-    let scratch = scratch_left(memory, after, lent_scratch(c));
-    let out = out_same(memory, after);
-    let record = is_closed(before, done.converter);
-    both(tables, both(scratch, both(out, both(record, done.same))))
-}
-
-pub(crate) fn is_as_said(
-    c: Case,
-    before: Converter,
-    memory: Memory,
-    done: Done,
-    file: &[u8],
-) -> bool {
-    if done.code == 0 {
-        return is_accepted(c, before, memory, done, file);
-    }
-    if done.code == 17 {
-        return is_overfull(c, before, memory, done);
-    }
-    is_refused(before, memory, done)
+// Whether a call left all as document 01 says.
+pub(crate) fn is_as_said(c: Case, before: Done, after: Done) -> bool {
+    let left = left_by(c.call, after.code);
+    after.same
+        && is_record_left(before.converter, after.converter, c.call, left)
+        && are_tables_left(before.tables, after.tables, c, left)
 }

@@ -4,6 +4,12 @@ use raw::File;
 use raw::Function;
 use raw::Header;
 use raw::SourceLocation;
+use replay::add;
+use replay::add_bytes;
+use replay::low;
+use replay::number;
+use replay::place;
+use replay::word;
 use symcache::ErrorKind;
 use symcache::Parsed;
 use symcache::SymCache;
@@ -22,25 +28,6 @@ use symcache::strings::GotString;
 
 // Words
 
-// The 32-bit number at `at`; where bytes are missing they count as 0.
-fn word(s: &[u8], at: usize) -> u32 {
-    let row = raw::range_at(s, at);
-    row.0
-}
-
-fn low(n: usize) -> u32 {
-    (n % 4294967296) as u32
-}
-
-fn wide(b: u8) -> u32 {
-    b as u32
-}
-
-// The checksum with one word more.
-fn add(sum: u32, w: u32) -> u32 {
-    (((sum as u64) * 16777619 + (w as u64) + 1) % 4294967296) as u32
-}
-
 fn add_two(sum: u32, a: u32, b: u32) -> u32 {
     let sum = add(sum, a);
     add(sum, b)
@@ -49,16 +36,6 @@ fn add_two(sum: u32, a: u32, b: u32) -> u32 {
 fn add_four(sum: u32, a: u32, b: u32, c: u32, d: u32) -> u32 {
     let sum = add_two(sum, a, b);
     add_two(sum, c, d)
-}
-
-fn add_bytes(sum: u32, s: &[u8]) -> u32 {
-    let mut now = sum;
-    let mut i: usize = 0;
-    while i < s.len() {
-        now = add(now, wide(s[i]));
-        i += 1;
-    }
-    now
 }
 
 // A text: its length and 1, then its bytes.
@@ -144,11 +121,6 @@ fn add_function_rows(sum: u32, s: &[u8], n: u32) -> u32 {
     now
 }
 
-// The place of a row of the table at `at`.
-fn row(at: usize, offset: usize) -> usize {
-    std::num::wrapping_add_u64(at as u64, offset as u64) as usize
-}
-
 fn add_location(sum: u32, l: SourceLocation) -> u32 {
     add_four(sum, l.file_idx, l.line, l.function_idx, l.inlined_into_idx)
 }
@@ -157,7 +129,7 @@ fn add_location_rows(sum: u32, s: &[u8], at: usize, n: u32) -> u32 {
     let mut now = sum;
     let mut i: u32 = 0;
     while i < n {
-        now = add_location(now, raw::location_at(s, row(at, 16 * (i as usize))));
+        now = add_location(now, raw::location_at(s, place(at, 16 * (i as usize))));
         i += 1;
     }
     now
@@ -167,7 +139,7 @@ fn add_range_rows(sum: u32, s: &[u8], at: usize, n: u32) -> u32 {
     let mut now = sum;
     let mut i: u32 = 0;
     while i < n {
-        now = add(now, word(s, row(at, 4 * (i as usize))));
+        now = add(now, word(s, place(at, 4 * (i as usize))));
         i += 1;
     }
     now
@@ -362,20 +334,12 @@ fn add_lookup(sum: u32, s: &[u8], address: u64) -> u32 {
     }
 }
 
-// Address `i` of a case, after their count.
-fn address_at(addresses: &[u8], i: u32) -> u64 {
-    let at = 4 + 8 * (i as usize);
-    let low = word(addresses, at);
-    let high = word(addresses, at + 4);
-    (low as u64) + 4294967296 * (high as u64)
-}
-
 fn add_lookups(sum: u32, s: &[u8], addresses: &[u8]) -> u32 {
     let n = word(addresses, 0);
     let mut now = sum;
     let mut i: u32 = 0;
     while i < n {
-        now = add_lookup(now, s, address_at(addresses, i));
+        now = add_lookup(now, s, number(addresses, 4 + 8 * (i as usize)));
         i += 1;
     }
     now
@@ -384,66 +348,31 @@ fn add_lookups(sum: u32, s: &[u8], addresses: &[u8]) -> u32 {
 // Cases
 
 fn case_sum(s: &[u8], addresses: &[u8]) -> u32 {
-    let sum = add_parsed(2166136261, s);
+    let sum = add_parsed(replay::START, s);
     let sum = add_functions(sum, s);
     let sum = add_files(sum, s);
     add_lookups(sum, s, addresses)
 }
 
-fn hex_digit(d: u32) -> u8 {
-    let d = d % 16;
-    if d < 10 {
-        return (48 + d) as u8;
-    }
-    (55 + d) as u8
-}
-
-fn print_sum(sum: u32) {
-    let line = [
-        hex_digit(sum / 268435456),
-        hex_digit(sum / 16777216),
-        hex_digit(sum / 1048576),
-        hex_digit(sum / 65536),
-        hex_digit(sum / 4096),
-        hex_digit(sum / 256),
-        hex_digit(sum / 16),
-        hex_digit(sum),
-        10,
-    ];
-    io::write_all(STDOUT_FILENO, &line);
-}
-
 // A case: the length of a file, the file, and what follows it.
-fn replay(record: &[u8]) {
+fn replay_case(record: &[u8]) {
     let to = 4 + (word(record, 0) as usize);
     if record.len() < to {
         return;
     }
-    print_sum(case_sum(&record[4..to], &record[to..]));
-}
-
-fn replay_first(record: &[u8], n: usize) {
-    if n <= record.len() {
-        replay(&record[0..n]);
-    }
-}
-
-fn read_body(fd: i32, record: &mut [u8], n: u32) -> usize {
-    let n = io::count(n as isize, record);
-    io::read_full(fd, &mut record[..n])
+    let line = replay::sum_line(case_sum(&record[4..to], &record[to..]));
+    io::write_all(STDOUT_FILENO, &line);
 }
 
 // Replays the next record, and answers whether there was one.
 fn replay_next(fd: i32) -> bool {
-    let mut length = [0u8; 4];
-    if io::read_full(fd, &mut length) < 4 {
-        return false;
-    }
-    let n = word(&length, 0);
     let mut record = [0u8; 16384];
-    let got = read_body(fd, &mut record, n);
-    replay_first(&record, got);
-    true
+    let got = replay::read_record(fd, &mut record);
+    let n = got.len;
+    if got.some {
+        replay_case(&record[..n]);
+    }
+    got.some
 }
 
 // Nothing says that the container ends, so the records are counted down.

@@ -1,75 +1,15 @@
 // Replays lists of calls whose written files the original made: oracle/FORMAT.md, "Converter". A line is printed for each list, the checksum of its words.
 use libc::STDOUT_FILENO;
-use memory::Converter;
+use replay::add;
+use replay::add_bytes;
+use replay::low;
+use replay::number;
+use replay::place;
+use replay::word;
 use rows::OptionalPart;
 use rows::TextPart;
+use memory::Converter;
 use writer::calls::Answer;
-
-// Words
-
-// The 32-bit number at `at`; where bytes are missing they count as 0.
-fn word(s: &[u8], at: usize) -> u32 {
-    let row = raw::range_at(s, at);
-    row.0
-}
-
-// The place `offset` bytes after `at`.
-fn place(at: usize, offset: usize) -> usize {
-    std::num::wrapping_add_u64(at as u64, offset as u64) as usize
-}
-
-// The 64-bit number at `at`.
-fn number(s: &[u8], at: usize) -> u64 {
-    let low = word(s, at);
-    let high = word(s, place(at, 4));
-    (low as u64) + 4294967296 * (high as u64)
-}
-
-fn low(n: usize) -> u32 {
-    (n % 4294967296) as u32
-}
-
-fn wide(b: u8) -> u32 {
-    b as u32
-}
-
-// The checksum with one word more.
-fn add(sum: u32, w: u32) -> u32 {
-    (((sum as u64) * 16777619 + (w as u64) + 1) % 4294967296) as u32
-}
-
-fn add_bytes(sum: u32, s: &[u8]) -> u32 {
-    let mut now = sum;
-    let mut i: usize = 0;
-    while i < s.len() {
-        now = add(now, wide(s[i]));
-        i += 1;
-    }
-    now
-}
-
-fn hex_digit(d: u32) -> u8 {
-    let d = d % 16;
-    if d < 10 {
-        return (48 + d) as u8;
-    }
-    (55 + d) as u8
-}
-
-fn print_sum(sum: u32) {
-    let line = [
-        hex_digit(sum / 268435456),
-        hex_digit(sum / 16777216),
-        hex_digit(sum / 1048576),
-        hex_digit(sum / 65536),
-        hex_digit(sum / 4096),
-        hex_digit(sum / 256),
-        hex_digit(sum / 16),
-        hex_digit(sum),
-        10,
-    ];
-    io::write_all(STDOUT_FILENO, &line);
-}
 
 // Parts of a record
 
@@ -163,7 +103,7 @@ fn begin(
     let arch = word(record, 36);
     let undecorate_functions = word(record, 40) != 0;
     let undecorate_symbols = word(record, 44) != 0;
-    let converter = writer::calls::begin(
+    let converter = memory::begin(
         debug_id,
         arch,
         undecorate_functions,
@@ -177,7 +117,7 @@ fn begin(
     );
     Replay {
         converter,
-        sum: 2166136261,
+        sum: replay::START,
     }
 }
 
@@ -290,7 +230,8 @@ fn write(
 }
 
 fn end(now: Replay) -> Replay {
-    print_sum(now.sum);
+    let line = replay::sum_line(now.sum);
+    io::write_all(STDOUT_FILENO, &line);
     now
 }
 
@@ -354,34 +295,6 @@ fn step(
     end(now)
 }
 
-// Records
-
-// How many bytes were read, and whether there was a record.
-struct Got {
-    some: bool,
-    len: usize,
-}
-
-fn read_body(fd: i32, record: &mut [u8], n: u32) -> usize {
-    let n = io::count(n as isize, record);
-    io::read_full(fd, &mut record[..n])
-}
-
-fn read_record(fd: i32, record: &mut [u8]) -> Got {
-    let mut length = [0u8; 4];
-    if io::read_full(fd, &mut length) < 4 {
-        return Got {
-            some: false,
-            len: 0,
-        };
-    }
-    let n = word(&length, 0);
-    Got {
-        some: true,
-        len: read_body(fd, record, n),
-    }
-}
-
 // Nothing says that the container ends, so the records are counted down.
 fn replay_all(
     fd: i32,
@@ -404,7 +317,7 @@ fn replay_all(
     );
     let mut turns = u32::MAX;
     while turns > 0 {
-        let got = read_record(fd, record);
+        let got = replay::read_record(fd, record);
         if !got.some {
             break;
         }

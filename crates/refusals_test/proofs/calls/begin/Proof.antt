@@ -1,33 +1,13 @@
--- Each lent array has the length of its field.
-use Prim.Native.Nat.{ℕ}
-use mathlib.Core.Path.{sym}
-use borrow.Author.Needs.{needs, length-unmapped}
+-- Each part has as many words as are lent.
+use Rattle.refusals_test.proofs.Parts.{part}
+use borrow.Author.Needs.{needs}
 use Rattle.refusals_test.proofs.calls.begin.Statement.{statement}
 use Rattle.refusals_test.proofs.calls.begin.Tie as tie
 
-slice-aggregate-begin-on : tie.Need-slice-aggregate-begin-on
-slice-aggregate-begin-on c = sym (length-unmapped ℕ (c .before .before .before .before .before .before .before .before .before .args .memory .«string_bytes») 64 (c .before .before .before .before .before .before .before .before .before .good .0 .1 .1 .0 .1 .0 .1))
-
-slice-aggregate-begin-on-2 : tie.Need-slice-aggregate-begin-on-2
-slice-aggregate-begin-on-2 c = sym (length-unmapped ℕ (c .before .before .before .before .before .before .before .before .before .before .args .memory .strings) 96 (c .before .before .before .before .before .before .before .before .before .before .good .0 .1 .1 .1 .0 .1 .0 .1))
-
-slice-aggregate-begin-on-3 : tie.Need-slice-aggregate-begin-on-3
-slice-aggregate-begin-on-3 c = sym (length-unmapped ℕ (c .before .before .before .before .before .before .before .before .before .before .before .args .memory .files) 64 (c .before .before .before .before .before .before .before .before .before .before .before .good .0 .1 .1 .1 .1 .0 .1 .0 .1))
-
-slice-aggregate-begin-on-4 : tie.Need-slice-aggregate-begin-on-4
-slice-aggregate-begin-on-4 c = sym (length-unmapped ℕ (c .before .before .before .before .before .before .before .before .before .before .before .before .args .memory .functions) 64 (c .before .before .before .before .before .before .before .before .before .before .before .before .good .0 .1 .1 .1 .1 .1 .0 .1 .0 .1))
-
-slice-aggregate-begin-on-5 : tie.Need-slice-aggregate-begin-on-5
-slice-aggregate-begin-on-5 c = sym (length-unmapped ℕ (c .before .before .before .before .before .before .before .before .before .before .before .before .before .args .memory .«call_locations») 64 (c .before .before .before .before .before .before .before .before .before .before .before .before .before .good .0 .1 .1 .1 .1 .1 .1 .0 .1 .0 .1))
-
-slice-aggregate-begin-on-6 : tie.Need-slice-aggregate-begin-on-6
-slice-aggregate-begin-on-6 c = sym (length-unmapped ℕ (c .before .before .before .before .before .before .before .before .before .before .before .before .before .before .args .memory .ranges) 96 (c .before .before .before .before .before .before .before .before .before .before .before .before .before .before .good .0 .1 .1 .1 .1 .1 .1 .1 .0 .1 .0 .1))
-
-begin-on-requires : tie.Need-begin-on-requires
-begin-on-requires c κs = search needs
-
-returns : tie.Need-returns
-returns c = search needs
-
 pub begin-spec : {M : Type 1} → statement M
-begin-spec = tie.close (tie.spec slice-aggregate-begin-on slice-aggregate-begin-on-2 slice-aggregate-begin-on-3 slice-aggregate-begin-on-4 slice-aggregate-begin-on-5 slice-aggregate-begin-on-6 begin-on-requires returns)
+begin-spec =
+    tie.close
+    (tie.spec (λ c κs. tt) (λ c κs. tt) (λ c κs. tt) (λ c κs. tt) (λ c κs. tt) (λ c κs. tt) (λ c. search needs) (λ c κs. tt)
+    (λ c. search needs) (λ c κs. tt) (λ c. search needs) (λ c κs. tt) (λ c. search needs) (λ c κs. tt) (λ c. search needs) (λ c κs. tt)
+    (λ c. search needs) (λ c κs. tt) (λ c. search needs) (λ c. search (part, needs)) (λ c. search needs) (λ c. search (part, needs)) (λ c. search needs) (λ c. search (part, needs))
+    (λ c. search needs) (λ c. search (part, needs)) (λ c. search needs) (λ c. search (part, needs)) (λ c. search needs) (λ c. search (part, needs)) (λ c κs. tt) (λ c. tt))
