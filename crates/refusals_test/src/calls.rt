@@ -12,7 +12,7 @@ use memory::Converter;
 ghost use mathlib.Core.Path.{_≡_};
 ghost use Prim.Native.Nat.{_≤_};
 ghost use lib.ListN.{length};
-ghost use Rattle.model.specs.Counts.{Counts};
+ghost use Rattle.io.specs.Counts.{Counts};
 
 // The lent tables.
 pub(crate) struct Tables {

@@ -6,7 +6,7 @@ use native.Mathlib.Numerals.{add-one}
 use lib.ListN.{length, take, drop, getD}
 use lib.Seq.{length-take-le, drop-cons, drop-length}
 use borrow.Author.Tests.{lt-ltb, le-ltb}
-use Rattle.model.specs.Counts.{Counts}
+use Rattle.io.specs.Counts.{Counts}
 use Rattle.replay.specs.Sums.{sumWith, sumWithAll, hexDigit}
 
 pub counts : (n : ℕ) (t : List ℕ) → n ≤ length t → Counts n t

@@ -1,7 +1,7 @@
 // What the programs share that replay stored cases: reading a data file, numbers in its bytes, and the checksum of a case (oracle/FORMAT.md).
 ghost use mathlib.Core.Path.{_≡_};
 ghost use Prim.Native.Nat.{_+_, _*_, _%_};
-ghost use Rattle.model.specs.Counts.{Counts};
+ghost use Rattle.io.specs.Counts.{Counts};
 ghost use Rattle.slices.specs.Bytes.{leAt};
 ghost use Rattle.replay.specs.Sums.{sumWith, sumWithAll, hexDigit, sumLine};
 
