@@ -7,16 +7,10 @@ use borrow.Author.Needs.{needs}
 use Rattle.c_lookup.proofs.find.Statement.{statement}
 use Rattle.c_lookup.proofs.find.Tie as tie
 
-cache-of-requires : tie.Need-cache-of-requires
-cache-of-requires c κs = search needs
-
-find-requires : tie.Need-find-requires
-find-requires c κs = search needs
-
 returns : tie.Need-returns
 unfolding findCall
 returns c = let a = c .before .before .before .before .args in
     (c .find .ensures) ∙ ap (λ (x : SymCache). foundAt (a .bytes .now) x (a .addr)) (c .before .cache-of .ensures)
 
 pub find-spec : {M : Type 1} → statement M
-find-spec = tie.close (tie.spec cache-of-requires find-requires returns)
+find-spec = tie.close (tie.spec (λ c κs. search needs) (λ c κs. search needs) returns)

@@ -7,15 +7,6 @@ use borrow.Author.Needs.{needs}
 use Rattle.c_lookup.proofs.lookup.Statement.{statement}
 use Rattle.c_lookup.proofs.lookup.Tie as tie
 
-lookup-requires : tie.Need-lookup-requires
-lookup-requires c κs = search needs
-
-put-looked-up-requires : tie.Need-put-looked-up-requires
-put-looked-up-requires c κs = search needs
-
-same-length : tie.Need-same-length
-same-length c = search needs
-
 returns : tie.Need-returns
 unfolding lookupCall
 returns c = let a = c .before .before .before .before .before .before .before .args in
@@ -23,4 +14,4 @@ returns c = let a = c .before .before .before .before .before .before .before .a
 
 pub lookup-spec : {M : Type 1} → statement M
 lookup-spec =
-    tie.close (tie.spec lookup-requires put-looked-up-requires same-length returns)
+    tie.close (tie.spec (λ c κs. search needs) (λ c κs. search needs) (λ c. search needs) returns)

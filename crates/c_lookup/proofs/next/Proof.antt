@@ -10,21 +10,6 @@ use borrow.Author.Needs.{needs}
 use Rattle.c_lookup.proofs.next.Statement.{statement}
 use Rattle.c_lookup.proofs.next.Tie as tie
 
-walk-of-requires : tie.Need-walk-of-requires
-walk-of-requires c κs = search needs
-
-next-requires : tie.Need-next-requires
-next-requires c κs = search needs
-
-put-step-requires : tie.Need-put-step-requires
-put-step-requires c κs = search needs
-
-same-length : tie.Need-same-length
-same-length c = search needs
-
-same-length-2 : tie.Need-same-length-2
-same-length-2 c = search needs
-
 returns : tie.Need-returns
 unfolding nextCall
 returns c = let a = c .before .before .before .before .before .before .before .before .before .before .before .before .before .args in
@@ -33,4 +18,4 @@ returns c = let a = c .before .before .before .before .before .before .before .b
 pub next-spec : {M : Type 1} → statement M
 next-spec =
     tie.close
-    (tie.spec walk-of-requires next-requires put-step-requires same-length same-length-2 returns)
+    (tie.spec (λ c κs. search needs) (λ c κs. search needs) (λ c κs. search needs) (λ c. search needs) (λ c. search needs) returns)

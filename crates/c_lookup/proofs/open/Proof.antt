@@ -7,19 +7,10 @@ use borrow.Author.Needs.{needs}
 use Rattle.c_lookup.proofs.open.Statement.{statement}
 use Rattle.c_lookup.proofs.open.Tie as tie
 
-open-requires : tie.Need-open-requires
-open-requires c κs = search needs
-
-put-parsed-requires : tie.Need-put-parsed-requires
-put-parsed-requires c κs = search needs
-
-same-length : tie.Need-same-length
-same-length c = search needs
-
 returns : tie.Need-returns
 unfolding openCall
 returns c = let a = c .before .before .before .before .before .before .before .args in
     (c .before .before .put-parsed .ensures) ∙ ap (λ (o : Answer SymCache). cached o (a .cache .now)) (c .before .before .before .«open» .ensures)
 
 pub open-spec : {M : Type 1} → statement M
-open-spec = tie.close (tie.spec open-requires put-parsed-requires same-length returns)
+open-spec = tie.close (tie.spec (λ c κs. search needs) (λ c κs. search needs) (λ c. search needs) returns)

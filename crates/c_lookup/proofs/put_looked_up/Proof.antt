@@ -7,21 +7,6 @@ use borrow.Author.Needs.{needs}
 use Rattle.c_lookup.proofs.put_looked_up.Statement.{statement}
 use Rattle.c_lookup.proofs.put_looked_up.Tie as tie
 
-enum-known-found : tie.Need-enum-known-found
-enum-known-found c = search needs
-
-put-walk-requires : tie.Need-put-walk-requires
-put-walk-requires c κs = search needs
-
-enum-known-found-2 : tie.Need-enum-known-found-2
-enum-known-found-2 c = search needs
-
-number-requires : tie.Need-number-requires
-number-requires c κs = search needs
-
-same-length : tie.Need-same-length
-same-length c = search needs
-
 returns : tie.Need-returns
 returns c = let a = c .before .before .before .before .before .before .before .before .args in
     given walkWords (lookupAnswer (a .found)) (c .before .before .before .before .before .found .given .0 .0) (a .cursor .now) (ap lookupAnswer (c .before .before .before .before .before .found .given .1)) (c .before .before .put-walk .ensures)
@@ -34,10 +19,6 @@ pub put-looked-up-spec : {M : Type 1} → statement M
 put-looked-up-spec =
     tie.close
     (tie.spec
-    enum-known-found
-    put-walk-requires
-    enum-known-found-2
-    number-requires
-    same-length
+    (λ c. search needs) (λ c κs. search needs) (λ c. search needs) (λ c κs. search needs) (λ c. search needs)
     returns
     returns-2)

@@ -6,27 +6,9 @@ use borrow.Author.Needs.{needs}
 use Rattle.c_lookup.proofs.put_parsed.Statement.{statement}
 use Rattle.c_lookup.proofs.put_parsed.Tie as tie
 
-enum-known-parsed : tie.Need-enum-known-parsed
-enum-known-parsed c = search needs
-
-put-cache-requires : tie.Need-put-cache-requires
-put-cache-requires c κs = search needs
-
-enum-known-parsed-2 : tie.Need-enum-known-parsed-2
-enum-known-parsed-2 c = search needs
-
-put-refusal-requires : tie.Need-put-refusal-requires
-put-refusal-requires c κs = search needs
-
-same-length : tie.Need-same-length
-same-length c = search needs
-
 returns : tie.Need-returns
 returns c = let a = c .before .before .before .before .before .before .before .before .args in
     cached-given (parseAnswer (a .parsed)) (c .before .before .before .before .before .parsed .given .0 .0) (a .cache .now) (ap parseAnswer (c .before .before .before .before .before .parsed .given .1)) (c .before .before .put-cache .ensures)
-
-same-length-2 : tie.Need-same-length-2
-same-length-2 c = search needs
 
 returns-2 : tie.Need-returns-2
 returns-2 c = let a = c .before .before .before .before .before .before .before .before .args in
@@ -36,11 +18,7 @@ pub put-parsed-spec : {M : Type 1} → statement M
 put-parsed-spec =
     tie.close
     (tie.spec
-    enum-known-parsed
-    put-cache-requires
-    enum-known-parsed-2
-    put-refusal-requires
-    same-length
+    (λ c. search needs) (λ c κs. search needs) (λ c. search needs) (λ c κs. search needs) (λ c. search needs)
     returns
-    same-length-2
+    (λ c. search needs)
     returns-2)

@@ -5,24 +5,9 @@ use borrow.Author.Needs.{needs}
 use Rattle.c_lookup.proofs.put_refusal.Statement.{statement}
 use Rattle.c_lookup.proofs.put_refusal.Tie as tie
 
-number-requires : tie.Need-number-requires
-number-requires c κs = search needs
-
 returns : tie.Need-returns
 returns c = let a = c .before .before .before .args in
     refused-else (refusalOf (a .kind)) (c .before .number .result) (a .cache .now) (c .before .number .ensures) (c .if1 .taken)
-
-counts-of-requires : tie.Need-counts-of-requires
-counts-of-requires c κs = search needs
-
-put64-requires : tie.Need-put64-requires
-put64-requires c κs = search needs
-
-put64-requires-2 : tie.Need-put64-requires-2
-put64-requires-2 c κs = search needs
-
-same-length : tie.Need-same-length
-same-length c = search needs
 
 returns-2 : tie.Need-returns-2
 returns-2 c = let a = c .before .before .before .before .before .before .before .before .before .before .before .before .args in
@@ -33,10 +18,7 @@ pub put-refusal-spec : {M : Type 1} → statement M
 put-refusal-spec =
     tie.close
     (tie.spec
-    number-requires
+    (λ c κs. search needs)
     returns
-    counts-of-requires
-    put64-requires
-    put64-requires-2
-    same-length
+    (λ c κs. search needs) (λ c κs. search needs) (λ c κs. search needs) (λ c. search needs)
     returns-2)

@@ -7,21 +7,9 @@ use borrow.Author.Needs.{needs}
 use Rattle.c_lookup.proofs.put_table.Statement.{statement}
 use Rattle.c_lookup.proofs.put_table.Tie as tie
 
-add-k1 : tie.Need-add-k1
-add-k1 c = search needs
-
-put64-requires : tie.Need-put64-requires
-put64-requires c κs = search needs
-
-put64-requires-2 : tie.Need-put64-requires-2
-put64-requires-2 c κs = search needs
-
-same-length : tie.Need-same-length
-same-length c = search needs
-
 returns : tie.Need-returns
 returns c = let a = c .before .before .before .before .before .before .before .before .before .args in
     puts (a .cache .now) (a .k) (a .at ∷ a .n ∷ []) (put (a .k + 1) (omega arith) (c .before .before .before .before .before .before .put64 .ensures) (put (a .k + 1 + 1) (omega arith) (c .before .before .put642 .ensures) done))
 
 pub put-table-spec : {M : Type 1} → statement M
-put-table-spec = tie.close (tie.spec add-k1 put64-requires put64-requires-2 same-length returns)
+put-table-spec = tie.close (tie.spec (λ c. search needs) (λ c κs. search needs) (λ c κs. search needs) (λ c. search needs) returns)

@@ -6,21 +6,9 @@ use borrow.Author.Needs.{needs}
 use Rattle.c_lookup.proofs.put_walk.Statement.{statement}
 use Rattle.c_lookup.proofs.put_walk.Tie as tie
 
-put-requires : tie.Need-put-requires
-put-requires c κs = search needs
-
-put-requires-2 : tie.Need-put-requires-2
-put-requires-2 c κs = search needs
-
-put-requires-3 : tie.Need-put-requires-3
-put-requires-3 c κs = search needs
-
-same-length : tie.Need-same-length
-same-length c = search needs
-
 returns : tie.Need-returns
 returns c = let a = c .before .before .before .before .before .before .before .before .before .before .before .before .before .args in
     puts (a .cursor .now) 0 (walkWords (a .walk)) (put 1 refl (c .before .before .before .before .before .before .before .before .before .before .put .ensures) (put 2 refl (c .before .before .before .before .before .before .put2 .ensures) (put 3 refl (c .before .before .put3 .ensures) done)))
 
 pub put-walk-spec : {M : Type 1} → statement M
-put-walk-spec = tie.close (tie.spec put-requires put-requires-2 put-requires-3 same-length returns)
+put-walk-spec = tie.close (tie.spec (λ c κs. search needs) (λ c κs. search needs) (λ c κs. search needs) (λ c. search needs) returns)

@@ -10,21 +10,6 @@ use borrow.Author.Needs.{needs}
 use Rattle.c_rows.proofs.files_next.Statement.{statement}
 use Rattle.c_rows.proofs.files_next.Tie as tie
 
-index-of-requires : tie.Need-index-of-requires
-index-of-requires c κs = search needs
-
-next-requires : tie.Need-next-requires
-next-requires c κs = search needs
-
-put-file-step-requires : tie.Need-put-file-step-requires
-put-file-step-requires c κs = search needs
-
-same-length : tie.Need-same-length
-same-length c = search needs
-
-same-length-2 : tie.Need-same-length-2
-same-length-2 c = search needs
-
 returns : tie.Need-returns
 unfolding filesCall
 returns c = let a = c .before .before .before .before .before .before .before .before .before .before .before .before .before .args in
@@ -34,9 +19,5 @@ pub files-next-spec : {M : Type 1} → statement M
 files-next-spec =
     tie.close
     (tie.spec
-    index-of-requires
-    next-requires
-    put-file-step-requires
-    same-length
-    same-length-2
+    (λ c κs. search needs) (λ c κs. search needs) (λ c κs. search needs) (λ c. search needs) (λ c. search needs)
     returns)

@@ -8,15 +8,6 @@ use borrow.Author.Needs.{needs}
 use Rattle.c_rows.proofs.function_name.Statement.{statement}
 use Rattle.c_rows.proofs.function_name.Tie as tie
 
-name-of-requires : tie.Need-name-of-requires
-name-of-requires c κs = search needs
-
-put-string-requires : tie.Need-put-string-requires
-put-string-requires c κs = search needs
-
-same-length : tie.Need-same-length
-same-length c = search needs
-
 returns : tie.Need-returns
 unfolding nameCall
 returns c = let a = c .before .before .before .before .before .before .before .args in
@@ -24,4 +15,4 @@ returns c = let a = c .before .before .before .before .before .before .before .a
 
 pub function-name-spec : {M : Type 1} → statement M
 function-name-spec =
-    tie.close (tie.spec name-of-requires put-string-requires same-length returns)
+    tie.close (tie.spec (λ c κs. search needs) (λ c κs. search needs) (λ c. search needs) returns)

@@ -8,15 +8,6 @@ use borrow.Author.Needs.{needs}
 use Rattle.c_rows.proofs.get_file.Statement.{statement}
 use Rattle.c_rows.proofs.get_file.Tie as tie
 
-get-file-requires : tie.Need-get-file-requires
-get-file-requires c κs = search needs
-
-put-got-file-requires : tie.Need-put-got-file-requires
-put-got-file-requires c κs = search needs
-
-same-length : tie.Need-same-length
-same-length c = search needs
-
 returns : tie.Need-returns
 unfolding fileCall
 returns c = let a = c .before .before .before .before .before .before .before .args in
@@ -24,4 +15,4 @@ returns c = let a = c .before .before .before .before .before .before .before .a
 
 pub get-file-spec : {M : Type 1} → statement M
 get-file-spec =
-    tie.close (tie.spec get-file-requires put-got-file-requires same-length returns)
+    tie.close (tie.spec (λ c κs. search needs) (λ c κs. search needs) (λ c. search needs) returns)

@@ -8,15 +8,6 @@ use borrow.Author.Needs.{needs}
 use Rattle.c_rows.proofs.get_function.Statement.{statement}
 use Rattle.c_rows.proofs.get_function.Tie as tie
 
-get-function-requires : tie.Need-get-function-requires
-get-function-requires c κs = search needs
-
-put-got-function-requires : tie.Need-put-got-function-requires
-put-got-function-requires c κs = search needs
-
-same-length : tie.Need-same-length
-same-length c = search needs
-
 returns : tie.Need-returns
 unfolding functionCall
 returns c = let a = c .before .before .before .before .before .before .before .args in
@@ -24,4 +15,4 @@ returns c = let a = c .before .before .before .before .before .before .before .a
 
 pub get-function-spec : {M : Type 1} → statement M
 get-function-spec =
-    tie.close (tie.spec get-function-requires put-got-function-requires same-length returns)
+    tie.close (tie.spec (λ c κs. search needs) (λ c κs. search needs) (λ c. search needs) returns)

@@ -6,21 +6,6 @@ use borrow.Author.Needs.{needs}
 use Rattle.c_rows.proofs.name_of.Statement.{statement}
 use Rattle.c_rows.proofs.name_of.Tie as tie
 
-get-function-requires : tie.Need-get-function-requires
-get-function-requires c κs = search needs
-
-enum-known-function : tie.Need-enum-known-function
-enum-known-function c = search needs
-
-read-string-requires : tie.Need-read-string-requires
-read-string-requires c κs = search needs
-
-enum-told : tie.Need-enum-told
-enum-told c = search needs
-
-enum-known-function-2 : tie.Need-enum-known-function-2
-enum-known-function-2 c = search needs
-
 returns : tie.Need-returns
 returns c = let a = c .before .before .before .before .before .before .args in
     name-found (a .bytes .now) (a .function-idx) (c .before .before .function .given .0 .0) (sym (c .before .before .before .before .get-function .ensures) ∙ ap functionAnswer (c .before .before .function .given .1)) (c .read-string .ensures)
@@ -37,11 +22,7 @@ pub name-of-spec : {M : Type 1} → statement M
 name-of-spec =
     tie.close
     (tie.spec
-    get-function-requires
-    enum-known-function
-    read-string-requires
-    enum-told
-    enum-known-function-2
+    (λ c κs. search needs) (λ c. search needs) (λ c κs. search needs) (λ c. search needs) (λ c. search needs)
     returns
     returns-2
     returns-3)

@@ -12,36 +12,9 @@ use borrow.Author.Needs.{needs}
 use Rattle.c_rows.proofs.put_got_function.Statement.{statement}
 use Rattle.c_rows.proofs.put_got_function.Tie as tie
 
-enum-known-function : tie.Need-enum-known-function
-enum-known-function c = search needs
-
-put-requires : tie.Need-put-requires
-put-requires c κs = search needs
-
-put-function-requires : tie.Need-put-function-requires
-put-function-requires c κs = search needs
-
-enum-told : tie.Need-enum-told
-enum-told c = search needs
-
-put-requires-2 : tie.Need-put-requires-2
-put-requires-2 c κs = search needs
-
-enum-known-function-2 : tie.Need-enum-known-function-2
-enum-known-function-2 c = search needs
-
-number-requires : tie.Need-number-requires
-number-requires c κs = search needs
-
-same-length : tie.Need-same-length
-same-length c = search needs
-
 returns : tie.Need-returns
 returns c = let a = c .before .before .before .before .before .before .before .before .before .before .before .before .args in
     given functionRow (functionAnswer (a .function)) (some (c .before .before .before .before .before .before .before .before .before .function .given .0 .0)) (a .row .now) (ap functionAnswer (c .before .before .before .before .before .before .before .before .before .function .given .1)) ((c .before .before .put-function .ensures) ∙ ap (λ (t : List ℕ). sets t 1 (functionWords (c .before .before .before .before .before .before .before .before .before .function .given .0 .0))) (c .before .before .before .before .before .before .put .ensures))
-
-same-length-2 : tie.Need-same-length-2
-same-length-2 c = search needs
 
 returns-2 : tie.Need-returns-2
 returns-2 c = let a = c .before .before .before .before .before .before .before .args in
@@ -55,15 +28,9 @@ pub put-got-function-spec : {M : Type 1} → statement M
 put-got-function-spec =
     tie.close
     (tie.spec
-    enum-known-function
-    put-requires
-    put-function-requires
-    enum-told
-    put-requires-2
-    enum-known-function-2
-    number-requires
-    same-length
+    (λ c. search needs) (λ c κs. search needs) (λ c κs. search needs) (λ c. search needs) (λ c κs. search needs)
+    (λ c. search needs) (λ c κs. search needs) (λ c. search needs)
     returns
-    same-length-2
+    (λ c. search needs)
     returns-2
     returns-3)

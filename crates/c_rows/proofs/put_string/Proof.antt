@@ -10,39 +10,9 @@ use borrow.Author.Needs.{needs}
 use Rattle.c_rows.proofs.put_string.Statement.{statement}
 use Rattle.c_rows.proofs.put_string.Tie as tie
 
-enum-known-string : tie.Need-enum-known-string
-enum-known-string c = search needs
-
-put64-requires : tie.Need-put64-requires
-put64-requires c κs = search needs
-
-put64-requires-2 : tie.Need-put64-requires-2
-put64-requires-2 c κs = search needs
-
-put64-requires-3 : tie.Need-put64-requires-3
-put64-requires-3 c κs = search needs
-
-enum-told : tie.Need-enum-told
-enum-told c = search needs
-
-put64-requires-4 : tie.Need-put64-requires-4
-put64-requires-4 c κs = search needs
-
-enum-known-string-2 : tie.Need-enum-known-string-2
-enum-known-string-2 c = search needs
-
-number-requires : tie.Need-number-requires
-number-requires c κs = search needs
-
-same-length : tie.Need-same-length
-same-length c = search needs
-
 returns : tie.Need-returns
 returns c = let a = c .before .before .before .before .before .before .before .before .before .before .before .before .before .before .before .before .args in
     given partWords (stringAnswer (a .string)) (some (record { start = c .before .before .before .before .before .before .before .before .before .before .before .before .before .string .given .0 .0; len = c .before .before .before .before .before .before .before .before .before .before .before .before .before .string .given .0 .1 .0 })) (a .part .now) (ap stringAnswer (c .before .before .before .before .before .before .before .before .before .before .before .before .before .string .given .1)) (puts (a .part .now) 0 (partWords (some (record { start = c .before .before .before .before .before .before .before .before .before .before .before .before .before .string .given .0 .0; len = c .before .before .before .before .before .before .before .before .before .before .before .before .before .string .given .0 .1 .0 }))) (put 1 refl (c .before .before .before .before .before .before .before .before .before .before .put64 .ensures) (put 2 refl (c .before .before .before .before .before .before .put642 .ensures) (put 3 refl (c .before .before .put643 .ensures) done))))
-
-same-length-2 : tie.Need-same-length-2
-same-length-2 c = search needs
 
 returns-2 : tie.Need-returns-2
 returns-2 c = let a = c .before .before .before .before .before .before .before .args in
@@ -56,16 +26,9 @@ pub put-string-spec : {M : Type 1} → statement M
 put-string-spec =
     tie.close
     (tie.spec
-    enum-known-string
-    put64-requires
-    put64-requires-2
-    put64-requires-3
-    enum-told
-    put64-requires-4
-    enum-known-string-2
-    number-requires
-    same-length
+    (λ c. search needs) (λ c κs. search needs) (λ c κs. search needs) (λ c κs. search needs) (λ c. search needs)
+    (λ c κs. search needs) (λ c. search needs) (λ c κs. search needs) (λ c. search needs)
     returns
-    same-length-2
+    (λ c. search needs)
     returns-2
     returns-3)

@@ -8,15 +8,6 @@ use borrow.Author.Needs.{needs}
 use Rattle.c_rows.proofs.read_string.Statement.{statement}
 use Rattle.c_rows.proofs.read_string.Tie as tie
 
-read-string-requires : tie.Need-read-string-requires
-read-string-requires c κs = search needs
-
-put-string-requires : tie.Need-put-string-requires
-put-string-requires c κs = search needs
-
-same-length : tie.Need-same-length
-same-length c = search needs
-
 returns : tie.Need-returns
 unfolding stringCall
 returns c = let a = c .before .before .before .before .before .before .before .args in
@@ -24,4 +15,4 @@ returns c = let a = c .before .before .before .before .before .before .before .a
 
 pub read-string-spec : {M : Type 1} → statement M
 read-string-spec =
-    tie.close (tie.spec read-string-requires put-string-requires same-length returns)
+    tie.close (tie.spec (λ c κs. search needs) (λ c κs. search needs) (λ c. search needs) returns)

@@ -4,9 +4,6 @@ use Rattle.rows.proofs.Laws.{and-stop, and-then}
 use Rattle.line_list.proofs.and_texts.Statement.{statement}
 use Rattle.line_list.proofs.and_texts.Tie as tie
 
-line-texts-requires : tie.Need-line-texts-requires
-line-texts-requires c κs = search needs
-
 returns : tie.Need-returns
 returns c = and-then _ _ _ (c .before .if1 .taken) (c .line-texts .ensures)
 
@@ -14,4 +11,4 @@ returns-2 : tie.Need-returns-2
 returns-2 c = and-stop _ _ (c .if1 .left)
 
 pub and-texts-spec : {M : Type 1} → statement M
-and-texts-spec = tie.close (tie.spec line-texts-requires returns returns-2)
+and-texts-spec = tie.close (tie.spec (λ c κs. search needs) returns returns-2)

@@ -7,140 +7,41 @@ use borrow.Author.Needs.{needs}
 use Rattle.line_list.proofs.put_words32.Statement.{statement}
 use Rattle.line_list.proofs.put_words32.Tie as tie
 
-flag-requires : tie.Need-flag-requires
-flag-requires c κs = search needs
-
-flag-requires-2 : tie.Need-flag-requires-2
-flag-requires-2 c κs = search needs
-
-flag-requires-3 : tie.Need-flag-requires-3
-flag-requires-3 c κs = search needs
-
-flag-requires-4 : tie.Need-flag-requires-4
-flag-requires-4 c κs = search needs
-
-mul-k : tie.Need-mul-k
-mul-k c = search needs
-
-mul-unpacked32 : tie.Need-mul-unpacked32
-mul-unpacked32 c = search needs
-
-slice-write-unpacked32 : tie.Need-slice-write-unpacked32
-slice-write-unpacked32 c = search needs
-
-add-unpacked32 : tie.Need-add-unpacked32
-add-unpacked32 c = search needs
-
-mul-unpacked32-2 : tie.Need-mul-unpacked32-2
-mul-unpacked32-2 c = search needs
-
 slice-write-unpacked32-2 : tie.Need-slice-write-unpacked32-2
 slice-write-unpacked32-2 c = simp length-set (omega arith)
-
-add-unpacked32-2 : tie.Need-add-unpacked32-2
-add-unpacked32-2 c = search needs
-
-mul-unpacked32-3 : tie.Need-mul-unpacked32-3
-mul-unpacked32-3 c = search needs
 
 slice-write-unpacked32-3 : tie.Need-slice-write-unpacked32-3
 slice-write-unpacked32-3 c = simp length-set (omega arith)
 
-add-unpacked32-3 : tie.Need-add-unpacked32-3
-add-unpacked32-3 c = search needs
-
-mul-unpacked32-4 : tie.Need-mul-unpacked32-4
-mul-unpacked32-4 c = search needs
-
 slice-write-unpacked32-4 : tie.Need-slice-write-unpacked32-4
 slice-write-unpacked32-4 c = simp length-set (omega arith)
-
-add-unpacked32-4 : tie.Need-add-unpacked32-4
-add-unpacked32-4 c = search needs
-
-mul-unpacked32-5 : tie.Need-mul-unpacked32-5
-mul-unpacked32-5 c = search needs
 
 slice-write-unpacked32-5 : tie.Need-slice-write-unpacked32-5
 slice-write-unpacked32-5 c = simp length-set (omega arith)
 
-add-unpacked32-5 : tie.Need-add-unpacked32-5
-add-unpacked32-5 c = search needs
-
-mul-unpacked32-6 : tie.Need-mul-unpacked32-6
-mul-unpacked32-6 c = search needs
-
 slice-write-unpacked32-6 : tie.Need-slice-write-unpacked32-6
 slice-write-unpacked32-6 c = simp length-set (omega arith)
-
-add-unpacked32-6 : tie.Need-add-unpacked32-6
-add-unpacked32-6 c = search needs
-
-mul-unpacked32-7 : tie.Need-mul-unpacked32-7
-mul-unpacked32-7 c = search needs
 
 slice-write-unpacked32-7 : tie.Need-slice-write-unpacked32-7
 slice-write-unpacked32-7 c = simp length-set (omega arith)
 
-add-unpacked32-7 : tie.Need-add-unpacked32-7
-add-unpacked32-7 c = search needs
-
-mul-unpacked32-8 : tie.Need-mul-unpacked32-8
-mul-unpacked32-8 c = search needs
-
 slice-write-unpacked32-8 : tie.Need-slice-write-unpacked32-8
 slice-write-unpacked32-8 c = simp length-set (omega arith)
-
-add-unpacked32-8 : tie.Need-add-unpacked32-8
-add-unpacked32-8 c = search needs
-
-mul-unpacked32-9 : tie.Need-mul-unpacked32-9
-mul-unpacked32-9 c = search needs
 
 slice-write-unpacked32-9 : tie.Need-slice-write-unpacked32-9
 slice-write-unpacked32-9 c = simp length-set (omega arith)
 
-add-unpacked32-9 : tie.Need-add-unpacked32-9
-add-unpacked32-9 c = search needs
-
-mul-unpacked32-10 : tie.Need-mul-unpacked32-10
-mul-unpacked32-10 c = search needs
-
 slice-write-unpacked32-10 : tie.Need-slice-write-unpacked32-10
 slice-write-unpacked32-10 c = simp length-set (omega arith)
-
-add-unpacked32-10 : tie.Need-add-unpacked32-10
-add-unpacked32-10 c = search needs
-
-mul-unpacked32-11 : tie.Need-mul-unpacked32-11
-mul-unpacked32-11 c = search needs
 
 slice-write-unpacked32-11 : tie.Need-slice-write-unpacked32-11
 slice-write-unpacked32-11 c = simp length-set (omega arith)
 
-add-unpacked32-11 : tie.Need-add-unpacked32-11
-add-unpacked32-11 c = search needs
-
-mul-unpacked32-12 : tie.Need-mul-unpacked32-12
-mul-unpacked32-12 c = search needs
-
 slice-write-unpacked32-12 : tie.Need-slice-write-unpacked32-12
 slice-write-unpacked32-12 c = simp length-set (omega arith)
 
-add-unpacked32-12 : tie.Need-add-unpacked32-12
-add-unpacked32-12 c = search needs
-
-mul-unpacked32-13 : tie.Need-mul-unpacked32-13
-mul-unpacked32-13 c = search needs
-
 slice-write-unpacked32-13 : tie.Need-slice-write-unpacked32-13
 slice-write-unpacked32-13 c = simp length-set (omega arith)
-
-add-unpacked32-13 : tie.Need-add-unpacked32-13
-add-unpacked32-13 c = search needs
-
-mul-unpacked32-14 : tie.Need-mul-unpacked32-14
-mul-unpacked32-14 c = search needs
 
 slice-write-unpacked32-14 : tie.Need-slice-write-unpacked32-14
 slice-write-unpacked32-14 c = simp length-set (omega arith)
@@ -168,51 +69,32 @@ pub put-words32-spec : {M : Type 1} → statement M
 put-words32-spec =
     tie.close
     (tie.spec
-    flag-requires
-    flag-requires-2
-    flag-requires-3
-    flag-requires-4
-    mul-k
-    mul-unpacked32
-    slice-write-unpacked32
-    add-unpacked32
-    mul-unpacked32-2
+    (λ c κs. search needs) (λ c κs. search needs) (λ c κs. search needs) (λ c κs. search needs) (λ c. search needs)
+    (λ c. search needs) (λ c. search needs) (λ c. search needs) (λ c. search needs)
     slice-write-unpacked32-2
-    add-unpacked32-2
-    mul-unpacked32-3
+    (λ c. search needs) (λ c. search needs)
     slice-write-unpacked32-3
-    add-unpacked32-3
-    mul-unpacked32-4
+    (λ c. search needs) (λ c. search needs)
     slice-write-unpacked32-4
-    add-unpacked32-4
-    mul-unpacked32-5
+    (λ c. search needs) (λ c. search needs)
     slice-write-unpacked32-5
-    add-unpacked32-5
-    mul-unpacked32-6
+    (λ c. search needs) (λ c. search needs)
     slice-write-unpacked32-6
-    add-unpacked32-6
-    mul-unpacked32-7
+    (λ c. search needs) (λ c. search needs)
     slice-write-unpacked32-7
-    add-unpacked32-7
-    mul-unpacked32-8
+    (λ c. search needs) (λ c. search needs)
     slice-write-unpacked32-8
-    add-unpacked32-8
-    mul-unpacked32-9
+    (λ c. search needs) (λ c. search needs)
     slice-write-unpacked32-9
-    add-unpacked32-9
-    mul-unpacked32-10
+    (λ c. search needs) (λ c. search needs)
     slice-write-unpacked32-10
-    add-unpacked32-10
-    mul-unpacked32-11
+    (λ c. search needs) (λ c. search needs)
     slice-write-unpacked32-11
-    add-unpacked32-11
-    mul-unpacked32-12
+    (λ c. search needs) (λ c. search needs)
     slice-write-unpacked32-12
-    add-unpacked32-12
-    mul-unpacked32-13
+    (λ c. search needs) (λ c. search needs)
     slice-write-unpacked32-13
-    add-unpacked32-13
-    mul-unpacked32-14
+    (λ c. search needs) (λ c. search needs)
     slice-write-unpacked32-14
     same-length
     returns

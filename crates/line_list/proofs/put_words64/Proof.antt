@@ -7,35 +7,11 @@ use borrow.Author.Needs.{needs}
 use Rattle.line_list.proofs.put_words64.Statement.{statement}
 use Rattle.line_list.proofs.put_words64.Tie as tie
 
-mul-k : tie.Need-mul-k
-mul-k c = search needs
-
-mul-unpacked64 : tie.Need-mul-unpacked64
-mul-unpacked64 c = search needs
-
-slice-write-unpacked64 : tie.Need-slice-write-unpacked64
-slice-write-unpacked64 c = search needs
-
-add-unpacked64 : tie.Need-add-unpacked64
-add-unpacked64 c = search needs
-
-mul-unpacked64-2 : tie.Need-mul-unpacked64-2
-mul-unpacked64-2 c = search needs
-
 slice-write-unpacked64-2 : tie.Need-slice-write-unpacked64-2
 slice-write-unpacked64-2 c = simp length-set (omega arith)
 
-add-unpacked64-2 : tie.Need-add-unpacked64-2
-add-unpacked64-2 c = search needs
-
-mul-unpacked64-3 : tie.Need-mul-unpacked64-3
-mul-unpacked64-3 c = search needs
-
 slice-write-unpacked64-3 : tie.Need-slice-write-unpacked64-3
 slice-write-unpacked64-3 c = simp length-set (omega arith)
-
-same-length : tie.Need-same-length
-same-length c = search needs
 
 returns : tie.Need-returns
 returns c =
@@ -56,16 +32,11 @@ pub put-words64-spec : {M : Type 1} → statement M
 put-words64-spec =
     tie.close
     (tie.spec
-    mul-k
-    mul-unpacked64
-    slice-write-unpacked64
-    add-unpacked64
-    mul-unpacked64-2
+    (λ c. search needs) (λ c. search needs) (λ c. search needs) (λ c. search needs) (λ c. search needs)
     slice-write-unpacked64-2
-    add-unpacked64-2
-    mul-unpacked64-3
+    (λ c. search needs) (λ c. search needs)
     slice-write-unpacked64-3
-    same-length
+    (λ c. search needs)
     returns
     returns-2
     returns-3)

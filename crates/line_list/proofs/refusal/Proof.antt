@@ -5,9 +5,6 @@ use Rattle.line_list.proofs.Numbers.{number-0, number-16-64, number-16-
 use Rattle.line_list.proofs.refusal.Statement.{statement}
 use Rattle.line_list.proofs.refusal.Tie as tie
 
-refusal-with-requires : tie.Need-refusal-with-requires
-refusal-with-requires c κs = search needs
-
 returns : tie.Need-returns
 returns c =
     let f = c .before .before in
@@ -43,4 +40,4 @@ returns-5 c =
     number-19 (a .usable) (a .scratch) (a .unpacked64) (a .unpacked32) (a .functions64 .now) (a .functions32 .now) (a .lines) (a .texts) (a .text .now) (c .if1 .left)
 
 pub refusal-spec : {M : Type 1} → statement M
-refusal-spec = tie.close (tie.spec refusal-with-requires returns returns-2 returns-3 returns-4 returns-5)
+refusal-spec = tie.close (tie.spec (λ c κs. search needs) returns returns-2 returns-3 returns-4 returns-5)

@@ -29,42 +29,6 @@ slice-reshare-prefix-process-symbolic-function-2 c = let h = c .before .before .
 slice-aggregate-process-symbolic-function-2 : tie.Need-slice-aggregate-process-symbolic-function-2
 slice-aggregate-process-symbolic-function-2 c = let h = c .before .before .before .before .before .before .before .before .before .before .before .before .before .before .before .before .before .before .before .before .before .before .pre (c .before .before .before .before .before .before .before .before .before .if1 .taken) in sym (length-take-le _ _ (h .1))
 
-process-symbolic-function-requires : tie.Need-process-symbolic-function-requires
-process-symbolic-function-requires c κs = search needs
-
-zero64-requires : tie.Need-zero64-requires
-zero64-requires c κs = search needs
-
-zero-requires : tie.Need-zero-requires
-zero-requires c κs = search needs
-
-same-length : tie.Need-same-length
-same-length c = search needs
-
-same-length-2 : tie.Need-same-length-2
-same-length-2 c = search needs
-
-same-length-3 : tie.Need-same-length-3
-same-length-3 c = search needs
-
-same-length-4 : tie.Need-same-length-4
-same-length-4 c = search needs
-
-same-length-5 : tie.Need-same-length-5
-same-length-5 c = search needs
-
-same-length-6 : tie.Need-same-length-6
-same-length-6 c = search needs
-
-same-length-7 : tie.Need-same-length-7
-same-length-7 c = search needs
-
-same-length-8 : tie.Need-same-length-8
-same-length-8 c = search needs
-
-same-length-9 : tie.Need-same-length-9
-same-length-9 c = search needs
-
 returns : tie.Need-returns
 returns c =
     let a = c .before .before .before .before .before .before .before .before .before .before .before .before .before .before .before .before .before .before .before .before .before .before .before .before .before .before .before .before .before .before .before .before .before .before .before .before .before .before .before .before .before .before .before .before .before .args in
@@ -87,17 +51,8 @@ process-unpacked-spec =
     mul-process-symbolic-function-2
     slice-reshare-prefix-process-symbolic-function-2
     slice-aggregate-process-symbolic-function-2
-    process-symbolic-function-requires
-    zero64-requires
-    zero-requires
-    same-length
-    same-length-2
-    same-length-3
-    same-length-4
-    same-length-5
-    same-length-6
-    same-length-7
-    same-length-8
-    same-length-9
+    (λ c κs. search needs) (λ c κs. search needs) (λ c κs. search needs) (λ c. search needs) (λ c. search needs)
+    (λ c. search needs) (λ c. search needs) (λ c. search needs) (λ c. search needs) (λ c. search needs)
+    (λ c. search needs) (λ c. search needs)
     returns
     returns-2)

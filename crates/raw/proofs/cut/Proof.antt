@@ -19,18 +19,6 @@ loop-holds : tie.Need-loop-holds Inv-loop μ-loop
 unfolding bytesAt
 loop-holds c = (omega arith, refl, refl)
 
-byte-at-requires : tie.Need-byte-at-requires Inv-loop μ-loop
-byte-at-requires c κs = search needs
-
-array-write-row : tie.Need-array-write-row Inv-loop μ-loop
-array-write-row c = omega arith
-
-add-i : tie.Need-add-i Inv-loop μ-loop
-add-i c = omega arith
-
-loop-less : tie.Need-loop-less Inv-loop μ-loop
-loop-less c = omega arith
-
 loop-again : tie.Need-loop-again Inv-loop μ-loop
 loop-again c =
     let l = c .before .before .loop in
@@ -47,9 +35,6 @@ cut-spec =
     Inv-loop
     μ-loop
     loop-holds
-    byte-at-requires
-    array-write-row
-    add-i
-    loop-less
+    (λ c κs. search needs) (λ c. omega arith) (λ c. omega arith) (λ c. omega arith)
     loop-again
     returns)

@@ -6,23 +6,8 @@ use borrow.Author.Needs.{needs}
 use Rattle.raw.proofs.header_at.Statement.{statement}
 use Rattle.raw.proofs.header_at.Tie as tie
 
-inside-requires : tie.Need-inside-requires
-inside-requires c κs = search needs
-
 load-header-requires : tie.Need-load-header-requires
 load-header-requires c κs = leb-true _ _ (sym (c .before .inside .ensures) ∙ c .if1 .taken)
-
-returns : tie.Need-returns
-returns c = search needs
-
-cut-requires : tie.Need-cut-requires
-cut-requires c κs = search needs
-
-slice-aggregate-load-header : tie.Need-slice-aggregate-load-header
-slice-aggregate-load-header c = search needs
-
-load-header-requires-2 : tie.Need-load-header-requires-2
-load-header-requires-2 c κs = search needs
 
 returns-2 : tie.Need-returns-2
 returns-2 c = c .load-header2 .ensures ∙ rw (c .before .before .cut .ensures) (header-cut (c .before .before .before .before .before .before .args .s .now) (c .before .before .before .before .before .before .args .at))
@@ -31,10 +16,7 @@ pub header-at-spec : {M : Type 1} → statement M
 header-at-spec =
     tie.close
     (tie.spec
-    inside-requires
+    (λ c κs. search needs)
     load-header-requires
-    returns
-    cut-requires
-    slice-aggregate-load-header
-    load-header-requires-2
+    (λ c. search needs) (λ c κs. search needs) (λ c. search needs) (λ c κs. search needs)
     returns-2)

@@ -4,57 +4,6 @@ use borrow.Author.Needs.{needs}
 use Rattle.raw.proofs.load_header.Statement.{statement}
 use Rattle.raw.proofs.load_header.Tie as tie
 
-load-debug-id-requires : tie.Need-load-debug-id-requires
-load-debug-id-requires c κs = search needs
-
-add-load-reserved : tie.Need-add-load-reserved
-add-load-reserved c = search needs
-
-load-reserved-requires : tie.Need-load-reserved-requires
-load-reserved-requires c κs = search needs
-
-add-load-u32 : tie.Need-add-load-u32
-add-load-u32 c = search needs
-
-load-u32-requires : tie.Need-load-u32-requires
-load-u32-requires c κs = search needs
-
-add-load-u32-2 : tie.Need-add-load-u32-2
-add-load-u32-2 c = search needs
-
-load-u32-requires-2 : tie.Need-load-u32-requires-2
-load-u32-requires-2 c κs = search needs
-
-add-load-u32-3 : tie.Need-add-load-u32-3
-add-load-u32-3 c = search needs
-
-load-u32-requires-3 : tie.Need-load-u32-requires-3
-load-u32-requires-3 c κs = search needs
-
-add-load-u32-4 : tie.Need-add-load-u32-4
-add-load-u32-4 c = search needs
-
-load-u32-requires-4 : tie.Need-load-u32-requires-4
-load-u32-requires-4 c κs = search needs
-
-add-load-u32-5 : tie.Need-add-load-u32-5
-add-load-u32-5 c = search needs
-
-load-u32-requires-5 : tie.Need-load-u32-requires-5
-load-u32-requires-5 c κs = search needs
-
-add-load-u32-6 : tie.Need-add-load-u32-6
-add-load-u32-6 c = search needs
-
-load-u32-requires-6 : tie.Need-load-u32-requires-6
-load-u32-requires-6 c κs = search needs
-
-add-load-u16 : tie.Need-add-load-u16
-add-load-u16 c = search needs
-
-load-u16-requires : tie.Need-load-u16-requires
-load-u16-requires c κs = search needs
-
 returns : tie.Need-returns
 unfolding headerAt
 returns c = cc
@@ -63,21 +12,8 @@ pub load-header-spec : {M : Type 1} → statement M
 load-header-spec =
     tie.close
     (tie.spec
-    load-debug-id-requires
-    add-load-reserved
-    load-reserved-requires
-    add-load-u32
-    load-u32-requires
-    add-load-u32-2
-    load-u32-requires-2
-    add-load-u32-3
-    load-u32-requires-3
-    add-load-u32-4
-    load-u32-requires-4
-    add-load-u32-5
-    load-u32-requires-5
-    add-load-u32-6
-    load-u32-requires-6
-    add-load-u16
-    load-u16-requires
+    (λ c κs. search needs) (λ c. search needs) (λ c κs. search needs) (λ c. search needs) (λ c κs. search needs)
+    (λ c. search needs) (λ c κs. search needs) (λ c. search needs) (λ c κs. search needs) (λ c. search needs)
+    (λ c κs. search needs) (λ c. search needs) (λ c κs. search needs) (λ c. search needs) (λ c κs. search needs)
+    (λ c. search needs) (λ c κs. search needs)
     returns)

@@ -4,12 +4,9 @@ use borrow.Author.Needs.{needs}
 use Rattle.raw.proofs.load_range.Statement.{statement}
 use Rattle.raw.proofs.load_range.Tie as tie
 
-load-u32-requires : tie.Need-load-u32-requires
-load-u32-requires c κs = search needs
-
 returns : tie.Need-returns
 unfolding rangeAt
 returns c = cc
 
 pub load-range-spec : {M : Type 1} → statement M
-load-range-spec = tie.close (tie.spec load-u32-requires returns)
+load-range-spec = tie.close (tie.spec (λ c κs. search needs) returns)

@@ -6,42 +6,6 @@ use borrow.Author.Needs.{needs}
 use Rattle.raw.proofs.store_counts.Statement.{statement}
 use Rattle.raw.proofs.store_counts.Tie as tie
 
-store-u32-requires : tie.Need-store-u32-requires
-store-u32-requires c κs = search needs
-
-add-store-u32 : tie.Need-add-store-u32
-add-store-u32 c = search needs
-
-store-u32-requires-2 : tie.Need-store-u32-requires-2
-store-u32-requires-2 c κs = search needs
-
-add-store-u32-2 : tie.Need-add-store-u32-2
-add-store-u32-2 c = search needs
-
-store-u32-requires-3 : tie.Need-store-u32-requires-3
-store-u32-requires-3 c κs = search needs
-
-add-store-u32-3 : tie.Need-add-store-u32-3
-add-store-u32-3 c = search needs
-
-store-u32-requires-4 : tie.Need-store-u32-requires-4
-store-u32-requires-4 c κs = search needs
-
-add-store-u32-4 : tie.Need-add-store-u32-4
-add-store-u32-4 c = search needs
-
-store-u32-requires-5 : tie.Need-store-u32-requires-5
-store-u32-requires-5 c κs = search needs
-
-add-store-u32-5 : tie.Need-add-store-u32-5
-add-store-u32-5 c = search needs
-
-store-u32-requires-6 : tie.Need-store-u32-requires-6
-store-u32-requires-6 c κs = search needs
-
-same-length : tie.Need-same-length
-same-length c = search needs
-
 returns : tie.Need-returns
 returns c =
     let a = c .before .before .before .before .before .before .before .before .before .before .before .before .before .before .before .before .before .before .before .before .before .before .before .before .before .args in
@@ -51,16 +15,7 @@ pub store-counts-spec : {M : Type 1} → statement M
 store-counts-spec =
     tie.close
     (tie.spec
-    store-u32-requires
-    add-store-u32
-    store-u32-requires-2
-    add-store-u32-2
-    store-u32-requires-3
-    add-store-u32-3
-    store-u32-requires-4
-    add-store-u32-4
-    store-u32-requires-5
-    add-store-u32-5
-    store-u32-requires-6
-    same-length
+    (λ c κs. search needs) (λ c. search needs) (λ c κs. search needs) (λ c. search needs) (λ c κs. search needs)
+    (λ c. search needs) (λ c κs. search needs) (λ c. search needs) (λ c κs. search needs) (λ c. search needs)
+    (λ c κs. search needs) (λ c. search needs)
     returns)

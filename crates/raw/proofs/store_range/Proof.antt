@@ -7,12 +7,6 @@ use borrow.Author.Needs.{needs}
 use Rattle.raw.proofs.store_range.Statement.{statement}
 use Rattle.raw.proofs.store_range.Tie as tie
 
-store-u32-requires : tie.Need-store-u32-requires
-store-u32-requires c κs = search needs
-
-same-length : tie.Need-same-length
-same-length c = search needs
-
 returns : tie.Need-returns
 unfolding rangeBytes
 returns c =
@@ -20,4 +14,4 @@ returns c =
     stored (next (a .at + 4) (omega arith) (c .before .before .store-u32 .ensures) all)
 
 pub store-range-spec : {M : Type 1} → statement M
-store-range-spec = tie.close (tie.spec store-u32-requires same-length returns)
+store-range-spec = tie.close (tie.spec (λ c κs. search needs) (λ c. search needs) returns)

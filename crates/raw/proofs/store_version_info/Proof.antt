@@ -7,18 +7,6 @@ use borrow.Author.Needs.{needs}
 use Rattle.raw.proofs.store_version_info.Statement.{statement}
 use Rattle.raw.proofs.store_version_info.Tie as tie
 
-store-u32-requires : tie.Need-store-u32-requires
-store-u32-requires c κs = search needs
-
-add-store-u32 : tie.Need-add-store-u32
-add-store-u32 c = search needs
-
-store-u32-requires-2 : tie.Need-store-u32-requires-2
-store-u32-requires-2 c κs = search needs
-
-same-length : tie.Need-same-length
-same-length c = search needs
-
 returns : tie.Need-returns
 unfolding versionInfoBytes
 returns c =
@@ -27,4 +15,4 @@ returns c =
 
 pub store-version-info-spec : {M : Type 1} → statement M
 store-version-info-spec =
-    tie.close (tie.spec store-u32-requires add-store-u32 store-u32-requires-2 same-length returns)
+    tie.close (tie.spec (λ c κs. search needs) (λ c. search needs) (λ c κs. search needs) (λ c. search needs) returns)

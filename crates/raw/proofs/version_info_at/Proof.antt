@@ -6,23 +6,8 @@ use borrow.Author.Needs.{needs}
 use Rattle.raw.proofs.version_info_at.Statement.{statement}
 use Rattle.raw.proofs.version_info_at.Tie as tie
 
-inside-requires : tie.Need-inside-requires
-inside-requires c κs = search needs
-
 load-version-info-requires : tie.Need-load-version-info-requires
 load-version-info-requires c κs = leb-true _ _ (sym (c .before .inside .ensures) ∙ c .if1 .taken)
-
-returns : tie.Need-returns
-returns c = search needs
-
-cut-requires : tie.Need-cut-requires
-cut-requires c κs = search needs
-
-slice-aggregate-load-version-info : tie.Need-slice-aggregate-load-version-info
-slice-aggregate-load-version-info c = search needs
-
-load-version-info-requires-2 : tie.Need-load-version-info-requires-2
-load-version-info-requires-2 c κs = search needs
 
 returns-2 : tie.Need-returns-2
 returns-2 c = c .load-version-info2 .ensures ∙ rw (c .before .before .cut .ensures) (version-info-cut (c .before .before .before .before .before .before .args .s .now) (c .before .before .before .before .before .before .args .at))
@@ -31,10 +16,7 @@ pub version-info-at-spec : {M : Type 1} → statement M
 version-info-at-spec =
     tie.close
     (tie.spec
-    inside-requires
+    (λ c κs. search needs)
     load-version-info-requires
-    returns
-    cut-requires
-    slice-aggregate-load-version-info
-    load-version-info-requires-2
+    (λ c. search needs) (λ c κs. search needs) (λ c. search needs) (λ c κs. search needs)
     returns-2)

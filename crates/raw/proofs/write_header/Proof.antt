@@ -10,32 +10,8 @@ use borrow.Author.Needs.{needs}
 use Rattle.raw.proofs.write_header.Statement.{statement}
 use Rattle.raw.proofs.write_header.Tie as tie
 
-inside-requires : tie.Need-inside-requires
-inside-requires c κs = search needs
-
 store-header-requires : tie.Need-store-header-requires
 store-header-requires c κs = leb-true _ _ (sym (c .before .before .inside .ensures) ∙ c .before .if1 .taken)
-
-same-length : tie.Need-same-length
-same-length c = search needs
-
-returns : tie.Need-returns
-returns c = search needs
-
-slice-aggregate-store-header : tie.Need-slice-aggregate-store-header
-slice-aggregate-store-header c = search needs
-
-store-header-requires-2 : tie.Need-store-header-requires-2
-store-header-requires-2 c κs = search needs
-
-slice-aggregate-paste : tie.Need-slice-aggregate-paste
-slice-aggregate-paste c = search needs
-
-paste-requires : tie.Need-paste-requires
-paste-requires c κs = search needs
-
-same-length-2 : tie.Need-same-length-2
-same-length-2 c = search needs
 
 returns-2 : tie.Need-returns-2
 returns-2 c =
@@ -48,13 +24,8 @@ pub write-header-spec : {M : Type 1} → statement M
 write-header-spec =
     tie.close
     (tie.spec
-    inside-requires
+    (λ c κs. search needs)
     store-header-requires
-    same-length
-    returns
-    slice-aggregate-store-header
-    store-header-requires-2
-    slice-aggregate-paste
-    paste-requires
-    same-length-2
+    (λ c. search needs) (λ c. search needs) (λ c. search needs) (λ c κs. search needs) (λ c. search needs)
+    (λ c κs. search needs) (λ c. search needs)
     returns-2)

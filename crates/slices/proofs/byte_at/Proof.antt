@@ -6,18 +6,6 @@ use borrow.Author.Needs.{needs}
 use Rattle.slices.proofs.byte_at.Statement.{statement}
 use Rattle.slices.proofs.byte_at.Tie as tie
 
-sub-if2 : tie.Need-sub-if2
-sub-if2 c = search needs
-
-add-result : tie.Need-add-result
-add-result c = search needs
-
-shared-slice-read-result : tie.Need-shared-slice-read-result
-shared-slice-read-result c = search needs
-
-returns : tie.Need-returns
-returns c = search needs
-
 returns-2 : tie.Need-returns-2
 returns-2 c = let a = c .before .before .args in sym (List·getD-eq-default (a .s .now) 0 {n = a .at + a .i} (omega arith))
 
@@ -26,4 +14,4 @@ returns-3 c = let a = c .before .args in sym (List·getD-eq-default (a .s .now) 
 
 pub byte-at-spec : {M : Type 1} → statement M
 byte-at-spec =
-    tie.close (tie.spec sub-if2 add-result shared-slice-read-result returns returns-2 returns-3)
+    tie.close (tie.spec (λ c. search needs) (λ c. search needs) (λ c. search needs) (λ c. search needs) returns-2 returns-3)

@@ -11,11 +11,8 @@ use Rattle.slices.proofs.inside.Tie as tie
 returns : tie.Need-returns
 returns c = sym (lt-leb (c .before .args .at + c .before .args .n) (length (c .before .args .s .now)) (omega arith))
 
-sub-result : tie.Need-sub-result
-sub-result c = search needs
-
 returns-2 : tie.Need-returns-2
 returns-2 c = leb-shift (c .before .args .at) (c .before .args .n) (length (c .before .args .s .now)) (omega arith)
 
 pub inside-spec : {M : Type 1} → statement M
-inside-spec = tie.close (tie.spec returns sub-result returns-2)
+inside-spec = tie.close (tie.spec returns (λ c. search needs) returns-2)

@@ -5,20 +5,8 @@ use borrow.Author.Needs.{needs}
 use Rattle.slices.proofs.put64.Statement.{statement}
 use Rattle.slices.proofs.put64.Tie as tie
 
-mul-t : tie.Need-mul-t
-mul-t c = search needs
-
-slice-write-t : tie.Need-slice-write-t
-slice-write-t c = search needs
-
-same-length : tie.Need-same-length
-same-length c = search needs
-
-returns : tie.Need-returns
-returns c = search needs
-
 returns-2 : tie.Need-returns-2
 returns-2 c = sym (set-out _ _ _ (c .if1 .left))
 
 pub put64-spec : {M : Type 1} → statement M
-put64-spec = tie.close (tie.spec mul-t slice-write-t same-length returns returns-2)
+put64-spec = tie.close (tie.spec (λ c. search needs) (λ c. search needs) (λ c. search needs) (λ c. search needs) returns-2)

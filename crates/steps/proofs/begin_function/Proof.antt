@@ -8,24 +8,6 @@ use borrow.Author.Needs.{needs}
 use Rattle.steps.proofs.begin_function.Statement.{statement}
 use Rattle.steps.proofs.begin_function.Tie as tie
 
-shown-name-requires : tie.Need-shown-name-requires
-shown-name-requires c κs = search needs
-
-insert-string-requires : tie.Need-insert-string-requires
-insert-string-requires c κs = search needs
-
-insert-function-requires : tie.Need-insert-function-requires
-insert-function-requires c κs = search needs
-
-same-length : tie.Need-same-length
-same-length c = search needs
-
-same-length-2 : tie.Need-same-length-2
-same-length-2 c = search needs
-
-same-length-3 : tie.Need-same-length-3
-same-length-3 c = search needs
-
 returns : tie.Need-returns
 returns c =
     let a = c .before .before .before .before .before .before .before .before .before .before .before .before .before .before .before .before .args in
@@ -42,10 +24,6 @@ pub begin-function-spec : {M : Type 1} → statement M
 begin-function-spec =
     tie.close
     (tie.spec
-    shown-name-requires
-    insert-string-requires
-    insert-function-requires
-    same-length
-    same-length-2
-    same-length-3
+    (λ c κs. search needs) (λ c κs. search needs) (λ c κs. search needs) (λ c. search needs) (λ c. search needs)
+    (λ c. search needs)
     returns)

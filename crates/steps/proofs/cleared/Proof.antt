@@ -16,20 +16,11 @@ module _ (l : LastAddr) (y a : ℕ) (h : l ≡ Set a) where
   above : a ≤ y → Unset ≡ cleared-of l y
   above p = rw (h, le-ltb y a p)
 
-enum-told : tie.Need-enum-told
-enum-told c = search needs
-
-enum-known-last : tie.Need-enum-known-last
-enum-known-last c = search needs
-
 returns : tie.Need-returns
 returns c = let a = c .before .before .before .before .args in below (a .last) (a .address) (c .before .before .last .given .0 .0) (c .before .before .last .given .1) (c .if1 .taken)
-
-returns-2 : tie.Need-returns-2
-returns-2 c = search needs
 
 returns-3 : tie.Need-returns-3
 returns-3 c = let a = c .before .before .before .before .args in above (a .last) (a .address) (c .before .before .last .given .0 .0) (c .before .before .last .given .1) (c .if1 .left)
 
 pub cleared-spec : {M : Type 1} → statement M
-cleared-spec = tie.close (tie.spec enum-told enum-known-last returns returns-2 returns-3)
+cleared-spec = tie.close (tie.spec (λ c. search needs) (λ c. search needs) returns (λ c. search needs) returns-3)

@@ -7,12 +7,6 @@ use borrow.Author.Needs.{needs}
 use Rattle.steps.proofs.comp_dir_part.Statement.{statement}
 use Rattle.steps.proofs.comp_dir_part.Tie as tie
 
-part-requires : tie.Need-part-requires
-part-requires c κs = search needs
-
-is-utf8-requires : tie.Need-is-utf8-requires
-is-utf8-requires c κs = search needs
-
 returns : tie.Need-returns
 returns c = sym (ap (λ (b : Bool). cond b (c .before .before .before .before .args .p) no-part) (sym (c .before .is-utf8 .ensures ∙ ap utf8 (c .before .before .part .ensures)) ∙ c .if1 .taken))
 
@@ -20,4 +14,4 @@ returns-2 : tie.Need-returns-2
 returns-2 c = sym (ap (λ (b : Bool). cond b (c .before .before .before .before .args .p) no-part) (sym (c .before .is-utf8 .ensures ∙ ap utf8 (c .before .before .part .ensures)) ∙ c .if1 .left))
 
 pub comp-dir-part-spec : {M : Type 1} → statement M
-comp-dir-part-spec = tie.close (tie.spec part-requires is-utf8-requires returns returns-2)
+comp-dir-part-spec = tie.close (tie.spec (λ c κs. search needs) (λ c κs. search needs) returns returns-2)

@@ -4,12 +4,6 @@ use borrow.Author.Needs.{needs}
 use Rattle.steps.proofs.insert_call_location.Statement.{statement}
 use Rattle.steps.proofs.insert_call_location.Tie as tie
 
-insert-full-requires : tie.Need-insert-full-requires
-insert-full-requires c κs = search needs
-
-same-length : tie.Need-same-length
-same-length c = search needs
-
 returns : tie.Need-returns
 returns c =
     let a = c .before .before .before .before .before .args in
@@ -17,4 +11,4 @@ returns c =
     call-law (a .state) (a .l) (a .call-locations .now) {c1 = r .last .0} {got = r .result} (r .ensures)
 
 pub insert-call-location-spec : {M : Type 1} → statement M
-insert-call-location-spec = tie.close (tie.spec insert-full-requires same-length returns)
+insert-call-location-spec = tie.close (tie.spec (λ c κs. search needs) (λ c. search needs) returns)

@@ -6,23 +6,11 @@ use borrow.Author.Needs.{needs}
 use Rattle.steps.proofs.insert_end.Statement.{statement}
 use Rattle.steps.proofs.insert_end.Tie as tie
 
-is-vacant-requires : tie.Need-is-vacant-requires
-is-vacant-requires c κs = search needs
-
-insert-range-requires : tie.Need-insert-range-requires
-insert-range-requires c κs = search needs
-
-same-length : tie.Need-same-length
-same-length c = search needs
-
 returns : tie.Need-returns
 returns c =
     let a = c .before .before .before .before .before .before .before .before .args in
     λ X x i f g m.
     c .before .before .insert-range .ensures x i f g m ∙ end-where-vacant X (a .end) (words (a .state) x i f g m (a .ranges .now)) (c .before .before .before .before .before .is-vacant .ensures) (c .before .before .before .before .if1 .taken)
-
-same-length-2 : tie.Need-same-length-2
-same-length-2 c = search needs
 
 returns-2 : tie.Need-returns-2
 returns-2 c =
@@ -33,4 +21,4 @@ returns-2 c =
 pub insert-end-spec : {M : Type 1} → statement M
 insert-end-spec =
     tie.close
-    (tie.spec is-vacant-requires insert-range-requires same-length returns same-length-2 returns-2)
+    (tie.spec (λ c κs. search needs) (λ c κs. search needs) (λ c. search needs) returns (λ c. search needs) returns-2)

@@ -8,18 +8,6 @@ use borrow.Author.Needs.{needs}
 use Rattle.steps.proofs.insert_optional.Statement.{statement}
 use Rattle.steps.proofs.insert_optional.Tie as tie
 
-or-empty-requires : tie.Need-or-empty-requires
-or-empty-requires c κs = search needs
-
-insert-part-requires : tie.Need-insert-part-requires
-insert-part-requires c κs = search needs
-
-same-length : tie.Need-same-length
-same-length c = search needs
-
-same-length-2 : tie.Need-same-length-2
-same-length-2 c = search needs
-
 returns : tie.Need-returns
 returns c =
     let a = c .before .before .before .before .before .before .before .before .before .before .before .args in
@@ -28,4 +16,4 @@ returns c =
 
 pub insert-optional-spec : {M : Type 1} → statement M
 insert-optional-spec =
-    tie.close (tie.spec or-empty-requires insert-part-requires same-length same-length-2 returns)
+    tie.close (tie.spec (λ c κs. search needs) (λ c κs. search needs) (λ c. search needs) (λ c. search needs) returns)

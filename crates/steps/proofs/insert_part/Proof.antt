@@ -5,18 +5,6 @@ use borrow.Author.Needs.{needs}
 use Rattle.steps.proofs.insert_part.Statement.{statement}
 use Rattle.steps.proofs.insert_part.Tie as tie
 
-part-requires : tie.Need-part-requires
-part-requires c κs = search needs
-
-insert-string-requires : tie.Need-insert-string-requires
-insert-string-requires c κs = search needs
-
-same-length : tie.Need-same-length
-same-length c = search needs
-
-same-length-2 : tie.Need-same-length-2
-same-length-2 c = search needs
-
 returns : tie.Need-returns
 returns c =
     let a = c .before .before .before .before .before .before .before .before .before .before .before .args in
@@ -25,4 +13,4 @@ returns c =
 
 pub insert-part-spec : {M : Type 1} → statement M
 insert-part-spec =
-    tie.close (tie.spec part-requires insert-string-requires same-length same-length-2 returns)
+    tie.close (tie.spec (λ c κs. search needs) (λ c κs. search needs) (λ c. search needs) (λ c. search needs) returns)

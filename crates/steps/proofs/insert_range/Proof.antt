@@ -4,12 +4,6 @@ use borrow.Author.Needs.{needs}
 use Rattle.steps.proofs.insert_range.Statement.{statement}
 use Rattle.steps.proofs.insert_range.Tie as tie
 
-put-requires : tie.Need-put-requires
-put-requires c κs = search needs
-
-same-length : tie.Need-same-length
-same-length c = search needs
-
 returns : tie.Need-returns
 returns c =
     let a = c .before .before .before .before .before .args in
@@ -17,4 +11,4 @@ returns c =
     range-law (a .state) (a .start) (a .l) (a .ranges .now) {n1 = r .last .0} {got = r .result} (r .ensures)
 
 pub insert-range-spec : {M : Type 1} → statement M
-insert-range-spec = tie.close (tie.spec put-requires same-length returns)
+insert-range-spec = tie.close (tie.spec (λ c κs. search needs) (λ c. search needs) returns)

@@ -7,15 +7,6 @@ use borrow.Author.Needs.{needs}
 use Rattle.steps.proofs.insert_source_location.Statement.{statement}
 use Rattle.steps.proofs.insert_source_location.Tie as tie
 
-is-free-requires : tie.Need-is-free-requires
-is-free-requires c κs = search needs
-
-insert-range-requires : tie.Need-insert-range-requires
-insert-range-requires c κs = search needs
-
-same-length : tie.Need-same-length
-same-length c = search needs
-
 returns : tie.Need-returns
 returns c =
     let a = c .before .before .before .before .before .before .before .before .args in
@@ -23,9 +14,6 @@ returns c =
     λ X x i f g m.
     let s = words (a .state) x i f g m (a .ranges .now) in
     r .ensures x i f g m ∙ put-where-free X (a .start) s (put-range (a .start) (a .l) s) (c .before .before .before .before .before .is-free .ensures) (c .before .before .before .before .if1 .taken)
-
-same-length-2 : tie.Need-same-length-2
-same-length-2 c = search needs
 
 returns-2 : tie.Need-returns-2
 returns-2 c =
@@ -37,4 +25,4 @@ returns-2 c =
 pub insert-source-location-spec : {M : Type 1} → statement M
 insert-source-location-spec =
     tie.close
-    (tie.spec is-free-requires insert-range-requires same-length returns same-length-2 returns-2)
+    (tie.spec (λ c κs. search needs) (λ c κs. search needs) (λ c. search needs) returns (λ c. search needs) returns-2)

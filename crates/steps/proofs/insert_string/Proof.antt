@@ -4,15 +4,6 @@ use borrow.Author.Needs.{needs}
 use Rattle.steps.proofs.insert_string.Statement.{statement}
 use Rattle.steps.proofs.insert_string.Tie as tie
 
-insert-requires : tie.Need-insert-requires
-insert-requires c κs = search needs
-
-same-length : tie.Need-same-length
-same-length c = search needs
-
-same-length-2 : tie.Need-same-length-2
-same-length-2 c = search needs
-
 returns : tie.Need-returns
 returns c =
     let a = c .before .before .before .before .before .before .before .before .before .before .args in
@@ -20,4 +11,4 @@ returns c =
     store-law (a .state) (a .t .now) (a .string-bytes .now) (a .strings .now) {x1 = r .last .0} {i1 = r .last .1 .0} {got = r .result} (r .ensures)
 
 pub insert-string-spec : {M : Type 1} → statement M
-insert-string-spec = tie.close (tie.spec insert-requires same-length same-length-2 returns)
+insert-string-spec = tie.close (tie.spec (λ c κs. search needs) (λ c. search needs) (λ c. search needs) returns)

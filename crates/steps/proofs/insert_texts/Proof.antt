@@ -7,24 +7,6 @@ use borrow.Author.Needs.{needs}
 use Rattle.steps.proofs.insert_texts.Statement.{statement}
 use Rattle.steps.proofs.insert_texts.Tie as tie
 
-insert-part-requires : tie.Need-insert-part-requires
-insert-part-requires c κs = search needs
-
-insert-part-requires-2 : tie.Need-insert-part-requires-2
-insert-part-requires-2 c κs = search needs
-
-insert-part-requires-3 : tie.Need-insert-part-requires-3
-insert-part-requires-3 c κs = search needs
-
-insert-optional-requires : tie.Need-insert-optional-requires
-insert-optional-requires c κs = search needs
-
-insert-optional-requires-2 : tie.Need-insert-optional-requires-2
-insert-optional-requires-2 c κs = search needs
-
-insert-optional-requires-3 : tie.Need-insert-optional-requires-3
-insert-optional-requires-3 c κs = search needs
-
 same-length : tie.Need-same-length
 same-length c = c .before .before .before .before .before .insert-optional3 .kept .1 .0 ∙ (c .before .before .before .before .before .before .before .before .before .before .before .before .insert-optional2 .kept .1 .0 ∙ (c .before .before .before .before .before .before .before .before .before .before .before .before .before .before .before .before .before .before .before .insert-optional .kept .1 .0 ∙ (c .before .before .before .before .before .before .before .before .before .before .before .before .before .before .before .before .before .before .before .before .before .before .before .before .before .before .insert-part3 .kept .1 .0 ∙ (c .before .before .before .before .before .before .before .before .before .before .before .before .before .before .before .before .before .before .before .before .before .before .before .before .before .before .before .before .before .before .before .before .before .insert-part2 .kept .1 .0 ∙ c .before .before .before .before .before .before .before .before .before .before .before .before .before .before .before .before .before .before .before .before .before .before .before .before .before .before .before .before .before .before .before .before .before .before .before .before .before .before .before .before .insert-part .kept .1 .0))))
 
@@ -52,12 +34,8 @@ pub insert-texts-spec : {M : Type 1} → statement M
 insert-texts-spec =
     tie.close
     (tie.spec
-    insert-part-requires
-    insert-part-requires-2
-    insert-part-requires-3
-    insert-optional-requires
-    insert-optional-requires-2
-    insert-optional-requires-3
+    (λ c κs. search needs) (λ c κs. search needs) (λ c κs. search needs) (λ c κs. search needs) (λ c κs. search needs)
+    (λ c κs. search needs)
     same-length
     same-length-2
     returns)

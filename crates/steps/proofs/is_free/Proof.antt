@@ -5,18 +5,6 @@ use borrow.Author.Needs.{needs}
 use Rattle.steps.proofs.is_free.Statement.{statement}
 use Rattle.steps.proofs.is_free.Tie as tie
 
-get-requires : tie.Need-get-requires
-get-requires c κs = search needs
-
-enum-told : tie.Need-enum-told
-enum-told c = search needs
-
-enum-known-found : tie.Need-enum-known-found
-enum-known-found c = search needs
-
-is-no-source-location-requires : tie.Need-is-no-source-location-requires
-is-no-source-location-requires c κs = search needs
-
 returns : tie.Need-returns
 returns c = ap free (sym (c .enum-told .given .1) ∙ c .before .before .get .ensures)
 
@@ -27,9 +15,6 @@ pub is-free-spec : {M : Type 1} → statement M
 is-free-spec =
     tie.close
     (tie.spec
-    get-requires
-    enum-told
-    enum-known-found
-    is-no-source-location-requires
+    (λ c κs. search needs) (λ c. search needs) (λ c. search needs) (λ c κs. search needs)
     returns
     returns-2)

@@ -5,15 +5,6 @@ use borrow.Author.Needs.{needs}
 use Rattle.steps.proofs.is_vacant.Statement.{statement}
 use Rattle.steps.proofs.is_vacant.Tie as tie
 
-get-requires : tie.Need-get-requires
-get-requires c κs = search needs
-
-enum-told : tie.Need-enum-told
-enum-told c = search needs
-
-enum-told-2 : tie.Need-enum-told-2
-enum-told-2 c = search needs
-
 returns : tie.Need-returns
 returns c = ap vacant (sym (c .enum-told .given .1) ∙ c .before .before .get .ensures)
 
@@ -21,4 +12,4 @@ returns-2 : tie.Need-returns-2
 returns-2 c = ap vacant (sym (c .enum-told2 .given .1) ∙ c .before .before .get .ensures)
 
 pub is-vacant-spec : {M : Type 1} → statement M
-is-vacant-spec = tie.close (tie.spec get-requires enum-told enum-told-2 returns returns-2)
+is-vacant-spec = tie.close (tie.spec (λ c κs. search needs) (λ c. search needs) (λ c. search needs) returns returns-2)

@@ -19,12 +19,6 @@ module _ (l : LastAddr) (e : ℕ) where
   more : (a : ℕ) → l ≡ Set a → e ≤ a → Set a ≡ later-of l e
   more a h p = rw (h, le-ltb a e p)
 
-enum-told : tie.Need-enum-told
-enum-told c = search needs
-
-enum-known-last : tie.Need-enum-known-last
-enum-known-last c = search needs
-
 returns : tie.Need-returns
 returns c = let a = c .before .before .before .before .args in less (a .last) (a .end) (c .before .before .last .given .0 .0) (c .before .before .last .given .1) (c .if1 .taken)
 
@@ -35,4 +29,4 @@ returns-3 : tie.Need-returns-3
 returns-3 c = let a = c .before .before .before .before .args in more (a .last) (a .end) (c .before .before .last .given .0 .0) (c .before .before .last .given .1) (c .if1 .left)
 
 pub later-spec : {M : Type 1} → statement M
-later-spec = tie.close (tie.spec enum-told enum-known-last returns returns-2 returns-3)
+later-spec = tie.close (tie.spec (λ c. search needs) (λ c. search needs) returns returns-2 returns-3)

@@ -6,24 +6,6 @@ use borrow.Author.Needs.{needs}
 use Rattle.steps.proofs.locate_line.Statement.{statement}
 use Rattle.steps.proofs.locate_line.Tie as tie
 
-insert-texts-requires : tie.Need-insert-texts-requires
-insert-texts-requires c κs = search needs
-
-insert-file-requires : tie.Need-insert-file-requires
-insert-file-requires c κs = search needs
-
-cast-t21 : tie.Need-cast-t21
-cast-t21 c = search needs
-
-same-length : tie.Need-same-length
-same-length c = search needs
-
-same-length-2 : tie.Need-same-length-2
-same-length-2 c = search needs
-
-same-length-3 : tie.Need-same-length-3
-same-length-3 c = search needs
-
 returns : tie.Need-returns
 returns c =
     let a = c .before .before .before .before .before .before .before .before .before .before .before .before .before .before .before .before .before .args in
@@ -40,10 +22,6 @@ pub locate-line-spec : {M : Type 1} → statement M
 locate-line-spec =
     tie.close
     (tie.spec
-    insert-texts-requires
-    insert-file-requires
-    cast-t21
-    same-length
-    same-length-2
-    same-length-3
+    (λ c κs. search needs) (λ c κs. search needs) (λ c. search needs) (λ c. search needs) (λ c. search needs)
+    (λ c. search needs)
     returns)

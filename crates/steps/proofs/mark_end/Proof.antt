@@ -6,14 +6,8 @@ use borrow.Author.Needs.{needs}
 use Rattle.steps.proofs.mark_end.Statement.{statement}
 use Rattle.steps.proofs.mark_end.Tie as tie
 
-later-requires : tie.Need-later-requires
-later-requires c κs = search needs
-
-with-last-requires : tie.Need-with-last-requires
-with-last-requires c κs = search needs
-
 returns : tie.Need-returns
 returns c = c .with-last .ensures ∙ ap (λ (l : LastAddr). with-last (c .before .before .args .state) l) (c .before .later .ensures)
 
 pub mark-end-spec : {M : Type 1} → statement M
-mark-end-spec = tie.close (tie.spec later-requires with-last-requires returns)
+mark-end-spec = tie.close (tie.spec (λ c κs. search needs) (λ c κs. search needs) returns)

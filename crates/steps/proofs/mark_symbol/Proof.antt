@@ -6,14 +6,8 @@ use borrow.Author.Needs.{needs}
 use Rattle.steps.proofs.mark_symbol.Statement.{statement}
 use Rattle.steps.proofs.mark_symbol.Tie as tie
 
-cleared-requires : tie.Need-cleared-requires
-cleared-requires c κs = search needs
-
-with-last-requires : tie.Need-with-last-requires
-with-last-requires c κs = search needs
-
 returns : tie.Need-returns
 returns c = c .with-last .ensures ∙ ap (λ (l : LastAddr). with-last (c .before .before .args .state) l) (c .before .cleared .ensures)
 
 pub mark-symbol-spec : {M : Type 1} → statement M
-mark-symbol-spec = tie.close (tie.spec cleared-requires with-last-requires returns)
+mark-symbol-spec = tie.close (tie.spec (λ c κs. search needs) (λ c κs. search needs) returns)

@@ -4,12 +4,6 @@ use borrow.Author.Needs.{needs}
 use Rattle.c_words.proofs.file.put_len.Statement.{statement}
 use Rattle.c_words.proofs.file.put_len.Tie as tie
 
-put64-requires : tie.Need-put64-requires
-put64-requires c κs = search needs
-
-same-length : tie.Need-same-length
-same-length c = search needs
-
 returns : tie.Need-returns
 returns c = let a = c .before .before .before .before .before .before .args in
     len-given (a .code) (a .n) (a .len .now) (c .before .before .before .before .if1 .taken) (c .before .before .put64 .ensures)
@@ -19,4 +13,4 @@ returns-2 c = let a = c .before .before .args in
     len-kept (a .code) (a .n) (a .len .now) (c .if1 .left)
 
 pub put-len-spec : {M : Type 1} → statement M
-put-len-spec = tie.close (tie.spec put64-requires same-length returns returns-2)
+put-len-spec = tie.close (tie.spec (λ c κs. search needs) (λ c. search needs) returns returns-2)

@@ -4,22 +4,10 @@ use borrow.Author.Needs.{needs}
 use Rattle.c_words.proofs.record.put_id_word.Statement.{statement}
 use Rattle.c_words.proofs.record.put_id_word.Tie as tie
 
-mul-load-u32 : tie.Need-mul-load-u32
-mul-load-u32 c = search needs
-
-load-u32-requires : tie.Need-load-u32-requires
-load-u32-requires c κs = search needs
-
-put-requires : tie.Need-put-requires
-put-requires c κs = search needs
-
-same-length : tie.Need-same-length
-same-length c = search needs
-
 returns : tie.Need-returns
 returns c = let a = c .before .before .before .before .before .before .before .args in
     word-of-id (a .«record» .now) (a .k) (a .id .now) (c .before .before .before .before .load-u32 .result) (c .before .before .before .before .load-u32 .ensures) (c .before .before .put .ensures)
 
 pub put-id-word-spec : {M : Type 1} → statement M
 put-id-word-spec =
-    tie.close (tie.spec mul-load-u32 load-u32-requires put-requires same-length returns)
+    tie.close (tie.spec (λ c. search needs) (λ c κs. search needs) (λ c κs. search needs) (λ c. search needs) returns)

@@ -11,33 +11,9 @@ use borrow.Author.Needs.{needs}
 use Rattle.c_words.proofs.record.put_last_addr.Statement.{statement}
 use Rattle.c_words.proofs.record.put_last_addr.Tie as tie
 
-enum-known-last : tie.Need-enum-known-last
-enum-known-last c = search needs
-
-enum-told : tie.Need-enum-told
-enum-told c = search needs
-
-put-requires : tie.Need-put-requires
-put-requires c κs = search needs
-
-put-requires-2 : tie.Need-put-requires-2
-put-requires-2 c κs = search needs
-
-same-length : tie.Need-same-length
-same-length c = search needs
-
 returns : tie.Need-returns
 returns c = let a = c .before .before .before .before .before .before .before .before .before .before .before .args in
     puts (a .«record» .now) 17 (lastWords Unset) (put 18 refl (c .before .before .before .before .before .before .put .ensures) (put 19 refl (c .before .before .put2 .ensures) done)) ∙ sym (ap (λ (l : LastAddr). sets (a .«record» .now) 17 (lastWords l)) (c .before .before .before .before .before .before .before .before .enum-told .given .1))
-
-put-requires-3 : tie.Need-put-requires-3
-put-requires-3 c κs = search needs
-
-put-requires-4 : tie.Need-put-requires-4
-put-requires-4 c κs = search needs
-
-same-length-2 : tie.Need-same-length-2
-same-length-2 c = search needs
 
 returns-2 : tie.Need-returns-2
 returns-2 c = let a = c .before .before .before .before .before .before .before .before .before .before .before .before .args in
@@ -47,13 +23,7 @@ pub put-last-addr-spec : {M : Type 1} → statement M
 put-last-addr-spec =
     tie.close
     (tie.spec
-    enum-known-last
-    enum-told
-    put-requires
-    put-requires-2
-    same-length
+    (λ c. search needs) (λ c. search needs) (λ c κs. search needs) (λ c κs. search needs) (λ c. search needs)
     returns
-    put-requires-3
-    put-requires-4
-    same-length-2
+    (λ c κs. search needs) (λ c κs. search needs) (λ c. search needs)
     returns-2)

@@ -8,24 +8,6 @@ use borrow.Author.Needs.{needs}
 use Rattle.c_words.proofs.record.put_switches.Statement.{statement}
 use Rattle.c_words.proofs.record.put_switches.Tie as tie
 
-put-requires : tie.Need-put-requires
-put-requires c κs = search needs
-
-flag-requires : tie.Need-flag-requires
-flag-requires c κs = search needs
-
-put-requires-2 : tie.Need-put-requires-2
-put-requires-2 c κs = search needs
-
-flag-requires-2 : tie.Need-flag-requires-2
-flag-requires-2 c κs = search needs
-
-put-requires-3 : tie.Need-put-requires-3
-put-requires-3 c κs = search needs
-
-same-length : tie.Need-same-length
-same-length c = search needs
-
 returns : tie.Need-returns
 returns c = let a = c .before .before .before .before .before .before .before .before .before .before .before .before .before .before .before .args in
     puts (a .«record» .now) 8 (switchWords (a .c)) (put 9 refl (c .before .before .before .before .before .before .before .before .before .before .before .before .put .ensures) (put 10 refl ((c .before .before .before .before .before .before .before .put2 .ensures) ∙ ap (λ (v : ℕ). set (c .before .before .before .before .before .before .before .before .before .before .before .before .put .last .0) 9 v) (c .before .before .before .before .before .before .before .before .flag .ensures)) (put 11 refl ((c .before .before .put3 .ensures) ∙ ap (λ (v : ℕ). set (c .before .before .before .before .before .before .before .put2 .last .0) 10 v) (c .before .before .before .flag2 .ensures)) done)))
@@ -34,10 +16,6 @@ pub put-switches-spec : {M : Type 1} → statement M
 put-switches-spec =
     tie.close
     (tie.spec
-    put-requires
-    flag-requires
-    put-requires-2
-    flag-requires-2
-    put-requires-3
-    same-length
+    (λ c κs. search needs) (λ c κs. search needs) (λ c κs. search needs) (λ c κs. search needs) (λ c κs. search needs)
+    (λ c. search needs)
     returns)

@@ -4,21 +4,9 @@ use borrow.Author.Needs.{needs}
 use Rattle.c_words.proofs.record.store_answer.Statement.{statement}
 use Rattle.c_words.proofs.record.store_answer.Tie as tie
 
-store-requires : tie.Need-store-requires
-store-requires c κs = search needs
-
-same-length : tie.Need-same-length
-same-length c = search needs
-
 returns : tie.Need-returns
 returns c = let a = c .before .before .before .before .before .before .args in
     kept-accepted (a .code) (a .c) (a .«record» .now) (c .before .before .before .before .if1 .taken) (c .before .before .store .ensures)
-
-store-requires-2 : tie.Need-store-requires-2
-store-requires-2 c κs = search needs
-
-same-length-2 : tie.Need-same-length-2
-same-length-2 c = search needs
 
 returns-2 : tie.Need-returns-2
 returns-2 c = let a = c .before .before .before .before .before .before .before .args in
@@ -32,10 +20,8 @@ pub store-answer-spec : {M : Type 1} → statement M
 store-answer-spec =
     tie.close
     (tie.spec
-    store-requires
-    same-length
+    (λ c κs. search needs) (λ c. search needs)
     returns
-    store-requires-2
-    same-length-2
+    (λ c κs. search needs) (λ c. search needs)
     returns-2
     returns-3)

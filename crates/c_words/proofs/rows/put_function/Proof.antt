@@ -7,30 +7,6 @@ use borrow.Author.Needs.{needs}
 use Rattle.c_words.proofs.rows.put_function.Statement.{statement}
 use Rattle.c_words.proofs.rows.put_function.Tie as tie
 
-add-k1 : tie.Need-add-k1
-add-k1 c = search needs
-
-add-k2 : tie.Need-add-k2
-add-k2 c = search needs
-
-add-k3 : tie.Need-add-k3
-add-k3 c = search needs
-
-put-requires : tie.Need-put-requires
-put-requires c κs = search needs
-
-put-requires-2 : tie.Need-put-requires-2
-put-requires-2 c κs = search needs
-
-put-requires-3 : tie.Need-put-requires-3
-put-requires-3 c κs = search needs
-
-put-requires-4 : tie.Need-put-requires-4
-put-requires-4 c κs = search needs
-
-same-length : tie.Need-same-length
-same-length c = search needs
-
 returns : tie.Need-returns
 returns c = let a = c .before .before .before .before .before .before .before .before .before .before .before .before .before .before .before .before .before .args in
     puts (a .row .now) (a .k) (functionWords (a .f)) (put (a .k + 1) (omega arith) (c .before .before .before .before .before .before .before .before .before .before .before .before .before .before .put .ensures) (put (a .k + 1 + 1) (omega arith) (c .before .before .before .before .before .before .before .before .before .before .put2 .ensures) (put (a .k + 1 + 1 + 1) (omega arith) (c .before .before .before .before .before .before .put3 .ensures) (put (a .k + 1 + 1 + 1 + 1) (omega arith) (c .before .before .put4 .ensures) done))))
@@ -39,12 +15,6 @@ pub put-function-spec : {M : Type 1} → statement M
 put-function-spec =
     tie.close
     (tie.spec
-    add-k1
-    add-k2
-    add-k3
-    put-requires
-    put-requires-2
-    put-requires-3
-    put-requires-4
-    same-length
+    (λ c. search needs) (λ c. search needs) (λ c. search needs) (λ c κs. search needs) (λ c κs. search needs)
+    (λ c κs. search needs) (λ c κs. search needs) (λ c. search needs)
     returns)

@@ -4,11 +4,8 @@ use borrow.Author.Needs.{needs}
 use Rattle.exports.proofs.writing.debug_id_of.Statement.{statement}
 use Rattle.exports.proofs.writing.debug_id_of.Tie as tie
 
-header-at-requires : tie.Need-header-at-requires
-header-at-requires c κs = search needs
-
 returns : tie.Need-returns
 returns c = id-bytes (c .before .before .before .args .bytes .now) (c .before .header-at .result) (c .before .header-at .ensures)
 
 pub debug-id-of-spec : {M : Type 1} → statement M
-debug-id-of-spec = tie.close (tie.spec header-at-requires returns)
+debug-id-of-spec = tie.close (tie.spec (λ c κs. search needs) returns)

@@ -5,21 +5,6 @@ use borrow.Author.Needs.{needs}
 use Rattle.exports.proofs.writing.symcache_serialize.Statement.{statement}
 use Rattle.exports.proofs.writing.symcache_serialize.Tie as tie
 
-load-requires : tie.Need-load-requires
-load-requires c κs = search needs
-
-serialize-requires : tie.Need-serialize-requires
-serialize-requires c κs = search needs
-
-put-len-requires : tie.Need-put-len-requires
-put-len-requires c κs = search needs
-
-same-length : tie.Need-same-length
-same-length c = search needs
-
-same-length-2 : tie.Need-same-length-2
-same-length-2 c = search needs
-
 returns : tie.Need-returns
 returns c = let a = c .before .before .before .before .before .before .before .before .before .before .before .before .before .before .before .before .before .before .args in
     let w = c .before .before .before .before .before .before .serialize in
@@ -28,4 +13,4 @@ returns c = let a = c .before .before .before .before .before .before .before .b
 pub symcache-serialize-spec : {M : Type 1} → statement M
 symcache-serialize-spec =
     tie.close
-    (tie.spec load-requires serialize-requires put-len-requires same-length same-length-2 returns)
+    (tie.spec (λ c κs. search needs) (λ c κs. search needs) (λ c κs. search needs) (λ c. search needs) (λ c. search needs) returns)

@@ -36,27 +36,6 @@ counted : (l : SourceLocation) {w x y z : ℕ} → w ≡ one (eqb (l .«file_idx
 unfolding isNoSourceLocation
 counted l e f g h = rw (e, f, g, h) (four (eqb (l .«file_idx») max32) (eqb (l .line) max32) (eqb (l .«function_idx») max32) (eqb (l .«inlined_into_idx») max32))
 
-equal-requires : tie.Need-equal-requires
-equal-requires c κs = search needs
-
-equal-requires-2 : tie.Need-equal-requires-2
-equal-requires-2 c κs = search needs
-
-add-same : tie.Need-add-same
-add-same c = omega arith
-
-equal-requires-3 : tie.Need-equal-requires-3
-equal-requires-3 c κs = search needs
-
-add-same-2 : tie.Need-add-same-2
-add-same-2 c = omega arith
-
-equal-requires-4 : tie.Need-equal-requires-4
-equal-requires-4 c κs = search needs
-
-add-same-3 : tie.Need-add-same-3
-add-same-3 c = omega arith
-
 returns : tie.Need-returns
 returns c = counted (c .before .before .before .before .args .self) (c .before .before .before .equal .ensures .0) (c .before .before .equal2 .ensures .0) (c .before .equal3 .ensures .0) (c .equal4 .ensures .0)
 
@@ -64,11 +43,6 @@ pub is-no-source-location-spec : {M : Type 1} → statement M
 is-no-source-location-spec =
     tie.close
     (tie.spec
-    equal-requires
-    equal-requires-2
-    add-same
-    equal-requires-3
-    add-same-2
-    equal-requires-4
-    add-same-3
+    (λ c κs. search needs) (λ c κs. search needs) (λ c. omega arith) (λ c κs. search needs) (λ c. omega arith)
+    (λ c κs. search needs) (λ c. omega arith)
     returns)

@@ -5,18 +5,6 @@ use borrow.Author.Needs.{needs}
 use Rattle.steps.proofs.symbols.insert_symbol_end.Statement.{statement}
 use Rattle.steps.proofs.symbols.insert_symbol_end.Tie as tie
 
-add-end : tie.Need-add-end
-add-end c = search needs
-
-cast-insert-end : tie.Need-cast-insert-end
-cast-insert-end c = search needs
-
-insert-end-requires : tie.Need-insert-end-requires
-insert-end-requires c κs = search needs
-
-same-length : tie.Need-same-length
-same-length c = search needs
-
 returns : tie.Need-returns
 returns c =
     let a = c .before .before .before .before .before .before .before .before .args in
@@ -42,4 +30,11 @@ returns-4 c =
     end-absent X (a .address) (a .size) t (words (a .state) x i f g m (a .ranges .now)) (c .if1 .left)
 
 pub insert-symbol-end-spec : {M : Type 1} → statement M
-insert-symbol-end-spec = tie.close (tie.spec add-end cast-insert-end insert-end-requires same-length returns returns-2 returns-3 returns-4)
+insert-symbol-end-spec =
+    tie.close
+    (tie.spec
+    (λ c. search needs) (λ c. search needs) (λ c κs. search needs) (λ c. search needs)
+    returns
+    returns-2
+    returns-3
+    returns-4)

@@ -7,33 +7,6 @@ use borrow.Author.Needs.{needs}
 use Rattle.steps.proofs.symbols.process_named.Statement.{statement}
 use Rattle.steps.proofs.symbols.process_named.Tie as tie
 
-shown-name-requires : tie.Need-shown-name-requires
-shown-name-requires c κs = search needs
-
-insert-string-requires : tie.Need-insert-string-requires
-insert-string-requires c κs = search needs
-
-insert-symbol-requires : tie.Need-insert-symbol-requires
-insert-symbol-requires c κs = search needs
-
-mark-symbol-requires : tie.Need-mark-symbol-requires
-mark-symbol-requires c κs = search needs
-
-insert-symbol-end-requires : tie.Need-insert-symbol-end-requires
-insert-symbol-end-requires c κs = search needs
-
-same-length : tie.Need-same-length
-same-length c = search needs
-
-same-length-2 : tie.Need-same-length-2
-same-length-2 c = search needs
-
-same-length-3 : tie.Need-same-length-3
-same-length-3 c = search needs
-
-same-length-4 : tie.Need-same-length-4
-same-length-4 c = search needs
-
 returns : tie.Need-returns
 returns c =
     let a = c .before .before .before .before .before .before .before .before .before .before .before .before .before .before .before .before .before .before .before .before .before .before .before .before .before .args in
@@ -50,4 +23,9 @@ returns c =
     (m .ensures) (e .ensures (switches b (a .undecorate)) (a .name .now) (t .last .1 .0) (t .last .1 .1 .0) f (l .last .1 .0) k)
 
 pub process-named-spec : {M : Type 1} → statement M
-process-named-spec = tie.close (tie.spec shown-name-requires insert-string-requires insert-symbol-requires mark-symbol-requires insert-symbol-end-requires same-length same-length-2 same-length-3 same-length-4 returns)
+process-named-spec =
+    tie.close
+    (tie.spec
+    (λ c κs. search needs) (λ c κs. search needs) (λ c κs. search needs) (λ c κs. search needs) (λ c κs. search needs)
+    (λ c. search needs) (λ c. search needs) (λ c. search needs) (λ c. search needs)
+    returns)

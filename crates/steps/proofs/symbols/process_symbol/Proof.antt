@@ -6,27 +6,6 @@ use borrow.Author.Needs.{needs}
 use Rattle.steps.proofs.symbols.process_symbol.Statement.{statement}
 use Rattle.steps.proofs.symbols.process_symbol.Tie as tie
 
-part-requires : tie.Need-part-requires
-part-requires c κs = search needs
-
-cast-process-named : tie.Need-cast-process-named
-cast-process-named c = search needs
-
-process-named-requires : tie.Need-process-named-requires
-process-named-requires c κs = search needs
-
-same-length : tie.Need-same-length
-same-length c = search needs
-
-same-length-2 : tie.Need-same-length-2
-same-length-2 c = search needs
-
-same-length-3 : tie.Need-same-length-3
-same-length-3 c = search needs
-
-same-length-4 : tie.Need-same-length-4
-same-length-4 c = search needs
-
 returns : tie.Need-returns
 returns c =
     let a = c .before .before .before .before .before .before .before .before .before .before .before .before .before .before .before .before .before .before .before .before .before .args in
@@ -51,4 +30,11 @@ returns-3 c =
     (c .if1 .left)
 
 pub process-symbol-spec : {M : Type 1} → statement M
-process-symbol-spec = tie.close (tie.spec part-requires cast-process-named process-named-requires same-length same-length-2 same-length-3 same-length-4 returns returns-2 returns-3)
+process-symbol-spec =
+    tie.close
+    (tie.spec
+    (λ c κs. search needs) (λ c. search needs) (λ c κs. search needs) (λ c. search needs) (λ c. search needs)
+    (λ c. search needs) (λ c. search needs)
+    returns
+    returns-2
+    returns-3)
