@@ -6,7 +6,7 @@ use Prim.Native.Nat.{ℕ, suc, _*_, _/_}
 use lib.Dec.{eqb, ltb}
 use lib.ListN.{length, getD}
 use lib.Seq.{sets}
-use Rattle.rows.specs.Columns.{Columns, columns, lineWords}
+use Rattle.rows.specs.Columns.{Columns, columns, lineFields}
 use Rattle.rows.specs.Refusals.{each, lineTexts?}
 use Rattle.rows.specs.declared.LineRow.{LineRow}
 
@@ -14,7 +14,7 @@ use Rattle.rows.specs.declared.LineRow.{LineRow}
 
 -- a row of zeros
 abbrev pub noLine : LineRow
-noLine = lineWords [] [] 0
+noLine = lineFields [] [] 0
 
 abbrev pub flag : Bool → ℕ
 flag true = 1

@@ -15,7 +15,7 @@ use Rattle.model.specs.Machine.{Machine, LoopedM, unless-held, put-end, loopM, 
 use Rattle.model.specs.Converter.{Setup, input}
 use Rattle.sorting.specs.Pairs.{pairWords, sortedOf}
 use Rattle.rows.specs.declared.FunctionRow.{FunctionRow as FunctionStruct}
-use Rattle.rows.specs.Columns.{Columns, columns, functionRows, lineRows, functionRow, functionStruct, functionAt, linesFrom, textOf}
+use Rattle.rows.specs.Columns.{Columns, columns, functionRows, lineRows, functionInColumns, functionStruct, functionAt, linesFrom, textOf}
 use Rattle.rows.specs.Refusals.{firstLine}
 use Rattle.rows.proofs.RowLaws.{functionAt-lines, functionAt-skipped}
 use Rattle.rows.proofs.Accepted.{Accepted}
@@ -147,9 +147,9 @@ module _ (f64 f32 l64 l32 t : List ℕ) (base i first : ℕ) where
 
   -- ── A row that is visited ──
 
-  module _ (size top : ℕ) (ready : RowReady k size base i first top) (q : FunctionStruct) (e : q ≡ functionRow f64 f32 i) where
+  module _ (size top : ℕ) (ready : RowReady k size base i first top) (q : FunctionStruct) (e : q ≡ functionInColumns f64 f32 i) where
     same-spans : kid-spans k₀ (q .depth) (i + 1) (first + q .lines) ≡ row-spans k i first
-    same-spans = rw e (sym (spans-text f64 f32 l64 l32 t (functionRow f64 f32 i .depth) (i + 1) (first + functionRow f64 f32 i .lines)))
+    same-spans = rw e (sym (spans-text f64 f32 l64 l32 t (functionInColumns f64 f32 i .depth) (i + 1) (first + functionInColumns f64 f32 i .lines)))
 
     pub gather-ready : (base + top * 2 + length (kid-spans k₀ (q .depth) (i + 1) (first + q .lines)) * 2 ≤ size)
         × (i + 1 ≤ length f64 / 2) × (q .depth < 65536) × (first + q .lines ≡ firstLine k₀ (i + 1)) × LinesWithin f64 f32 l64
@@ -157,7 +157,7 @@ module _ (f64 f32 l64 l32 t : List ℕ) (base i first : ℕ) where
       rw same-spans (omega (arith, ready .room)),
       omega (arith, ready .inside),
       rw e (ready .shallow),
-      rw e (ap (λ (x : ℕ). x + functionRow f64 f32 i .lines) (ready .first-is) ∙ sym (first-line k i)),
+      rw e (ap (λ (x : ℕ). x + functionInColumns f64 f32 i .lines) (ready .first-is) ∙ sym (first-line k i)),
       ready .within,
     )
 
@@ -165,7 +165,7 @@ module _ (f64 f32 l64 l32 t : List ℕ) (base i first : ℕ) where
     lines-room = rw (e, ready .first-is) (ready .within i (ready .inside))
 
     pub lines-ready : (calls count n : ℕ) (s₁ s₂ : List ℕ) → length s₂ ≡ size → calls + count * 2 ≤ base + top * 2 → Sorted (base + top * 2) (kid-spans k₀ (q .depth) (i + 1) (first + q .lines)) n s₁ s₂
-        → (base + top * 2 + n * 2 ≤ length s₂) × (calls + count * 2 ≤ base + top * 2) × (first + functionRow f64 f32 i .lines ≤ length l64 / 3)
+        → (base + top * 2 + n * 2 ≤ length s₂) × (calls + count * 2 ≤ base + top * 2) × (first + functionInColumns f64 f32 i .lines ≤ length l64 / 3)
     lines-ready calls count n s₁ s₂ l h o =
         let z : length (kid-spans k₀ (q .depth) (i + 1) (first + q .lines)) ≡ length (row-spans k i first) = ap length same-spans in
         (omega (arith, ready .room, o .count), h, rw e at lines-room)
@@ -174,7 +174,7 @@ module _ (f64 f32 l64 l32 t : List ℕ) (base i first : ℕ) where
         → calls + count * 2 ≤ base + top * 2 → skipped (functionAt k i first) ≡ false
         → Sorted (base + top * 2) (kid-spans k₀ (q .depth) (i + 1) (first + q .lines)) n s s₂ → length s₃ ≡ size
         → (fi, w₁) ≡ begin-named (cond (X .functions-on) (undecorated (textOf t (q .name))) (textOf t (q .name))) (cond (q .inline) MAX (q .address % 4294967296)) (q .language) w
-        → Lined (base + top * 2) n (loopM input (over-words X) (functionAt k i first) fi (linesFrom k first (functionRow f64 f32 i .lines)) current (refsAt s₂ calls count) (pairsAt s₂ (base + top * 2) n) 0 w₁) s₂ s₃ w₃ m
+        → Lined (base + top * 2) n (loopM input (over-words X) (functionAt k i first) fi (linesFrom k first (functionInColumns f64 f32 i .lines)) current (refsAt s₂ calls count) (pairsAt s₂ (base + top * 2) n) 0 w₁) s₂ s₃ w₃ m
         → w₄ ≡ closingM input (over-words X) (functionAt k i first) fi w₃ → s₄ ≡ setCalls s₃ (q .depth) top m
         → (a : ℕ) → RowLeft X k base i first top (ref a current ∷ refsAt s calls count) s s₄ w w₄
     unfolding functionAt
@@ -184,17 +184,17 @@ module _ (f64 f32 l64 l32 t : List ℕ) (base i first : ℕ) where
         let d′ : Lined (base + top * 2) (length (row-spans k i first)) (loopM input (over-words X) (functionAt k i first) fi (functionAt k i first .lines) current (refsAt s₂ calls count) (pairsAt s₂ (base + top * 2) (length (row-spans k i first))) 0 w₁) s₂ s₃ w₃ m =
         rw (functionAt-lines k i first) (rw (o′ .count) at d) in
         rw (c, y, e)
-        (row-done (over-words X) (functionAt k i first) (row-spans k i first) base (functionRow f64 f32 i .depth) top calls count current s s₂ s₃ w w₁ w₃ fi m n o′ z h (ready .low) (omega (arith, ready .room)) b′ d′ a)
+        (row-done (over-words X) (functionAt k i first) (row-spans k i first) base (functionInColumns f64 f32 i .depth) top calls count current s s₂ s₃ w w₁ w₃ fi m n o′ z h (ready .low) (omega (arith, ready .room)) b′ d′ a)
 
   -- ── A row, visited or not ──
 
-  module _ (s : List ℕ) (ready : RowReady k (length s) base i first (topOf s (functionRow f64 f32 i .depth))) (q : FunctionStruct) (e : q ≡ functionRow f64 f32 i) where
+  module _ (s : List ℕ) (ready : RowReady k (length s) base i first (topOf s (functionInColumns f64 f32 i .depth))) (q : FunctionStruct) (e : q ≡ functionInColumns f64 f32 i) where
     pub own-ready : base + topOf s (q .depth) * 2 ≤ length s
     own-ready = rw e (omega (arith, ready .room))
 
     module _ (top : ℕ) (some : Bool) (current calls count : ℕ) (own : OwnCalls s base (q .depth) top some current calls count)
         (flag : Bool) (f : flag ≡ cond some (cond (eqb (q .size) 0) true (ltb MAX (q .address))) true) where
-      own′ : OwnCalls s base (functionRow f64 f32 i .depth) top some current calls count
+      own′ : OwnCalls s base (functionInColumns f64 f32 i .depth) top some current calls count
       own′ = rw e at own
 
       skip-is : skipped (functionAt k i first) ≡ cond (eqb (q .size) 0) true (ltb MAX (q .address))
@@ -202,14 +202,14 @@ module _ (f64 f32 l64 l32 t : List ℕ) (base i first : ℕ) where
 
       -- "No call location made", or skipped
       pub row-passed : (X : Setup) (w : Words) (s′ : List ℕ) → flag ≡ true → s′ ≡ setCalls s (q .depth) top 0
-          → RowLeft X k base i first (topOf s (functionRow f64 f32 i .depth)) (callsOf s base (functionRow f64 f32 i .depth)) s s′ w w
+          → RowLeft X k base i first (topOf s (functionInColumns f64 f32 i .depth)) (callsOf s base (functionInColumns f64 f32 i .depth)) s s′ w w
       row-passed X w s′ z y =
           rw (y, e, own′ .top-is)
-          (passed-over base (functionRow f64 f32 i .depth) (topOf s (functionRow f64 f32 i .depth)) (length (row-spans k i first)) (ready .low) s _ w (omega (arith, ready .room)) (go some refl (sym f ∙ z)))
+          (passed-over base (functionInColumns f64 f32 i .depth) (topOf s (functionInColumns f64 f32 i .depth)) (length (row-spans k i first)) (ready .low) s _ w (omega (arith, ready .room)) (go some refl (sym f ∙ z)))
         where
           go : (b : Bool) → some ≡ b → cond b (cond (eqb (q .size) 0) true (ltb MAX (q .address))) true ≡ true
-              → rowM input (over-words X) (functionAt k i first) (row-spans k i first) (callsOf s base (functionRow f64 f32 i .depth)) w ≡ record { state = w; calls = [] }
-          go true x g = row-skipped input (over-words X) (functionAt k i first) (row-spans k i first) w (callsOf s base (functionRow f64 f32 i .depth)) (skip-is ∙ g)
+              → rowM input (over-words X) (functionAt k i first) (row-spans k i first) (callsOf s base (functionInColumns f64 f32 i .depth)) w ≡ record { state = w; calls = [] }
+          go true x g = row-skipped input (over-words X) (functionAt k i first) (row-spans k i first) w (callsOf s base (functionInColumns f64 f32 i .depth)) (skip-is ∙ g)
           go false x g = rw (own′ .none x) (row-empty input (over-words X) (functionAt k i first) (row-spans k i first) w)
 
       module _ (z : flag ≡ false) where
@@ -221,7 +221,7 @@ module _ (f64 f32 l64 l32 t : List ℕ) (base i first : ℕ) where
         visit-ready = (rw (own′ .top-is) ready, own′ .below, both some refl (sym f ∙ z) .1)
 
         pub row-visits : (X : Setup) (w w′ : Words) (s′ : List ℕ) → ((a : ℕ) → RowLeft X k base i first top (ref a current ∷ refsAt s calls count) s s′ w w′)
-            → RowLeft X k base i first (topOf s (functionRow f64 f32 i .depth)) (callsOf s base (functionRow f64 f32 i .depth)) s s′ w w′
+            → RowLeft X k base i first (topOf s (functionInColumns f64 f32 i .depth)) (callsOf s base (functionInColumns f64 f32 i .depth)) s s′ w w′
         row-visits X w w′ s′ g =
             let x = own′ .first (both some refl (sym f ∙ z) .0) in
             rw (← own′ .top-is, x .1) (g (x .0))

@@ -15,7 +15,7 @@ ghost use lib.Dec.{ltb};
 ghost use lib.ListN.{length};
 ghost use Rattle.model.specs.Machine.{advanceM, loopM};
 ghost use Rattle.model.specs.Converter.{Setup, input};
-ghost use Rattle.rows.specs.Columns.{columns, functionRow, functionAt, linesFrom};
+ghost use Rattle.rows.specs.Columns.{columns, functionInColumns, functionAt, linesFrom};
 ghost use Rattle.steps.specs.Words.{words, put-range, over-words};
 ghost use Rattle.scratch.specs.Scratch.{pairsAt, refsAt, turned, turn, Lined};
 ghost use Rattle.writer.specs.Walk.{cursor};
@@ -154,8 +154,8 @@ pub(crate) fn process_lines(
     at: usize,
     spans: usize,
 ) -> Lines
-    requires { ⌜ (at + spans * 2 ≤ length (now s)) × (calls + count * 2 ≤ at) × (first + functionRow (now functions64) (now functions32) i .lines ≤ length (now lines64) / 3) ⌝ }
-    ensures { λ r. ⌜ ((X : Setup) (g : List ℕ) → Lined at spans (loopM input (over-words X) (functionAt (columns (now (functions64 .entry)) (now (functions32 .entry)) (now (lines64 .entry)) (now (lines32 .entry)) (now (text .entry))) i first) «function_idx» (linesFrom (columns (now (functions64 .entry)) (now (functions32 .entry)) (now (lines64 .entry)) (now (lines32 .entry)) (now (text .entry))) first (functionRow (now (functions64 .entry)) (now (functions32 .entry)) i .lines)) current (refsAt (now (s .entry)) calls count) (pairsAt (now (s .entry)) at spans) 0 (words state (now («string_bytes» .entry)) (now (strings .entry)) (now (files .entry)) g (now («call_locations» .entry)) (now (ranges .entry)))) (now (s .entry)) (now (s .exit)) (words (r .state) (now («string_bytes» .exit)) (now (strings .exit)) (now (files .exit)) g (now («call_locations» .exit)) (now (ranges .exit))) (r .calls)) ⌝ }
+    requires { ⌜ (at + spans * 2 ≤ length (now s)) × (calls + count * 2 ≤ at) × (first + functionInColumns (now functions64) (now functions32) i .lines ≤ length (now lines64) / 3) ⌝ }
+    ensures { λ r. ⌜ ((X : Setup) (g : List ℕ) → Lined at spans (loopM input (over-words X) (functionAt (columns (now (functions64 .entry)) (now (functions32 .entry)) (now (lines64 .entry)) (now (lines32 .entry)) (now (text .entry))) i first) «function_idx» (linesFrom (columns (now (functions64 .entry)) (now (functions32 .entry)) (now (lines64 .entry)) (now (lines32 .entry)) (now (text .entry))) first (functionInColumns (now (functions64 .entry)) (now (functions32 .entry)) i .lines)) current (refsAt (now (s .entry)) calls count) (pairsAt (now (s .entry)) at spans) 0 (words state (now («string_bytes» .entry)) (now (strings .entry)) (now (files .entry)) g (now («call_locations» .entry)) (now (ranges .entry)))) (now (s .entry)) (now (s .exit)) (words (r .state) (now («string_bytes» .exit)) (now (strings .exit)) (now (files .exit)) g (now («call_locations» .exit)) (now (ranges .exit))) (r .calls)) ⌝ }
 {
     let q = rows::function_row(functions64, functions32, i);
     let comp_dir = comp_dir_part(text, q.comp_dir);

@@ -24,7 +24,7 @@ ghost use Rattle.model.specs.Rows.{MAX, skipped};
 ghost use Rattle.model.specs.Rows.{FunctionRow as ModelRow};
 ghost use Rattle.model.specs.Machine.{entryM, closingM, convertM, startM};
 ghost use Rattle.model.specs.Converter.{Setup, input, deep};
-ghost use Rattle.rows.specs.Columns.{columns, functionRow, functionAt, textOf, treeRows};
+ghost use Rattle.rows.specs.Columns.{columns, functionInColumns, functionAt, textOf, treeRows};
 ghost use Rattle.rows.specs.Refusals.{firstLine, refusalOf};
 ghost use Rattle.steps.specs.Words.{words, gave, begin-named, over-words};
 ghost use Rattle.scratch.specs.Scratch.{refsAt, callsOf, topOf, kid-spans, LinesWithin};
@@ -292,8 +292,8 @@ fn process_row(
     i: usize,
     first: usize,
 ) -> State
-    requires { ⌜ RowReady (columns (now functions64) (now functions32) (now lines64) (now lines32) (now text)) (length (now s)) base i first (topOf (now s) (functionRow (now functions64) (now functions32) i .depth)) ⌝ }
-    ensures { λ r. ⌜ ((Y : Bool) → RowLeft (switches undecorate Y) (columns (now (functions64 .entry)) (now (functions32 .entry)) (now (lines64 .entry)) (now (lines32 .entry)) (now (text .entry))) base i first (topOf (now (s .entry)) (functionRow (now (functions64 .entry)) (now (functions32 .entry)) i .depth)) (callsOf (now (s .entry)) base (functionRow (now (functions64 .entry)) (now (functions32 .entry)) i .depth)) (now (s .entry)) (now (s .exit)) (words state (now («string_bytes» .entry)) (now (strings .entry)) (now (files .entry)) (now (functions .entry)) (now («call_locations» .entry)) (now (ranges .entry))) (words r (now («string_bytes» .exit)) (now (strings .exit)) (now (files .exit)) (now (functions .exit)) (now («call_locations» .exit)) (now (ranges .exit)))) ⌝ }
+    requires { ⌜ RowReady (columns (now functions64) (now functions32) (now lines64) (now lines32) (now text)) (length (now s)) base i first (topOf (now s) (functionInColumns (now functions64) (now functions32) i .depth)) ⌝ }
+    ensures { λ r. ⌜ ((Y : Bool) → RowLeft (switches undecorate Y) (columns (now (functions64 .entry)) (now (functions32 .entry)) (now (lines64 .entry)) (now (lines32 .entry)) (now (text .entry))) base i first (topOf (now (s .entry)) (functionInColumns (now (functions64 .entry)) (now (functions32 .entry)) i .depth)) (callsOf (now (s .entry)) base (functionInColumns (now (functions64 .entry)) (now (functions32 .entry)) i .depth)) (now (s .entry)) (now (s .exit)) (words state (now («string_bytes» .entry)) (now (strings .entry)) (now (files .entry)) (now (functions .entry)) (now («call_locations» .entry)) (now (ranges .entry))) (words r (now («string_bytes» .exit)) (now (strings .exit)) (now (files .exit)) (now (functions .exit)) (now («call_locations» .exit)) (now (ranges .exit)))) ⌝ }
 {
     let q = rows::function_row(functions64, functions32, i);
     let own = own_calls(s, base, q.depth);

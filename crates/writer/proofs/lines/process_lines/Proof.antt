@@ -9,7 +9,7 @@ use native.Mathlib.Omega.{arith}
 use lib.ListN.{length}
 use borrow.Author.Needs.{needs}
 use Rattle.model.specs.Converter.{Setup, input}
-use Rattle.rows.specs.Columns.{columns, functionRow, functionAt}
+use Rattle.rows.specs.Columns.{columns, functionInColumns, functionAt}
 use Rattle.steps.specs.Words.{words, over-words}
 use Rattle.scratch.specs.Scratch.{turned}
 use Rattle.scratch.proofs.Walks.{Inner, begins, turn-less, turn-more, turn-done}
@@ -62,7 +62,7 @@ add-line-row : tie.Need-add-line-row Inv-loop2 μ-loop2 Inv-loop μ-loop
 add-line-row c =
     let a = c .before .before .before .before .before .before .before .before .before .before .before .before .before .before .before .args in
     let p = c .before .before .before .before .before .before .before .before .before .before .before .before .before .before .before .pre in
-    let h : a .first + functionRow (a .functions64 .now) (a .functions32 .now) (a .i) .lines ≤ length (a .lines64 .now) / 3 = p .2 in
+    let h : a .first + functionInColumns (a .functions64 .now) (a .functions32 .now) (a .i) .lines ≤ length (a .lines64 .now) / 3 = p .2 in
     let l : a .first + c .before .loop .j < length (a .lines64 .now) = lines-low (columns (a .functions64 .now) (a .functions32 .now) (a .lines64 .now) (a .lines32 .now) (a .text .now)) (a .i) (a .first) (c .before .loop .j) (c .before .before .before .function-row .result) (c .before .before .before .function-row .ensures) (c .loop-test .taken) (omega (arith, h)) in
     omega (arith, l, c .before .before .before .before .before .before .before .before .before .before .before .before .before .before .before .good)
 
