@@ -9,7 +9,7 @@ use lib.ListN.{length, getD, take, drop, length-append, length-drop, length-set,
 use Rattle.slices.specs.Slices.{flagOf}
 use lib.Seq.{sets, sets-eq, length-sets, take-at, drop-at, drop-drop, getD-append-add}
 use borrow.Author.Tests.{lt-ltb, le-ltb, eq-eqb, ne-eqb}
-use Rattle.rows.specs.Columns.{Columns, columns, lineWords, lineRow, lineRows, lineStruct}
+use Rattle.rows.specs.Columns.{Columns, columns, lineFields, lineInColumns, lineRows, lineStruct}
 use Rattle.rows.specs.Refusals.{each, lineTexts?, lineLengths?, refusalOf, refusalWith}
 use Rattle.rows.specs.declared.LineRow.{LineRow}
 use Rattle.rows.proofs.Laws.{line-in, refusal-columns}
@@ -148,7 +148,7 @@ module _ (ls : List LineRow) (j : ℕ) (h : j < length ls) where
   flagged : (k : ℕ) (b : Bool) → getD (packed words32 ls) k 0 ≡ flagOf b → not (eqb (getD (packed words32 ls) k 0) 0) ≡ b
   flagged k b e = ap (λ (v : ℕ). not (eqb v 0)) e ∙ flag-back b
 
-  words-back : lineWords (packed words64 ls) (packed words32 ls) j ≡ q
+  words-back : lineFields (packed words64 ls) (packed words32 ls) j ≡ q
   words-back = λ i. record {
     address = first64 i;
     «has_size» = flagged (j * 14) (q .«has_size») first32 i;
@@ -162,7 +162,7 @@ module _ (ls : List LineRow) (j : ℕ) (h : j < length ls) where
   }
 
   -- row j of the columns is row j of the list
-  pub line-back : lineRow (packed words64 ls) (packed words32 ls) j ≡ q
+  pub line-back : lineInColumns (packed words64 ls) (packed words32 ls) j ≡ q
   line-back =
       let a = length64 ls in
       let b = length32 ls in
@@ -193,11 +193,11 @@ module _ (f64 f32 : List ℕ) (ls : List LineRow) (t : List ℕ) where
   count : length (packed words64 ls) / 3 ≡ length ls
   count = let a = length64 ls in omega (arith, a)
 
-  texts-same : each (λ (j : ℕ). lineTexts? t (lineRow (packed words64 ls) (packed words32 ls) j)) (length ls) ≡ linesTexts? t ls
-  texts-same = each-same (λ (j : ℕ). lineTexts? t (lineRow (packed words64 ls) (packed words32 ls) j)) (λ (j : ℕ). lineTexts? t (getD ls j noLine)) (length ls) (λ j h. ap (lineTexts? t) (line-back ls j h))
+  texts-same : each (λ (j : ℕ). lineTexts? t (lineInColumns (packed words64 ls) (packed words32 ls) j)) (length ls) ≡ linesTexts? t ls
+  texts-same = each-same (λ (j : ℕ). lineTexts? t (lineInColumns (packed words64 ls) (packed words32 ls) j)) (λ (j : ℕ). lineTexts? t (getD ls j noLine)) (length ls) (λ j h. ap (lineTexts? t) (line-back ls j h))
 
   pub refusal-lines : (s : ℕ) → refusalWith f64 f32 (length ls) (linesTexts? t ls) t s ≡ refusalOf k s
   refusal-lines s =
-      sym (ap (λ (n : ℕ). refusalWith f64 f32 n (each (λ (j : ℕ). lineTexts? t (lineRow (packed words64 ls) (packed words32 ls) j)) n) t s) count
+      sym (ap (λ (n : ℕ). refusalWith f64 f32 n (each (λ (j : ℕ). lineTexts? t (lineInColumns (packed words64 ls) (packed words32 ls) j)) n) t s) count
       ∙ ap (λ (b : Bool). refusalWith f64 f32 (length ls) b t s) texts-same)
       ∙ refusal-columns k s whole-rows

@@ -5,7 +5,7 @@ use Prim.Native.Nat.{ℕ}
 use lib.ListN.{set}
 use Rattle.text.specs.Utf8.{utf8, chars, charLen, UTF8-char, fits, within}
 use Rattle.model.proofs.Worked.{root-row, inlinee-row}
-use Rattle.rows.specs.Columns.{Columns, functionRow, lineRow, partOf, lineAt, linesFrom, functionAt, rowsFrom, treeRows}
+use Rattle.rows.specs.Columns.{Columns, functionInColumns, lineInColumns, partOf, lineAt, linesFrom, functionAt, rowsFrom, treeRows}
 use Rattle.rows.specs.Refusals.{each, total, lengths?, count?, depth?, shaped?, inside?, readable?, optional?, functionTexts?, lineTexts?, texts?, end?, ends?, room?, refusalOf}
 
 -- trk, /b, a.rs, src, pos, p.rs
@@ -58,7 +58,7 @@ pub record Examples : Type 0 where
   pub end-wraps : refusalOf (with (set f64 2 0xffff_ffff_ffff_fffc) f32 l32) 20 ≡ 15
 
 pub examples : Examples
-unfolding functionRow lineRow partOf lineAt linesFrom functionAt rowsFrom each total lengths? count? depth? shaped? inside? readable? optional? functionTexts? lineTexts? texts? end? ends? room? refusalOf utf8 chars charLen UTF8-char fits within
+unfolding functionInColumns lineInColumns partOf lineAt linesFrom functionAt rowsFrom each total lengths? count? depth? shaped? inside? readable? optional? functionTexts? lineTexts? texts? end? ends? room? refusalOf utf8 chars charLen UTF8-char fits within
 examples = record {
   rows = refl;
   taken = refl;

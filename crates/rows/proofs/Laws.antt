@@ -1,7 +1,7 @@
 -- What the definitions compute to under the tests that the code makes: a row by value, a part of the text, a line's addresses, a loop over rows.
 use Prim.Native.Nat.{ℕ, zero, suc, _+_, _-_, _*_, _/_, _%_, _≤_, _<_, min}
 use mathlib.Core.Path.{_≡_, refl, sym, _∙_, ap}
-use mathlib.Core.Bool.{Bool, true, false, cond, _&&_, true≢false}
+use mathlib.Core.Bool.{Bool, true, false, cond, not, _&&_, true≢false}
 use mathlib.Core.Logic.{⊎-elim}
 use mathlib.Core.List.{List, []}
 use native.Mathlib.Omega.{arith}
@@ -14,33 +14,33 @@ use Rattle.model.specs.Rows.{MAX}
 use Rattle.model.proofs.Chains.{both-true}
 use Rattle.rows.specs.declared.FunctionRow.{FunctionRow}
 use Rattle.rows.specs.declared.OptionalPart.{OptionalPart}
-use Rattle.rows.specs.Columns.{Columns, functionRows, lineRows, functionStruct, lineStruct, functionWords, functionRow, lineWords, lineRow, boundariesOf, partOf}
+use Rattle.rows.specs.Columns.{Columns, functionRows, lineRows, functionStruct, lineStruct, functionFields, functionInColumns, lineFields, lineInColumns, boundariesOf, partOf}
 use Rattle.rows.specs.Refusals.{each, total, lengths?, count?, depth?, shaped?, readable?, optional?, functionTexts?, lineTexts?, texts?, end?, ends?, room?, refusalOf, functionLengths?, lineLengths?, shapedWith?, refusalWith}
 
 module _ (f64 f32 : List ℕ) (i : ℕ) where
-  pub function-in : i < length f64 / 2 → i < length f32 / 8 → functionWords f64 f32 i ≡ functionRow f64 f32 i
-  unfolding functionRow
+  pub function-in : i < length f64 / 2 → i < length f32 / 8 → functionFields f64 f32 i ≡ functionInColumns f64 f32 i
+  unfolding functionInColumns
   function-in g h = rw (lt-ltb _ _ g, lt-ltb _ _ h)
 
-  pub function-out64 : length f64 / 2 ≤ i → functionWords [] [] 0 ≡ functionRow f64 f32 i
-  unfolding functionRow
+  pub function-out64 : length f64 / 2 ≤ i → functionFields [] [] 0 ≡ functionInColumns f64 f32 i
+  unfolding functionInColumns
   function-out64 h = rw (le-ltb _ _ h)
 
-  pub function-out32 : i < length f64 / 2 → length f32 / 8 ≤ i → functionWords [] [] 0 ≡ functionRow f64 f32 i
-  unfolding functionRow
+  pub function-out32 : i < length f64 / 2 → length f32 / 8 ≤ i → functionFields [] [] 0 ≡ functionInColumns f64 f32 i
+  unfolding functionInColumns
   function-out32 g h = rw (lt-ltb _ _ g, le-ltb _ _ h)
 
 module _ (l64 l32 : List ℕ) (j : ℕ) where
-  pub line-in : j < length l64 / 3 → j < length l32 / 14 → lineWords l64 l32 j ≡ lineRow l64 l32 j
-  unfolding lineRow
+  pub line-in : j < length l64 / 3 → j < length l32 / 14 → lineFields l64 l32 j ≡ lineInColumns l64 l32 j
+  unfolding lineInColumns
   line-in g h = rw (lt-ltb _ _ g, lt-ltb _ _ h)
 
-  pub line-out64 : length l64 / 3 ≤ j → lineWords [] [] 0 ≡ lineRow l64 l32 j
-  unfolding lineRow
+  pub line-out64 : length l64 / 3 ≤ j → lineFields [] [] 0 ≡ lineInColumns l64 l32 j
+  unfolding lineInColumns
   line-out64 h = rw (le-ltb _ _ h)
 
-  pub line-out32 : j < length l64 / 3 → length l32 / 14 ≤ j → lineWords [] [] 0 ≡ lineRow l64 l32 j
-  unfolding lineRow
+  pub line-out32 : j < length l64 / 3 → length l32 / 14 ≤ j → lineFields [] [] 0 ≡ lineInColumns l64 l32 j
+  unfolding lineInColumns
   line-out32 g h = rw (lt-ltb _ _ g, le-ltb _ _ h)
 
 module _ (t : List ℕ) (start len : ℕ) where
@@ -120,6 +120,15 @@ module _ (x y : Bool) where
   pub and-then : (r : Bool) → x ≡ true → r ≡ y → r ≡ x && y
   and-then r e f = rw e f
 
+-- a test that did not hold, and one that did, as `if !test { return .. }` leaves them
+pub failed : {b x : Bool} → b ≡ x → not b ≡ true → x ≡ false
+failed {b = true} e h = absurd (true≢false (sym h))
+failed {b = false} e h = sym e
+
+pub passed : {b x : Bool} → b ≡ x → not b ≡ false → x ≡ true
+passed {b = true} e h = sym e
+passed {b = false} e h = absurd (true≢false h)
+
 pub and-true : (x : Bool) → x && true ≡ x
 and-true true = refl
 and-true false = refl
@@ -191,13 +200,13 @@ module _ (t : List ℕ) (o : OptionalPart) where
 -- ── 13 to 16 ──
 
 module _ (n : ℕ) where
-  pub count-yes : 0 < n → n ≤ 65536 → count? n ≡ true
+  pub count-yes : (n ≡ 0 → ⊥) → n ≤ 65536 → count? n ≡ true
   unfolding count?
-  count-yes g h = rw (lt-ltb 0 n g, le-leb n 65536 h)
+  count-yes g h = rw (lt-ltb 0 n (omega (arith, g)), le-leb n 65536 h)
 
-  pub count-none : n ≤ 0 → count? n ≡ false
+  pub count-none : n ≡ 0 → count? n ≡ false
   unfolding count?
-  count-none g = rw (le-ltb 0 n g)
+  count-none g = rw (le-ltb 0 n (omega arith))
 
   pub count-many : 65536 < n → count? n ≡ false
   unfolding count?
@@ -210,21 +219,21 @@ module _ (f64 f32 : List ℕ) (n : ℕ) (b : Bool) (t : List ℕ) (s : ℕ) wher
   with-13 e = rw e
 
   module _ (shape : shapedWith? f64 f32 n ≡ true) where
-    pub with-14-functions : each (λ (i : ℕ). functionTexts? t (functionRow f64 f32 i)) (length f64 / 2) ≡ false → 14 ≡ refusalWith f64 f32 n b t s
+    pub with-14-functions : each (λ (i : ℕ). functionTexts? t (functionInColumns f64 f32 i)) (length f64 / 2) ≡ false → 14 ≡ refusalWith f64 f32 n b t s
     unfolding refusalWith
     with-14-functions e = rw (shape, e)
 
-    module _ (names : each (λ (i : ℕ). functionTexts? t (functionRow f64 f32 i)) (length f64 / 2) ≡ true) where
+    module _ (names : each (λ (i : ℕ). functionTexts? t (functionInColumns f64 f32 i)) (length f64 / 2) ≡ true) where
       pub with-14-lines : b ≡ false → 14 ≡ refusalWith f64 f32 n b t s
       unfolding refusalWith
       with-14-lines e = rw (shape, names, e)
 
       module _ (files : b ≡ true) where
-        pub with-15 : each (λ (i : ℕ). end? (functionRow f64 f32 i)) (length f64 / 2) ≡ false → 15 ≡ refusalWith f64 f32 n b t s
+        pub with-15 : each (λ (i : ℕ). end? (functionInColumns f64 f32 i)) (length f64 / 2) ≡ false → 15 ≡ refusalWith f64 f32 n b t s
         unfolding refusalWith
         with-15 e = rw (shape, names, files, e)
 
-        module _ (low : each (λ (i : ℕ). end? (functionRow f64 f32 i)) (length f64 / 2) ≡ true) where
+        module _ (low : each (λ (i : ℕ). end? (functionInColumns f64 f32 i)) (length f64 / 2) ≡ true) where
           pub with-16 : s / 4 < length f64 / 2 + n → 16 ≡ refusalWith f64 f32 n b t s
           unfolding refusalWith
           with-16 h = rw (shape, names, files, low, lt-leb (4 * (length f64 / 2 + n)) s (omega arith))

@@ -1,5 +1,6 @@
 -- The columns that a tree call is given, after document 01's "Forms that Rattle cannot carry": "a tree arrives as function rows in preorder, each with depth
--- and its count of line rows. First over plain number slices"; "Texts are parts of one lent text". What a row's words are, and which rows of the model they stand for.
+-- and its count of line rows. First over plain number slices"; "Texts are parts of one lent text". What a row's words are, and which rows of the model
+-- they stand for.
 use mathlib.Core.Bool.{Bool, cond, not, _&&_}
 use mathlib.Core.Option.{Option, none, some}
 use mathlib.Core.List.{List, [], _∷_}
@@ -17,7 +18,8 @@ pub record Columns : Type 0 where
   pub functions64 : List ℕ  -- 2 a row: address, size
   pub functions32 : List ℕ  -- 8 a row: depth, inline flag, language, name (start, length), compilation directory (start, length), count of line rows
   pub lines64 : List ℕ  -- 3 a row: address, size, line number
-  pub lines32 : List ℕ  -- 14 a row: has-size flag, name, directory (start, length), then three times (present flag, start, length): srcsrv name, srcsrv directory, revision
+  -- 14 a row: has-size flag, name, directory (start, length), then three times (present flag, start, length): srcsrv name, srcsrv directory, revision
+  pub lines32 : List ℕ
   pub text : List ℕ
 
 abbrev pub columns : List ℕ → List ℕ → List ℕ → List ℕ → List ℕ → Columns
@@ -36,8 +38,8 @@ abbrev pub flagAt : List ℕ → ℕ → Bool
 flagAt t at = not (eqb (getD t at 0) 0)
 
 -- the words of function row i, as they stand in the columns
-abbrev pub functionWords : List ℕ → List ℕ → ℕ → FunctionStruct
-functionWords f64 f32 i = record {
+abbrev pub functionFields : List ℕ → List ℕ → ℕ → FunctionStruct
+functionFields f64 f32 i = record {
   depth = getD f32 (i * 8) 0;
   address = getD f64 (i * 2) 0;
   size = getD f64 (i * 2 + 1) 0;
@@ -49,8 +51,8 @@ functionWords f64 f32 i = record {
 }
 
 -- the words of line row j
-abbrev pub lineWords : List ℕ → List ℕ → ℕ → LineStruct
-lineWords l64 l32 j = record {
+abbrev pub lineFields : List ℕ → List ℕ → ℕ → LineStruct
+lineFields l64 l32 j = record {
   address = getD l64 (j * 3) 0;
   «has_size» = flagAt l32 (j * 14);
   size = getD l64 (j * 3 + 1) 0;
@@ -63,17 +65,17 @@ lineWords l64 l32 j = record {
 }
 
 -- row i where both columns have it whole, and else zeros (the words of columns that are empty)
-unfoldable pub functionRow : List ℕ → List ℕ → ℕ → FunctionStruct
-functionRow f64 f32 i = cond (ltb i (length f64 / 2) && ltb i (length f32 / 8)) (functionWords f64 f32 i) (functionWords [] [] 0)
+unfoldable pub functionInColumns : List ℕ → List ℕ → ℕ → FunctionStruct
+functionInColumns f64 f32 i = cond (ltb i (length f64 / 2) && ltb i (length f32 / 8)) (functionFields f64 f32 i) (functionFields [] [] 0)
 
-unfoldable pub lineRow : List ℕ → List ℕ → ℕ → LineStruct
-lineRow l64 l32 j = cond (ltb j (length l64 / 3) && ltb j (length l32 / 14)) (lineWords l64 l32 j) (lineWords [] [] 0)
+unfoldable pub lineInColumns : List ℕ → List ℕ → ℕ → LineStruct
+lineInColumns l64 l32 j = cond (ltb j (length l64 / 3) && ltb j (length l32 / 14)) (lineFields l64 l32 j) (lineFields [] [] 0)
 
 abbrev pub functionStruct : Columns → ℕ → FunctionStruct
-functionStruct k i = functionRow (k .functions64) (k .functions32) i
+functionStruct k i = functionInColumns (k .functions64) (k .functions32) i
 
 abbrev pub lineStruct : Columns → ℕ → LineStruct
-lineStruct k j = lineRow (k .lines64) (k .lines32) j
+lineStruct k j = lineInColumns (k .lines64) (k .lines32) j
 
 -- `line_boundaries`: "start clamps to MAX; absent size counts as 1; end saturates at MAX"
 unfoldable pub boundariesOf : ℕ → Bool → ℕ → Boundaries

@@ -1,11 +1,12 @@
--- The numbers 13 to 16: "one definition over the rows, callable by itself". "A number is given when its condition holds and no earlier one's does, and only then."
+-- The numbers 13 to 16, in include/symcache.h INVALID_ROWS, INVALID_TEXT, ADDRESS_OVERFLOW and SCRATCH_TOO_SMALL: "one definition over the rows, callable
+-- by itself". "A number is given when its condition holds and no earlier one's does, and only then."
 use mathlib.Core.Bool.{Bool, true, cond, _&&_}
 use mathlib.Core.List.{List}
 use Prim.Native.Nat.{ℕ, zero, suc, _+_, _*_, _/_, _%_}
 use lib.ListN.{length}
 use lib.Dec.{ltb, leb, eqb}
 use Rattle.text.specs.Utf8.{utf8}
-use Rattle.rows.specs.Columns.{Columns, functionRow, functionRows, lineRows, functionStruct, lineStruct, textOf}
+use Rattle.rows.specs.Columns.{Columns, functionInColumns, functionRows, lineRows, functionStruct, lineStruct, textOf}
 use Rattle.rows.specs.declared.TextPart.{TextPart}
 use Rattle.rows.specs.declared.OptionalPart.{OptionalPart}
 use Rattle.rows.specs.declared.FunctionRow.{FunctionRow}
@@ -109,12 +110,13 @@ unfoldable pub shapedWith? : List ℕ → List ℕ → ℕ → Bool
 shapedWith? f64 f32 n =
     functionLengths? f64 f32
     && (count? (length f64 / 2)
-    && (each (depth? (λ (i : ℕ). functionRow f64 f32 i .depth)) (length f64 / 2) && eqb (total (λ (i : ℕ). functionRow f64 f32 i .lines) (length f64 / 2)) n))
+    && (each (depth? (λ (i : ℕ). functionInColumns f64 f32 i .depth)) (length f64 / 2)
+    && eqb (total (λ (i : ℕ). functionInColumns f64 f32 i .lines) (length f64 / 2)) n))
 
 unfoldable pub refusalWith : List ℕ → List ℕ → ℕ → Bool → List ℕ → ℕ → ℕ
 refusalWith f64 f32 n b t s =
     cond (shapedWith? f64 f32 n)
-    (cond (each (λ (i : ℕ). functionTexts? t (functionRow f64 f32 i)) (length f64 / 2) && b)
-    (cond (each (λ (i : ℕ). end? (functionRow f64 f32 i)) (length f64 / 2)) (cond (leb (4 * (length f64 / 2 + n)) s) 0 16) 15)
+    (cond (each (λ (i : ℕ). functionTexts? t (functionInColumns f64 f32 i)) (length f64 / 2) && b)
+    (cond (each (λ (i : ℕ). end? (functionInColumns f64 f32 i)) (length f64 / 2)) (cond (leb (4 * (length f64 / 2 + n)) s) 0 16) 15)
     14)
     13

@@ -2,7 +2,7 @@
 ghost use mathlib.Core.Path.{_≡_};
 ghost use mathlib.Core.List.{List};
 ghost use Prim.Native.Nat.{ℕ, _≤_};
-ghost use Rattle.rows.specs.Columns.{columns, functionRow, lineRow, partOf, boundariesOf};
+ghost use Rattle.rows.specs.Columns.{columns, functionInColumns, lineInColumns, partOf, boundariesOf};
 ghost use Rattle.rows.specs.Refusals.{
   each,
   total,
@@ -20,6 +20,16 @@ ghost use Rattle.rows.specs.Refusals.{
   refusalOf,
 };
 use text::utf8::is_utf8;
+
+// What a tree call refuses its rows with, named as in include/symcache.h.
+
+pub const SYMCACHE_INVALID_ROWS: u32 = 13;
+
+pub const SYMCACHE_INVALID_TEXT: u32 = 14;
+
+pub const SYMCACHE_ADDRESS_OVERFLOW: u32 = 15;
+
+pub const SYMCACHE_SCRATCH_TOO_SMALL: u32 = 16;
 
 // A part of the lent text.
 #[repr(C)]
@@ -67,7 +77,7 @@ pub struct Boundaries {
 
 // Function row i; zeros where there is none.
 pub fn function_row(functions64: &[u64], functions32: &[u32], i: usize) -> FunctionRow
-    ensures { λ r. ⌜ r ≡ functionRow (now (functions64 .entry)) (now (functions32 .entry)) i ⌝ }
+    ensures { λ r. ⌜ r ≡ functionInColumns (now (functions64 .entry)) (now (functions32 .entry)) i ⌝ }
 {
     if i < functions64.len() / 2 {
         if i < functions32.len() / 8 {
@@ -105,7 +115,7 @@ pub fn function_row(functions64: &[u64], functions32: &[u32], i: usize) -> Funct
 
 // Line row j; zeros where there is none.
 pub fn line_row(lines64: &[u64], lines32: &[u32], j: usize) -> LineRow
-    ensures { λ r. ⌜ r ≡ lineRow (now (lines64 .entry)) (now (lines32 .entry)) j ⌝ }
+    ensures { λ r. ⌜ r ≡ lineInColumns (now (lines64 .entry)) (now (lines32 .entry)) j ⌝ }
 {
     if j < lines64.len() / 3 {
         if j < lines32.len() / 14 {
@@ -186,23 +196,25 @@ pub fn part<'a>(text: &'a [u8], p: TextPart) -> &'a [u8]
 pub fn line_boundaries(address: u64, has_size: bool, size: u64) -> Boundaries
     ensures { λ r. ⌜ r ≡ boundariesOf address «has_size» size ⌝ }
 {
-    let max: u64 = 4294967295;
+    let max = u32::MAX as u64;
     if max <= address {
-        let start: u32 = 4294967295;
+        let start = u32::MAX;
         return Boundaries { start, end: start };
     }
     let start = address as u32;
-    if has_size {
-        if max - address < size {
-            return Boundaries {
-                start,
-                end: 4294967295,
-            };
-        }
-        let end = start + size as u32;
-        return Boundaries { start, end };
+    if !has_size {
+        return Boundaries {
+            start,
+            end: start + 1,
+        };
     }
-    let end = start + 1;
+    if max - address < size {
+        return Boundaries {
+            start,
+            end: u32::MAX,
+        };
+    }
+    let end = start + size as u32;
     Boundaries { start, end }
 }
 
@@ -233,7 +245,8 @@ fn line_lengths(lines64: &[u64], lines32: &[u32]) -> bool
 // 13: the first depth is 0, and each later one is above 0 and at most its predecessor's plus 1.
 fn depths(functions64: &[u64], functions32: &[u32], n: usize) -> bool
     requires { ⌜ 1 ≤ n ⌝ }
-    ensures { λ r. ⌜ r ≡ each (depth? (λ (i : ℕ). functionRow (now (functions64 .entry)) (now (functions32 .entry)) i .depth)) n ⌝ }
+    ensures { λ r. let row = functionInColumns (now (functions64 .entry)) (now (functions32 .entry)) in
+        ⌜ r ≡ each (depth? (λ (i : ℕ). row i .depth)) n ⌝ }
 {
     if function_row(functions64, functions32, 0).depth != 0 {
         return false;
@@ -257,7 +270,8 @@ fn depths(functions64: &[u64], functions32: &[u32], n: usize) -> bool
 // 13: the line counts of the first n rows together.
 fn line_count(functions64: &[u64], functions32: &[u32], n: usize) -> usize
     requires { ⌜ n ≤ 65536 ⌝ }
-    ensures { λ r. ⌜ r ≡ total (λ (i : ℕ). functionRow (now (functions64 .entry)) (now (functions32 .entry)) i .lines) n ⌝ }
+    ensures { λ r. let row = functionInColumns (now (functions64 .entry)) (now (functions32 .entry)) in
+        ⌜ r ≡ total (λ (i : ℕ). row i .lines) n ⌝ }
 {
     let mut sum: usize = 0;
     let mut row = 0;
@@ -273,16 +287,19 @@ fn shaped(functions64: &[u64], functions32: &[u32], lines: usize) -> bool
     ensures { λ r. ⌜ r ≡ shapedWith? (now (functions64 .entry)) (now (functions32 .entry)) lines ⌝ }
 {
     let n = functions64.len() / 2;
-    if function_lengths(functions64, functions32) {
-        if 0 < n {
-            if n <= 65536 {
-                if depths(functions64, functions32, n) {
-                    return line_count(functions64, functions32, n) == lines;
-                }
-            }
-        }
+    if !function_lengths(functions64, functions32) {
+        return false;
     }
-    false
+    if n == 0 {
+        return false;
+    }
+    if 65536 < n {
+        return false;
+    }
+    if !depths(functions64, functions32, n) {
+        return false;
+    }
+    line_count(functions64, functions32, n) == lines
 }
 
 // 14: the part lies inside the text.
@@ -326,21 +343,25 @@ fn function_texts(text: &[u8], q: FunctionRow) -> bool
 pub fn line_texts(text: &[u8], l: LineRow) -> bool
     ensures { λ r. ⌜ r ≡ lineTexts? (now (text .entry)) l ⌝ }
 {
-    if readable(text, l.name) {
-        if readable(text, l.directory) {
-            if optional(text, l.srcsrv_name) {
-                if optional(text, l.srcsrv_dir) {
-                    return optional(text, l.revision);
-                }
-            }
-        }
+    if !readable(text, l.name) {
+        return false;
     }
-    false
+    if !readable(text, l.directory) {
+        return false;
+    }
+    if !optional(text, l.srcsrv_name) {
+        return false;
+    }
+    if !optional(text, l.srcsrv_dir) {
+        return false;
+    }
+    optional(text, l.revision)
 }
 
 // 14: the texts of the first n function rows, also of those that will be skipped.
 fn functions_texts(functions64: &[u64], functions32: &[u32], text: &[u8], n: usize) -> bool
-    ensures { λ r. ⌜ r ≡ each (λ (i : ℕ). functionTexts? (now (text .entry)) (functionRow (now (functions64 .entry)) (now (functions32 .entry)) i)) n ⌝ }
+    ensures { λ r. let row = functionInColumns (now (functions64 .entry)) (now (functions32 .entry)) in
+        ⌜ r ≡ each (λ (i : ℕ). functionTexts? (now (text .entry)) (row i)) n ⌝ }
 {
     let mut i = 0;
     while i < n {
@@ -355,7 +376,8 @@ fn functions_texts(functions64: &[u64], functions32: &[u32], text: &[u8], n: usi
 
 // 14: the texts of the first n line rows.
 fn lines_texts(lines64: &[u64], lines32: &[u32], text: &[u8], n: usize) -> bool
-    ensures { λ r. ⌜ r ≡ each (λ (j : ℕ). lineTexts? (now (text .entry)) (lineRow (now (lines64 .entry)) (now (lines32 .entry)) j)) n ⌝ }
+    ensures { λ r. let row = lineInColumns (now (lines64 .entry)) (now (lines32 .entry)) in
+        ⌜ r ≡ each (λ (j : ℕ). lineTexts? (now (text .entry)) (row j)) n ⌝ }
 {
     let mut j = 0;
     while j < n {
@@ -370,12 +392,13 @@ fn lines_texts(lines64: &[u64], lines32: &[u32], text: &[u8], n: usize) -> bool
 
 // 15: address plus size stays below 2^64 in the first n function rows.
 fn ends(functions64: &[u64], functions32: &[u32], n: usize) -> bool
-    ensures { λ r. ⌜ r ≡ each (λ (i : ℕ). end? (functionRow (now (functions64 .entry)) (now (functions32 .entry)) i)) n ⌝ }
+    ensures { λ r. let row = functionInColumns (now (functions64 .entry)) (now (functions32 .entry)) in
+        ⌜ r ≡ each (λ (i : ℕ). end? (row i)) n ⌝ }
 {
     let mut i = 0;
     while i < n {
         let q = function_row(functions64, functions32, i);
-        if 18446744073709551615 - q.address < q.size {
+        if u64::MAX - q.address < q.size {
             return false;
         }
         i += 1;
@@ -383,7 +406,8 @@ fn ends(functions64: &[u64], functions32: &[u32], n: usize) -> bool
     true
 }
 
-// The number that a tree call refuses its rows with, where of its line rows their count is given and whether their texts are in order: 13, 14, 15 or 16, in that order; 0 where it takes them.
+// The number that a tree call refuses its rows with, where of its line rows their count is given and whether their texts are in order: 13, 14, 15 or 16,
+// in that order; 0 where it takes them.
 pub fn refusal_with(
     functions64: &[u64],
     functions32: &[u32],
@@ -392,27 +416,31 @@ pub fn refusal_with(
     text: &[u8],
     scratch: usize,
 ) -> u32
-    ensures { λ r. ⌜ r ≡ refusalWith (now (functions64 .entry)) (now (functions32 .entry)) lines «line_texts» (now (text .entry)) scratch ⌝ }
+    ensures { λ r. let f64 = now (functions64 .entry) in
+        let f32 = now (functions32 .entry) in
+        ⌜ r ≡ refusalWith f64 f32 lines «line_texts» (now (text .entry)) scratch ⌝ }
 {
     let n = functions64.len() / 2;
-    if shaped(functions64, functions32, lines) {
-        if functions_texts(functions64, functions32, text, n) {
-            if line_texts {
-                if ends(functions64, functions32, n) {
-                    let rows = scratch / 4;
-                    if n <= rows {
-                        if lines <= rows - n {
-                            return 0;
-                        }
-                    }
-                    return 16;
-                }
-                return 15;
-            }
-        }
-        return 14;
+    if !shaped(functions64, functions32, lines) {
+        return SYMCACHE_INVALID_ROWS;
     }
-    13
+    if !functions_texts(functions64, functions32, text, n) {
+        return SYMCACHE_INVALID_TEXT;
+    }
+    if !line_texts {
+        return SYMCACHE_INVALID_TEXT;
+    }
+    if !ends(functions64, functions32, n) {
+        return SYMCACHE_ADDRESS_OVERFLOW;
+    }
+    let rows = scratch / 4;
+    if rows < n {
+        return SYMCACHE_SCRATCH_TOO_SMALL;
+    }
+    if rows - n < lines {
+        return SYMCACHE_SCRATCH_TOO_SMALL;
+    }
+    0
 }
 
 // The same of rows in columns.
@@ -424,12 +452,16 @@ pub fn refusal(
     text: &[u8],
     scratch: usize,
 ) -> u32
-    ensures { λ r. ⌜ r ≡ refusalOf (columns (now (functions64 .entry)) (now (functions32 .entry)) (now (lines64 .entry)) (now (lines32 .entry)) (now (text .entry))) scratch ⌝ }
+    ensures { λ r. let f64 = now (functions64 .entry) in
+        let f32 = now (functions32 .entry) in
+        let l64 = now (lines64 .entry) in
+        let l32 = now (lines32 .entry) in
+        ⌜ r ≡ refusalOf (columns f64 f32 l64 l32 (now (text .entry))) scratch ⌝ }
 {
-    if line_lengths(lines64, lines32) {
-        let lines = lines64.len() / 3;
-        let texts = lines_texts(lines64, lines32, text, lines);
-        return refusal_with(functions64, functions32, lines, texts, text, scratch);
+    if !line_lengths(lines64, lines32) {
+        return SYMCACHE_INVALID_ROWS;
     }
-    13
+    let lines = lines64.len() / 3;
+    let texts = lines_texts(lines64, lines32, text, lines);
+    refusal_with(functions64, functions32, lines, texts, text, scratch)
 }

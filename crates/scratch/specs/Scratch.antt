@@ -9,7 +9,7 @@ use Rattle.model.specs.Basics.{Span}
 use Rattle.model.specs.Rows.{MAX, boundaries}
 use Rattle.model.specs.Machine.{Ref, LoopedM, kid-spansM}
 use Rattle.model.specs.Converter.{input, deep}
-use Rattle.rows.specs.Columns.{Columns, functionRows, functionRow, linesFrom, rowsFrom}
+use Rattle.rows.specs.Columns.{Columns, functionRows, functionInColumns, linesFrom, rowsFrom}
 use Rattle.rows.specs.Refusals.{total}
 
 -- ── Pairs ──────────────────────────────────────────────────────────────────────────────────────────────────────────────
@@ -70,7 +70,8 @@ kid-spans k d i j = kid-spansM input d (map deep (rowsFrom k i (functionRows k -
 
 -- the line rows of each function row lie within the line rows (13 leaves no other rows)
 abbrev pub LinesWithin : List ℕ → List ℕ → List ℕ → Type 0
-LinesWithin f64 f32 l64 = (r : ℕ) → r < length f64 / 2 → total (λ (i : ℕ). functionRow f64 f32 i .lines) r + functionRow f64 f32 r .lines ≤ length l64 / 3
+LinesWithin f64 f32 l64 =
+    (r : ℕ) → r < length f64 / 2 → total (λ (i : ℕ). functionInColumns f64 f32 i .lines) r + functionInColumns f64 f32 r .lines ≤ length l64 / 3
 
 -- what a row at depth d leaves, where the call locations up to its own depth end at pair `top`: the state, the call locations of
 -- the next depth from there on, and no other word changed below

@@ -4,7 +4,7 @@ use mathlib.Core.Path.{_≡_, sym, ap, _∙_}
 use mathlib.Core.Bool.{true}
 use native.Mathlib.Omega.{arith}
 use borrow.Author.Needs.{needs}
-use Rattle.rows.specs.Columns.{functionRow}
+use Rattle.rows.specs.Columns.{functionInColumns}
 use Rattle.rows.specs.declared.FunctionRow.{FunctionRow}
 use Rattle.rows.specs.Refusals.{each, depth?}
 use Rattle.rows.proofs.Laws.{each-end, depths-first, depths-not-first, depths-zero, depths-high, depths-more, depths-most}
@@ -15,13 +15,10 @@ abbrev depth-of : FunctionRow → ℕ
 depth-of q = q .depth
 
 abbrev Inv-loop : tie.InvT-loop
-Inv-loop functions64 functions32 n most₀ i₀ most i = (1 ≤ i) × (i ≤ n) × (each (depth? (λ (r : ℕ). functionRow functions64 functions32 r .depth)) i ≡ true) × (most ≡ functionRow functions64 functions32 (i - 1) .depth + 1)
+Inv-loop functions64 functions32 n most₀ i₀ most i = (1 ≤ i) × (i ≤ n) × (each (depth? (λ (r : ℕ). functionInColumns functions64 functions32 r .depth)) i ≡ true) × (most ≡ functionInColumns functions64 functions32 (i - 1) .depth + 1)
 
 abbrev μ-loop : tie.MeasureT-loop
 μ-loop functions64 functions32 n most₀ i₀ most i = n - i
-
-function-row-requires : tie.Need-function-row-requires Inv-loop μ-loop
-function-row-requires c κs = search needs
 
 returns : tie.Need-returns Inv-loop μ-loop
 returns c =
@@ -32,12 +29,6 @@ loop-holds c =
     let e = sym (ap depth-of (c .before .before .function-row .ensures)) ∙ c .if1 .left in
     (omega arith, search needs, depths-first _ e, sym (ap (λ (m : ℕ). m + 1) e))
 
-function-row-requires-2 : tie.Need-function-row-requires-2 Inv-loop μ-loop
-function-row-requires-2 c κs = search needs
-
-cast-depth : tie.Need-cast-depth Inv-loop μ-loop
-cast-depth c = search needs
-
 returns-2 : tie.Need-returns-2 Inv-loop μ-loop
 returns-2 c =
     depths-zero _ _ _ (c .before .before .before .before .loop .inv .0) (c .before .before .before .loop-test .taken) (sym (ap depth-of (c .before .before .function-row2 .ensures)) ∙ c .if2 .taken)
@@ -47,24 +38,18 @@ returns-3 c =
     let e = ap depth-of (c .before .before .before .function-row2 .ensures) in
     depths-high _ _ _ _ (c .before .before .before .before .before .loop .inv .0) (c .before .before .before .before .loop-test .taken) (c .before .before .before .before .before .loop .inv .3) (rw e at (c .if3 .taken))
 
-add-most : tie.Need-add-most Inv-loop μ-loop
-add-most c = search needs
-
-add-i : tie.Need-add-i Inv-loop μ-loop
-add-i c = omega arith
-
-loop-less : tie.Need-loop-less Inv-loop μ-loop
-loop-less c = omega arith
+abbrev turn : tie.Else3 Inv-loop μ-loop → tie.At-loop Inv-loop μ-loop
+turn c = c .before .before .before .before .before
 
 loop-again : tie.Need-loop-again Inv-loop μ-loop
 loop-again c =
-    let a = c .before .before .before .before .before .before .before .before .before .before .before .args in
-    let l = c .before .before .before .before .before .loop in
+    let a = turn c .before .before .before .before .before .before .args in
+    let l = turn c .loop in
     let e = ap depth-of (c .before .before .before .function-row2 .ensures) in (
       omega arith,
       omega arith,
       depths-more _ _ _ (l .inv .0) (l .inv .2) (l .inv .3) (λ z. c .before .if2 .left (e ∙ z)) (rw e at (c .if3 .left)),
-      depths-most (λ (r : ℕ). functionRow (a .functions64 .now) (a .functions32 .now) r .depth) (l .i) _ e,
+      depths-most (λ (r : ℕ). functionInColumns (a .functions64 .now) (a .functions32 .now) r .depth) (l .i) _ e,
     )
 
 returns-4 : tie.Need-returns-4 Inv-loop μ-loop
@@ -72,19 +57,5 @@ returns-4 c = each-end _ _ _ (c .before .loop .inv .1) (c .loop-test .left) (c .
 
 pub depths-spec : {M : Type 1} → statement M
 depths-spec =
-    tie.close
-    (tie.spec
-    Inv-loop
-    μ-loop
-    function-row-requires
-    returns
-    loop-holds
-    function-row-requires-2
-    cast-depth
-    returns-2
-    returns-3
-    add-most
-    add-i
-    loop-less
-    loop-again
-    returns-4)
+    tie.close (tie.spec Inv-loop μ-loop (λ c κs. search needs) returns loop-holds (λ c κs. search needs) (λ c. search needs) returns-2 returns-3
+    (λ c. search needs) (λ c. omega arith) (λ c. omega arith) loop-again returns-4)

@@ -4,14 +4,14 @@ use mathlib.Core.Path.{_≡_, sym, ap, _∙_}
 use mathlib.Core.Bool.{true}
 use native.Mathlib.Omega.{arith}
 use borrow.Author.Needs.{needs}
-use Rattle.rows.specs.Columns.{functionRow}
+use Rattle.rows.specs.Columns.{functionInColumns}
 use Rattle.rows.specs.Refusals.{each, end?}
 use Rattle.rows.proofs.Laws.{each-none, each-more, each-not, each-end, end-no, end-yes}
 use Rattle.rows.proofs.ends.Statement.{statement}
 use Rattle.rows.proofs.ends.Tie as tie
 
 abbrev Inv-loop : tie.InvT-loop
-Inv-loop functions64 functions32 n i₀ i = (i ≤ n) × (each (λ (r : ℕ). end? (functionRow functions64 functions32 r)) i ≡ true)
+Inv-loop functions64 functions32 n i₀ i = (i ≤ n) × (each (λ (r : ℕ). end? (functionInColumns functions64 functions32 r)) i ≡ true)
 
 abbrev μ-loop : tie.MeasureT-loop
 μ-loop functions64 functions32 n i₀ i = n - i
@@ -19,21 +19,9 @@ abbrev μ-loop : tie.MeasureT-loop
 loop-holds : tie.Need-loop-holds Inv-loop μ-loop
 loop-holds c = (omega arith, each-none _)
 
-function-row-requires : tie.Need-function-row-requires Inv-loop μ-loop
-function-row-requires c κs = search needs
-
-sub-if1 : tie.Need-sub-if1 Inv-loop μ-loop
-sub-if1 c = search needs
-
 returns : tie.Need-returns Inv-loop μ-loop
 returns c =
     sym (each-not _ _ _ (c .before .before .before .before .loop-test .taken) (sym (ap end? (c .before .before .before .function-row .ensures)) ∙ end-no (c .before .before .before .function-row .result) (c .if1 .taken)))
-
-add-i : tie.Need-add-i Inv-loop μ-loop
-add-i c = omega arith
-
-loop-less : tie.Need-loop-less Inv-loop μ-loop
-loop-less c = omega arith
 
 loop-again : tie.Need-loop-again Inv-loop μ-loop
 loop-again c =
@@ -44,15 +32,5 @@ returns-2 c = each-end _ _ _ (c .before .loop .inv .0) (c .loop-test .left) (c .
 
 pub ends-spec : {M : Type 1} → statement M
 ends-spec =
-    tie.close
-    (tie.spec
-    Inv-loop
-    μ-loop
-    loop-holds
-    function-row-requires
-    sub-if1
-    returns
-    add-i
-    loop-less
-    loop-again
+    tie.close (tie.spec Inv-loop μ-loop loop-holds (λ c κs. search needs) (λ c. search needs) returns (λ c. omega arith) (λ c. omega arith) loop-again
     returns-2)

@@ -19,4 +19,5 @@ unfolding functionLengths?
 returns-3 c = and-stop _ _ (ne-eqb _ _ (c .if1 .left))
 
 pub function-lengths-spec : {M : Type 1} → statement M
-function-lengths-spec = tie.close (tie.spec returns returns-2 returns-3)
+function-lengths-spec =
+    tie.close (tie.spec returns returns-2 returns-3)

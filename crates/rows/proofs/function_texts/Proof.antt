@@ -6,12 +6,6 @@ use Rattle.rows.proofs.Laws.{and-stop, and-then}
 use Rattle.rows.proofs.function_texts.Statement.{statement}
 use Rattle.rows.proofs.function_texts.Tie as tie
 
-readable-requires : tie.Need-readable-requires
-readable-requires c κs = search needs
-
-inside-requires : tie.Need-inside-requires
-inside-requires c κs = search needs
-
 returns : tie.Need-returns
 unfolding functionTexts?
 returns c =
@@ -25,4 +19,5 @@ returns-2 c =
     and-stop (readable? (a .text .now) (a .q .name)) (inside? (a .text .now) (a .q .«comp_dir»)) (sym (c .before .readable .ensures) ∙ c .if1 .left)
 
 pub function-texts-spec : {M : Type 1} → statement M
-function-texts-spec = tie.close (tie.spec readable-requires inside-requires returns returns-2)
+function-texts-spec =
+    tie.close (tie.spec (λ c κs. search needs) (λ c κs. search needs) returns returns-2)

@@ -4,32 +4,20 @@ use mathlib.Core.Path.{_≡_, sym, ap, _∙_}
 use mathlib.Core.Bool.{true}
 use native.Mathlib.Omega.{arith}
 use borrow.Author.Needs.{needs}
-use Rattle.rows.specs.Columns.{functionRow}
+use Rattle.rows.specs.Columns.{functionInColumns}
 use Rattle.rows.specs.Refusals.{each, functionTexts?}
 use Rattle.rows.proofs.Laws.{each-none, each-more, each-not, each-end}
 use Rattle.rows.proofs.functions_texts.Statement.{statement}
 use Rattle.rows.proofs.functions_texts.Tie as tie
 
 abbrev Inv-loop : tie.InvT-loop
-Inv-loop functions64 functions32 text n i₀ i = (i ≤ n) × (each (λ (r : ℕ). functionTexts? text (functionRow functions64 functions32 r)) i ≡ true)
+Inv-loop functions64 functions32 text n i₀ i = (i ≤ n) × (each (λ (r : ℕ). functionTexts? text (functionInColumns functions64 functions32 r)) i ≡ true)
 
 abbrev μ-loop : tie.MeasureT-loop
 μ-loop functions64 functions32 text n i₀ i = n - i
 
 loop-holds : tie.Need-loop-holds Inv-loop μ-loop
 loop-holds c = (omega arith, each-none _)
-
-function-row-requires : tie.Need-function-row-requires Inv-loop μ-loop
-function-row-requires c κs = search needs
-
-function-texts-requires : tie.Need-function-texts-requires Inv-loop μ-loop
-function-texts-requires c κs = search needs
-
-add-i : tie.Need-add-i Inv-loop μ-loop
-add-i c = omega arith
-
-loop-less : tie.Need-loop-less Inv-loop μ-loop
-loop-less c = omega arith
 
 loop-again : tie.Need-loop-again Inv-loop μ-loop
 loop-again c =
@@ -46,15 +34,5 @@ returns-2 c = each-end _ _ _ (c .before .loop .inv .0) (c .loop-test .left) (c .
 
 pub functions-texts-spec : {M : Type 1} → statement M
 functions-texts-spec =
-    tie.close
-    (tie.spec
-    Inv-loop
-    μ-loop
-    loop-holds
-    function-row-requires
-    function-texts-requires
-    add-i
-    loop-less
-    loop-again
-    returns
+    tie.close (tie.spec Inv-loop μ-loop loop-holds (λ c κs. search needs) (λ c κs. search needs) (λ c. omega arith) (λ c. omega arith) loop-again returns
     returns-2)

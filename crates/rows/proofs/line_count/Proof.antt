@@ -3,7 +3,7 @@ use Prim.Native.Nat.{ℕ, _≤_, _-_, _*_}
 use mathlib.Core.Path.{_≡_, ap}
 use native.Mathlib.Omega.{arith}
 use borrow.Author.Needs.{needs}
-use Rattle.rows.specs.Columns.{functionRow}
+use Rattle.rows.specs.Columns.{functionInColumns}
 use Rattle.rows.specs.declared.FunctionRow.{FunctionRow}
 use Rattle.rows.specs.Refusals.{total}
 use Rattle.rows.proofs.Laws.{total-none, total-more, total-end}
@@ -11,28 +11,13 @@ use Rattle.rows.proofs.line_count.Statement.{statement}
 use Rattle.rows.proofs.line_count.Tie as tie
 
 abbrev Inv-loop : tie.InvT-loop
-Inv-loop functions64 functions32 n sum₀ row₀ sum row = (row ≤ n) × (sum ≡ total (λ (r : ℕ). functionRow functions64 functions32 r .lines) row) × (sum ≤ 4294967295 * row)
+Inv-loop functions64 functions32 n sum₀ row₀ sum row = (row ≤ n) × (sum ≡ total (λ (r : ℕ). functionInColumns functions64 functions32 r .lines) row) × (sum ≤ 4294967295 * row)
 
 abbrev μ-loop : tie.MeasureT-loop
 μ-loop functions64 functions32 n sum₀ row₀ sum row = n - row
 
 loop-holds : tie.Need-loop-holds Inv-loop μ-loop
 loop-holds c = (omega arith, total-none _, omega arith)
-
-function-row-requires : tie.Need-function-row-requires Inv-loop μ-loop
-function-row-requires c κs = search needs
-
-cast-sum : tie.Need-cast-sum Inv-loop μ-loop
-cast-sum c = search needs
-
-add-sum : tie.Need-add-sum Inv-loop μ-loop
-add-sum c = omega arith
-
-add-row : tie.Need-add-row Inv-loop μ-loop
-add-row c = omega arith
-
-loop-less : tie.Need-loop-less Inv-loop μ-loop
-loop-less c = omega arith
 
 loop-again : tie.Need-loop-again Inv-loop μ-loop
 loop-again c =
@@ -43,15 +28,5 @@ returns c = total-end _ _ _ _ (c .before .loop .inv .0) (c .loop-test .left) (c 
 
 pub line-count-spec : {M : Type 1} → statement M
 line-count-spec =
-    tie.close
-    (tie.spec
-    Inv-loop
-    μ-loop
-    loop-holds
-    function-row-requires
-    cast-sum
-    add-sum
-    add-row
-    loop-less
-    loop-again
-    returns)
+    tie.close (tie.spec Inv-loop μ-loop loop-holds (λ c κs. search needs) (λ c. search needs) (λ c. omega arith) (λ c. omega arith) (λ c. omega arith)
+    loop-again returns)

@@ -19,4 +19,5 @@ unfolding lineLengths?
 returns-3 c = and-stop _ _ (ne-eqb _ _ (c .if1 .left))
 
 pub line-lengths-spec : {M : Type 1} → statement M
-line-lengths-spec = tie.close (tie.spec returns returns-2 returns-3)
+line-lengths-spec =
+    tie.close (tie.spec returns returns-2 returns-3)

@@ -4,32 +4,20 @@ use mathlib.Core.Path.{_≡_, sym, ap, _∙_}
 use mathlib.Core.Bool.{true}
 use native.Mathlib.Omega.{arith}
 use borrow.Author.Needs.{needs}
-use Rattle.rows.specs.Columns.{lineRow}
+use Rattle.rows.specs.Columns.{lineInColumns}
 use Rattle.rows.specs.Refusals.{each, lineTexts?}
 use Rattle.rows.proofs.Laws.{each-none, each-more, each-not, each-end}
 use Rattle.rows.proofs.lines_texts.Statement.{statement}
 use Rattle.rows.proofs.lines_texts.Tie as tie
 
 abbrev Inv-loop : tie.InvT-loop
-Inv-loop lines64 lines32 text n j₀ j = (j ≤ n) × (each (λ (r : ℕ). lineTexts? text (lineRow lines64 lines32 r)) j ≡ true)
+Inv-loop lines64 lines32 text n j₀ j = (j ≤ n) × (each (λ (r : ℕ). lineTexts? text (lineInColumns lines64 lines32 r)) j ≡ true)
 
 abbrev μ-loop : tie.MeasureT-loop
 μ-loop lines64 lines32 text n j₀ j = n - j
 
 loop-holds : tie.Need-loop-holds Inv-loop μ-loop
 loop-holds c = (omega arith, each-none _)
-
-line-row-requires : tie.Need-line-row-requires Inv-loop μ-loop
-line-row-requires c κs = search needs
-
-line-texts-requires : tie.Need-line-texts-requires Inv-loop μ-loop
-line-texts-requires c κs = search needs
-
-add-j : tie.Need-add-j Inv-loop μ-loop
-add-j c = omega arith
-
-loop-less : tie.Need-loop-less Inv-loop μ-loop
-loop-less c = omega arith
 
 loop-again : tie.Need-loop-again Inv-loop μ-loop
 loop-again c =
@@ -46,15 +34,5 @@ returns-2 c = each-end _ _ _ (c .before .loop .inv .0) (c .loop-test .left) (c .
 
 pub lines-texts-spec : {M : Type 1} → statement M
 lines-texts-spec =
-    tie.close
-    (tie.spec
-    Inv-loop
-    μ-loop
-    loop-holds
-    line-row-requires
-    line-texts-requires
-    add-j
-    loop-less
-    loop-again
-    returns
+    tie.close (tie.spec Inv-loop μ-loop loop-holds (λ c κs. search needs) (λ c κs. search needs) (λ c. omega arith) (λ c. omega arith) loop-again returns
     returns-2)

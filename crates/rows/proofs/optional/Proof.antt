@@ -5,9 +5,6 @@ use Rattle.rows.proofs.Laws.{optional-present, optional-absent}
 use Rattle.rows.proofs.optional.Statement.{statement}
 use Rattle.rows.proofs.optional.Tie as tie
 
-readable-requires : tie.Need-readable-requires
-readable-requires c κs = search needs
-
 returns : tie.Need-returns
 returns c = c .readable .ensures ∙ sym (optional-present _ _ (c .before .if1 .taken))
 
@@ -15,4 +12,5 @@ returns-2 : tie.Need-returns-2
 returns-2 c = sym (optional-absent _ _ (c .if1 .left))
 
 pub optional-spec : {M : Type 1} → statement M
-optional-spec = tie.close (tie.spec readable-requires returns returns-2)
+optional-spec =
+    tie.close (tie.spec (λ c κs. search needs) returns returns-2)

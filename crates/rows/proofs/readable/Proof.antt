@@ -8,15 +8,6 @@ use Rattle.rows.proofs.Laws.{and-stop, and-then}
 use Rattle.rows.proofs.readable.Statement.{statement}
 use Rattle.rows.proofs.readable.Tie as tie
 
-inside-requires : tie.Need-inside-requires
-inside-requires c κs = search needs
-
-part-requires : tie.Need-part-requires
-part-requires c κs = search needs
-
-is-utf8-requires : tie.Need-is-utf8-requires
-is-utf8-requires c κs = search needs
-
 returns : tie.Need-returns
 unfolding readable?
 returns c =
@@ -32,4 +23,4 @@ returns-2 c =
 
 pub readable-spec : {M : Type 1} → statement M
 readable-spec =
-    tie.close (tie.spec inside-requires part-requires is-utf8-requires returns returns-2)
+    tie.close (tie.spec (λ c κs. search needs) (λ c κs. search needs) (λ c κs. search needs) returns returns-2)
