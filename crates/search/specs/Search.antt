@@ -1,5 +1,5 @@
 -- The search among the starts of a file's ranges: document 01 "Lookup"; v9/lookup.rs.
-use Prim.Native.Nat.{ℕ, zero, suc, _+_, _*_, _/_, _-_, _≤_}
+use Prim.Native.Nat.{ℕ, zero, suc, _+_, _*_, _/_, _-_, _≤_, _<_}
 use mathlib.Core.Path.{_≡_}
 use mathlib.Core.List.{List}
 use mathlib.Core.Bool.{Bool, true, cond, _&&_}
@@ -48,6 +48,16 @@ searchIn f a zero b n = b + countIn f a (b + 1) (n - 1)
 searchIn f a (suc k) b n =
     cond (leb n 8) (b + countIn f a (b + 1) (n - 1))
     (cond (leb n 1024) (searchIn f a k (b + n / 4 * quartersIn f a b (n / 4)) (n - 3 * (n / 4))) (searchIn f a k (b + halfIn f a b (n / 2)) (n - n / 2)))
+
+-- r is the count v, which is at most n
+pub record Count (v n r : ℕ) : Type 0 where
+  pub is : r ≡ v
+  pub most : r ≤ n
+
+-- r is the index v, which is one of n
+pub record Index (v n r : ℕ) : Type 0 where
+  pub is : r ≡ v
+  pub inside : r < n
 
 -- what halving leaves of a search among n starts: up to 1,024 of them, `size` from index `base` on, whose search ends where that of all does
 pub record Halved (f : ℕ → ℕ) (a n base size : ℕ) : Type 0 where

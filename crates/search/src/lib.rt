@@ -5,7 +5,7 @@ ghost use Prim.Native.Nat.{_+_, _*_, _≤_, _<_};
 ghost use mathlib.Core.Bool.{cond};
 ghost use lib.Dec.{leb};
 ghost use lib.ListN.{length};
-ghost use Rattle.search.specs.Search.{startAt, ascending, ordered, countIn, halfIn, quartersIn, searchIn, Halved, usable, foundIn};
+ghost use Rattle.search.specs.Search.{startAt, ascending, ordered, countIn, halfIn, quartersIn, searchIn, usable, foundIn, Count, Index, Halved};
 
 // The starts
 
@@ -69,7 +69,7 @@ pub fn is_ascending(s: &[u8], ranges: usize, num_ranges: u32) -> bool
 // The search
 
 fn at_most(start: u32, addr: u32) -> usize
-    ensures { λ r. ⌜ (r ≡ cond (leb start addr) 1 0) × (r ≤ 1) ⌝ }
+    ensures { λ r. ⌜ Count (cond (leb start addr) 1 0) 1 r ⌝ }
 {
     if start <= addr {
         return 1;
@@ -80,7 +80,7 @@ fn at_most(start: u32, addr: u32) -> usize
 // How many of the `n` starts from index `from` on are at most `addr`.
 fn count(s: &[u8], ranges: usize, from: usize, n: usize, addr: u32) -> usize
     requires { ⌜ ranges + 4 * (from + n) ≤ length (now s) ⌝ }
-    ensures { λ r. ⌜ (r ≡ countIn (startAt (now (s .entry)) ranges) addr from n) × (r ≤ n) ⌝ }
+    ensures { λ r. ⌜ Count (countIn (startAt (now (s .entry)) ranges) addr from n) n r ⌝ }
 {
     let mut found: usize = 0;
     let mut i: usize = 0;
@@ -94,7 +94,7 @@ fn count(s: &[u8], ranges: usize, from: usize, n: usize, addr: u32) -> usize
 // How many of the three starts between the quarters, of `quarter` starts each, from index `base` on are at most `addr`.
 fn quarters(s: &[u8], ranges: usize, base: usize, quarter: usize, addr: u32) -> usize
     requires { ⌜ ranges + 4 * (base + 3 * quarter + 1) ≤ length (now s) ⌝ }
-    ensures { λ r. ⌜ (r ≡ quartersIn (startAt (now (s .entry)) ranges) addr base quarter) × (r ≤ 3) ⌝ }
+    ensures { λ r. ⌜ Count (quartersIn (startAt (now (s .entry)) ranges) addr base quarter) 3 r ⌝ }
 {
     at_most(range_start(s, ranges, base + quarter), addr)
         + at_most(range_start(s, ranges, base + 2 * quarter), addr)
@@ -104,7 +104,7 @@ fn quarters(s: &[u8], ranges: usize, base: usize, quarter: usize, addr: u32) -> 
 // How many starts to pass over: `half` where the start that many after index `base` is at most `addr`, else none.
 fn half_of(s: &[u8], ranges: usize, base: usize, half: usize, addr: u32) -> usize
     requires { ⌜ ranges + 4 * (base + half + 1) ≤ length (now s) ⌝ }
-    ensures { λ r. ⌜ (r ≡ halfIn (startAt (now (s .entry)) ranges) addr base half) × (r ≤ half) ⌝ }
+    ensures { λ r. ⌜ Count (halfIn (startAt (now (s .entry)) ranges) addr base half) half r ⌝ }
 {
     half * at_most(range_start(s, ranges, base + half), addr)
 }
@@ -134,7 +134,7 @@ fn halves(s: &[u8], ranges: usize, n: usize, addr: u32) -> Left
 // The last 1,024 are quartered: three starts are fetched at once, and no jump depends on them, which could not be foreseen. The last few are counted.
 fn search(s: &[u8], ranges: usize, n: usize, addr: u32) -> usize
     requires { ⌜ (0 < n) × (ranges + 4 * n ≤ length (now s)) ⌝ }
-    ensures { λ r. ⌜ (r ≡ searchIn (startAt (now (s .entry)) ranges) addr n 0 n) × (r < n) ⌝ }
+    ensures { λ r. ⌜ Index (searchIn (startAt (now (s .entry)) ranges) addr n 0 n) n r ⌝ }
 {
     let left = halves(s, ranges, n, addr);
     let mut base = left.base;

@@ -24,14 +24,14 @@ loop-again c =
     let a = c .before .before .before .before .before .args in
     let l = c .before .before .before .loop in
     let f = startAt (a .s .now) (a .ranges) in
-    let e : c .at-most .result ≡ cond (leb (f (a .from + l .i)) (a .addr)) 1 0 = rw (c .before .range-start .ensures) at (c .at-most .ensures .0) in
+    let e : c .at-most .result ≡ cond (leb (f (a .from + l .i)) (a .addr)) 1 0 = rw (c .before .range-start .ensures) at (c .at-most .ensures .is) in
     (omega arith, omega arith, omega (arith, count-turn f (a .addr) (a .from) (l .i) (a .n) (omega arith), l .inv .2))
 
 returns : tie.Need-returns Inv-loop μ-loop
 returns c =
     let a = c .before .before .before .args in
     let l = c .before .loop in
-    (omega (arith, count-done (startAt (a .s .now) (a .ranges)) (a .addr) (a .from) (l .i) (a .n) (omega arith), l .inv .2), omega arith)
+    record { is = omega (arith, count-done (startAt (a .s .now) (a .ranges)) (a .addr) (a .from) (l .i) (a .n) (omega arith), l .inv .2); most = omega arith }
 
 pub count-spec : {M : Type 1} → statement M
 count-spec =

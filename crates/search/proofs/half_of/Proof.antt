@@ -19,12 +19,15 @@ unfolding halfIn
 tested f a b h d e = rw (e, d)
 
 mul-result : tie.Need-mul-result
-mul-result c = omega (arith, times-one (c .before .before .before .args .half) (c .at-most .result) (c .at-most .ensures .1))
+mul-result c = omega (arith, times-one (c .before .before .before .args .half) (c .at-most .result) (c .at-most .ensures .most))
 
 returns : tie.Need-returns
 returns c =
     let a = c .before .before .before .args in
-    (tested (startAt (a .s .now) (a .ranges)) (a .addr) (a .base) (a .half) (c .before .range-start .ensures) (c .at-most .ensures .0), times-one (a .half) (c .at-most .result) (c .at-most .ensures .1))
+    record {
+      is = tested (startAt (a .s .now) (a .ranges)) (a .addr) (a .base) (a .half) (c .before .range-start .ensures) (c .at-most .ensures .is);
+      most = times-one (a .half) (c .at-most .result) (c .at-most .ensures .most);
+    }
 
 pub half-of-spec : {M : Type 1} → statement M
 half-of-spec = tie.close (tie.spec (λ c. search needs) (λ c κs. search needs) (λ c κs. search needs) mul-result returns)

@@ -17,14 +17,14 @@ loop-holds : tie.Need-loop-holds Inv-loop μ-loop
 loop-holds c = (omega arith, omega arith, refl)
 
 add-base : tie.Need-add-base Inv-loop μ-loop
-add-base c = omega (arith, c .half-of .ensures .1)
+add-base c = omega (arith, c .half-of .ensures .most)
 
 loop-again : tie.Need-loop-again Inv-loop μ-loop
 loop-again c =
     let a = c .before .before .before .before .args in
     let l = c .before .before .loop in
     let f = startAt (a .s .now) (a .ranges) in
-    (omega arith, omega (arith, c .half-of .ensures .1), rw (c .half-of .ensures .0) (half-turn f (a .addr) (l .base) (l .size) (omega arith) ∙ l .inv .2))
+    (omega arith, omega (arith, c .half-of .ensures .most), rw (c .half-of .ensures .is) (half-turn f (a .addr) (l .base) (l .size) (omega arith) ∙ l .inv .2))
 
 returns : tie.Need-returns Inv-loop μ-loop
 returns c = let l = c .before .loop in record { some = l .inv .0; few = omega arith; inside = l .inv .1; same = l .inv .2 }

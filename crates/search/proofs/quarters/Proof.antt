@@ -20,7 +20,10 @@ returns c =
     let l = c .before .before .before .before .at-most .ensures in
     let m = c .before .before .at-most2 .ensures in
     let h = c .at-most3 .ensures in
-    (added f (a .addr) (a .base) (a .quarter) (c .before .before .before .before .before .range-start .ensures) (c .before .before .before .range-start2 .ensures) (c .before .range-start3 .ensures) (l .0) (m .0) (h .0), omega (arith, l .1, m .1, h .1))
+    record {
+      is = added f (a .addr) (a .base) (a .quarter) (c .before .before .before .before .before .range-start .ensures) (c .before .before .before .range-start2 .ensures) (c .before .range-start3 .ensures) (l .is) (m .is) (h .is);
+      most = omega (arith, l .most, m .most, h .most);
+    }
 
 pub quarters-spec : {M : Type 1} → statement M
 quarters-spec =

@@ -18,29 +18,29 @@ loop-holds : tie.Need-loop-holds Inv-loop μ-loop
 loop-holds c = let h = c .halves .ensures in (h .some, h .few, h .inside, h .same)
 
 mul-base : tie.Need-mul-base Inv-loop μ-loop
-mul-base c = omega (arith, mul-le-mul-left (c .before .before .loop .size / 4) (c .quarters .ensures .1))
+mul-base c = omega (arith, mul-le-mul-left (c .before .before .loop .size / 4) (c .quarters .ensures .most))
 
 add-base : tie.Need-add-base Inv-loop μ-loop
-add-base c = omega (arith, mul-le-mul-left (c .before .before .loop .size / 4) (c .quarters .ensures .1))
+add-base c = omega (arith, mul-le-mul-left (c .before .before .loop .size / 4) (c .quarters .ensures .most))
 
 loop-again : tie.Need-loop-again Inv-loop μ-loop
 loop-again c =
     let a = c .before .before .before .before .before .args in
     let l = c .before .before .loop in
     let f = startAt (a .s .now) (a .ranges) in
-    let t : l .size / 4 * c .quarters .result ≤ l .size / 4 * 3 = mul-le-mul-left (l .size / 4) (c .quarters .ensures .1) in
-    (omega arith, omega arith, omega (arith, t), rw (c .quarters .ensures .0) (quarter-turn f (a .addr) (l .base) (l .size) (omega arith) (l .inv .1) ∙ l .inv .3))
+    let t : l .size / 4 * c .quarters .result ≤ l .size / 4 * 3 = mul-le-mul-left (l .size / 4) (c .quarters .ensures .most) in
+    (omega arith, omega arith, omega (arith, t), rw (c .quarters .ensures .is) (quarter-turn f (a .addr) (l .base) (l .size) (omega arith) (l .inv .1) ∙ l .inv .3))
 
 add-result : tie.Need-add-result Inv-loop μ-loop
-add-result c = omega (arith, c .count .ensures .1)
+add-result c = omega (arith, c .count .ensures .most)
 
 returns : tie.Need-returns Inv-loop μ-loop
 returns c =
     let a = c .before .before .before .before .before .args in
     let l = c .before .before .loop in
     let f = startAt (a .s .now) (a .ranges) in
-    let e : l .base + c .count .result ≡ searchIn f (a .addr) (l .size) (l .base) (l .size) = rw (c .count .ensures .0) (sym (search-done f (a .addr) (l .size) (l .base) (l .size) (omega arith))) in
-    (e ∙ l .inv .3, omega (arith, c .count .ensures .1))
+    let e : l .base + c .count .result ≡ searchIn f (a .addr) (l .size) (l .base) (l .size) = rw (c .count .ensures .is) (sym (search-done f (a .addr) (l .size) (l .base) (l .size) (omega arith))) in
+    record { is = e ∙ l .inv .3; inside = omega (arith, c .count .ensures .most) }
 
 pub search-spec : {M : Type 1} → statement M
 search-spec =
