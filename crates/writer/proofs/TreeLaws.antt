@@ -15,13 +15,12 @@ use Rattle.model.specs.Machine.{Machine, LoopedM, unless-held, put-end, loopM, 
 use Rattle.model.specs.Converter.{Setup, input}
 use Rattle.sorting.specs.Pairs.{pairWords, sortedOf}
 use Rattle.rows.specs.declared.FunctionRow.{FunctionRow as FunctionStruct}
-use Rattle.rows.specs.Columns.{Columns, columns, functionRows, lineRows, functionRow, functionStruct, functionAt, linesFrom, textOf}
-use Rattle.rows.specs.Refusals.{firstLine}
+use Rattle.rows.specs.Columns.{Columns, columns, functionRows, lineRows, functionRow, functionStruct, functionAt, textOf}
 use Rattle.rows.proofs.RowLaws.{functionAt-lines, functionAt-skipped}
 use Rattle.rows.proofs.Accepted.{Accepted}
 use Rattle.steps.specs.Words.{Words, put-range, location, begin-named, over-words}
 use Rattle.steps.proofs.RowTexts.{begin-is}
-use Rattle.scratch.specs.Scratch.{pairsAt, ref-of, refsAt, startAt, lenAt, setCalls, callsOf, topOf, kid-spans, LinesWithin, Lined, RowDone}
+use Rattle.scratch.specs.Scratch.{pairsAt, ref-of, refsAt, startAt, lenAt, setCalls, callsOf, topOf, kid-spans, Lined, RowDone}
 use Rattle.scratch.proofs.Pairs.{pairs-kept}
 use Rattle.scratch.proofs.Rows.{first-line}
 use Rattle.scratch.proofs.Visits.{row-empty, row-skipped, row-visited, calls-root, calls-none, calls-some, visited, passed-over}
