@@ -15,19 +15,21 @@ use Rattle.model.specs.Machine.{Machine, LoopedM, unless-held, put-end, loopM, 
 use Rattle.model.specs.Converter.{Setup, input}
 use Rattle.sorting.specs.Pairs.{pairWords, sortedOf}
 use Rattle.rows.specs.declared.FunctionRow.{FunctionRow as FunctionStruct}
-use Rattle.rows.specs.Columns.{Columns, columns, functionRows, lineRows, functionInColumns, functionStruct, functionAt, linesFrom, textOf}
-use Rattle.rows.specs.Refusals.{firstLine}
+use Rattle.rows.specs.Columns.{Columns, columns, functionRows, lineRows, functionRow, functionStruct, functionAt, textOf}
 use Rattle.rows.proofs.RowLaws.{functionAt-lines, functionAt-skipped}
 use Rattle.rows.proofs.Accepted.{Accepted}
 use Rattle.steps.specs.Words.{Words, put-range, location, begin-named, over-words}
 use Rattle.steps.proofs.RowTexts.{begin-is}
-use Rattle.scratch.specs.Scratch.{pairsAt, ref-of, refsAt, startAt, lenAt, setCalls, callsOf, topOf, kid-spans, LinesWithin, Lined, RowDone}
+use Rattle.scratch.specs.Scratch.{pairsAt, ref-of, refsAt, startAt, lenAt, setCalls, callsOf, topOf, kid-spans, Lined, RowDone}
 use Rattle.scratch.proofs.Pairs.{pairs-kept}
 use Rattle.scratch.proofs.Rows.{first-line}
 use Rattle.scratch.proofs.Visits.{row-empty, row-skipped, row-visited, calls-root, calls-none, calls-some, visited, passed-over}
 use Rattle.scratch.proofs.Gathered.{spans-text, sorted-pairs, sorted-kept}
 use Rattle.scratch.proofs.Tree.{Rowing, depth-low, room-fits, next}
-use Rattle.writer.specs.Walk.{OwnCalls, Sorted, row-spans, RowReady, RowLeft, ref}
+use Rattle.writer.specs.Walk.{LinesReady, LinesLeft, ref, calls-of, OwnCalls, Sorted, row-spans, RowReady, GatherReady, VisitReady, RowLeft}
+use Rattle.writer.specs.declared.stack.Pairs.{Pairs}
+use Rattle.writer.specs.declared.lines.CallLocations.{CallLocations}
+use Rattle.writer.specs.declared.tree.Own.{Own}
 
 -- ── What is read of a row ──
 
@@ -74,8 +76,11 @@ address-is p q e h = omega arith
 
 -- ── The call locations of a depth ──
 
+abbrev pub own-of : ℕ → Bool → ℕ → ℕ → ℕ → Own
+own-of top some first at len = record { top = top; some = some; «call_locations» = record { first = first; others = record { at = at; len = len } } }
+
 module _ (s : List ℕ) (base : ℕ) where
-  pub own-root : (d : ℕ) → d ≡ 0 → OwnCalls s base d 0 true 4294967295 0 0
+  pub own-root : (d : ℕ) → d ≡ 0 → OwnCalls s base d (own-of 0 true 4294967295 0 0)
   unfolding topOf
   own-root d e = rw e (record { top-is = refl; none = λ x. absurd (true≢false x); first = λ x. (0, calls-root s base 0); below = omega arith })
 
@@ -87,7 +92,7 @@ module _ (s : List ℕ) (base : ℕ) where
     unfolding topOf
     own-top = rw (below-one d h, e, f)
 
-    pub own-none : len ≡ 0 → OwnCalls s base d (start + len) false 0 0 0
+    pub own-none : len ≡ 0 → OwnCalls s base d (own-of (start + len) false 0 0 0)
     own-none z = record {
       top-is = own-top;
       none = λ x. ap (callsOf s base) (below-one d h) ∙ calls-none s base (d - 1) (sym f ∙ z);
@@ -95,7 +100,7 @@ module _ (s : List ℕ) (base : ℕ) where
       below = omega arith;
     }
 
-    pub own-some : (current : ℕ) → (len ≡ 0 → ⊥) → current ≡ getD s (base + start * 2 + 1) 0 → OwnCalls s base d (start + len) true current (base + start * 2 + 2) (len - 1)
+    pub own-some : (current : ℕ) → (len ≡ 0 → ⊥) → current ≡ getD s (base + start * 2 + 1) 0 → OwnCalls s base d (own-of (start + len) true current (base + start * 2 + 2) (len - 1))
     own-some current z g = record {
       top-is = own-top;
       none = λ x. absurd (true≢false x);
@@ -147,84 +152,87 @@ module _ (f64 f32 l64 l32 t : List ℕ) (base i first : ℕ) where
 
   -- ── A row that is visited ──
 
-  module _ (size top : ℕ) (ready : RowReady k size base i first top) (q : FunctionStruct) (e : q ≡ functionInColumns f64 f32 i) where
+  module _ (size top : ℕ) (ready : RowReady k size base i first top) (q : FunctionStruct) (e : q ≡ functionRow f64 f32 i) where
     same-spans : kid-spans k₀ (q .depth) (i + 1) (first + q .lines) ≡ row-spans k i first
-    same-spans = rw e (sym (spans-text f64 f32 l64 l32 t (functionInColumns f64 f32 i .depth) (i + 1) (first + functionInColumns f64 f32 i .lines)))
+    same-spans = rw e (sym (spans-text f64 f32 l64 l32 t (functionRow f64 f32 i .depth) (i + 1) (first + functionRow f64 f32 i .lines)))
 
-    pub gather-ready : (base + top * 2 + length (kid-spans k₀ (q .depth) (i + 1) (first + q .lines)) * 2 ≤ size)
-        × (i + 1 ≤ length f64 / 2) × (q .depth < 65536) × (first + q .lines ≡ firstLine k₀ (i + 1)) × LinesWithin f64 f32 l64
-    gather-ready = (
-      rw same-spans (omega (arith, ready .room)),
-      omega (arith, ready .inside),
-      rw e (ready .shallow),
-      rw e (ap (λ (x : ℕ). x + functionInColumns f64 f32 i .lines) (ready .first-is) ∙ sym (first-line k i)),
-      ready .within,
-    )
+    pub gather-ready : GatherReady k₀ size (base + top * 2) (i + 1) (first + q .lines) (q .depth)
+    gather-ready = record {
+      room = rw same-spans (omega (arith, ready .room));
+      inside = omega (arith, ready .inside);
+      shallow = rw e (ready .shallow);
+      first-is = rw e (ap (λ (x : ℕ). x + functionRow f64 f32 i .lines) (ready .first-is) ∙ sym (first-line k i));
+      within = ready .within;
+    }
 
     pub lines-room : first + q .lines ≤ length l64 / 3
     lines-room = rw (e, ready .first-is) (ready .within i (ready .inside))
 
-    pub lines-ready : (calls count n : ℕ) (s₁ s₂ : List ℕ) → length s₂ ≡ size → calls + count * 2 ≤ base + top * 2 → Sorted (base + top * 2) (kid-spans k₀ (q .depth) (i + 1) (first + q .lines)) n s₁ s₂
-        → (base + top * 2 + n * 2 ≤ length s₂) × (calls + count * 2 ≤ base + top * 2) × (first + functionInColumns f64 f32 i .lines ≤ length l64 / 3)
-    lines-ready calls count n s₁ s₂ l h o =
-        let z : length (kid-spans k₀ (q .depth) (i + 1) (first + q .lines)) ≡ length (row-spans k i first) = ap length same-spans in
-        (omega (arith, ready .room, o .count), h, rw e at lines-room)
+    module _ (calls : CallLocations) (n : ℕ) (h : calls .others .at + calls .others .len * 2 ≤ base + top * 2) where
+      abbrev inlinees : Pairs
+      inlinees = record { at = base + top * 2; len = n }
 
-    pub row-walked : (X : Setup) (calls count current n fi m : ℕ) (s s₂ s₃ s₄ : List ℕ) (w w₁ w₃ w₄ : Words)
-        → calls + count * 2 ≤ base + top * 2 → skipped (functionAt k i first) ≡ false
-        → Sorted (base + top * 2) (kid-spans k₀ (q .depth) (i + 1) (first + q .lines)) n s s₂ → length s₃ ≡ size
-        → (fi, w₁) ≡ begin-named (cond (X .functions-on) (undecorated (textOf t (q .name))) (textOf t (q .name))) (cond (q .inline) MAX (q .address % 4294967296)) (q .language) w
-        → Lined (base + top * 2) n (loopM input (over-words X) (functionAt k i first) fi (linesFrom k first (functionInColumns f64 f32 i .lines)) current (refsAt s₂ calls count) (pairsAt s₂ (base + top * 2) n) 0 w₁) s₂ s₃ w₃ m
-        → w₄ ≡ closingM input (over-words X) (functionAt k i first) fi w₃ → s₄ ≡ setCalls s₃ (q .depth) top m
-        → (a : ℕ) → RowLeft X k base i first top (ref a current ∷ refsAt s calls count) s s₄ w w₄
-    unfolding functionAt
-    row-walked X calls count current n fi m s s₂ s₃ s₄ w w₁ w₃ w₄ h z o l b d c y a =
-        let o′ : Sorted (base + top * 2) (row-spans k i first) n s s₂ = rw same-spans at o in
-        let b′ : over-words X .begin (functionAt k i first) w ≡ (fi, w₁) = begin-is k i first X w z ∙ sym (rw e at b) in
-        let d′ : Lined (base + top * 2) (length (row-spans k i first)) (loopM input (over-words X) (functionAt k i first) fi (functionAt k i first .lines) current (refsAt s₂ calls count) (pairsAt s₂ (base + top * 2) (length (row-spans k i first))) 0 w₁) s₂ s₃ w₃ m =
-        rw (functionAt-lines k i first) (rw (o′ .count) at d) in
-        rw (c, y, e)
-        (row-done (over-words X) (functionAt k i first) (row-spans k i first) base (functionInColumns f64 f32 i .depth) top calls count current s s₂ s₃ w w₁ w₃ fi m n o′ z h (ready .low) (omega (arith, ready .room)) b′ d′ a)
+      pub lines-ready : (s₁ s₂ : List ℕ) → length s₂ ≡ size → Sorted (base + top * 2) (kid-spans k₀ (q .depth) (i + 1) (first + q .lines)) n s₁ s₂
+          → LinesReady q first calls inlinees (length l64 / 3) (length s₂)
+      lines-ready s₁ s₂ l o =
+          let z : length (kid-spans k₀ (q .depth) (i + 1) (first + q .lines)) ≡ length (row-spans k i first) = ap length same-spans in
+          record { within = lines-room; room = omega (arith, ready .room, o .count); apart = h }
+
+      pub row-walked : (X : Setup) (fi m : ℕ) (s s₂ s₃ s₄ : List ℕ) (w w₁ w₃ w₄ : Words) → skipped (functionAt k i first) ≡ false
+          → Sorted (base + top * 2) (kid-spans k₀ (q .depth) (i + 1) (first + q .lines)) n s s₂ → length s₃ ≡ size
+          → (fi, w₁) ≡ begin-named (cond (X .functions-on) (undecorated (textOf t (q .name))) (textOf t (q .name))) (cond (q .inline) MAX (q .address % 4294967296)) (q .language) w
+          → LinesLeft X k i first fi calls inlinees s₂ s₃ w₁ w₃ m
+          → w₄ ≡ closingM input (over-words X) (functionAt k i first) fi w₃ → s₄ ≡ setCalls s₃ (q .depth) top m
+          → (a : ℕ) → RowLeft X k base i first top (calls-of s a calls) s s₄ w w₄
+      unfolding functionAt
+      row-walked X fi m s s₂ s₃ s₄ w w₁ w₃ w₄ z o l b d c y a =
+          let o′ : Sorted (base + top * 2) (row-spans k i first) n s s₂ = rw same-spans at o in
+          let b′ : over-words X .begin (functionAt k i first) w ≡ (fi, w₁) = begin-is k i first X w z ∙ sym (rw e at b) in
+          let at = calls .others .at in
+          let len = calls .others .len in
+          let d′ : Lined (base + top * 2) (length (row-spans k i first)) (loopM input (over-words X) (functionAt k i first) fi (functionAt k i first .lines) (calls .first) (refsAt s₂ at len) (pairsAt s₂ (base + top * 2) (length (row-spans k i first))) 0 w₁) s₂ s₃ w₃ m =
+          rw (functionAt-lines k i first) (rw (o′ .count) at d) in
+          rw (c, y, e)
+          (row-done (over-words X) (functionAt k i first) (row-spans k i first) base (functionRow f64 f32 i .depth) top at len (calls .first) s s₂ s₃ w w₁ w₃ fi m n o′ z h (ready .low) (omega (arith, ready .room)) b′ d′ a)
 
   -- ── A row, visited or not ──
 
-  module _ (s : List ℕ) (ready : RowReady k (length s) base i first (topOf s (functionInColumns f64 f32 i .depth))) (q : FunctionStruct) (e : q ≡ functionInColumns f64 f32 i) where
+  module _ (s : List ℕ) (ready : RowReady k (length s) base i first (topOf s (functionRow f64 f32 i .depth))) (q : FunctionStruct) (e : q ≡ functionRow f64 f32 i) where
     pub own-ready : base + topOf s (q .depth) * 2 ≤ length s
     own-ready = rw e (omega (arith, ready .room))
 
-    module _ (top : ℕ) (some : Bool) (current calls count : ℕ) (own : OwnCalls s base (q .depth) top some current calls count)
-        (flag : Bool) (f : flag ≡ cond some (cond (eqb (q .size) 0) true (ltb MAX (q .address))) true) where
-      own′ : OwnCalls s base (functionInColumns f64 f32 i .depth) top some current calls count
-      own′ = rw e at own
+    module _ (own : Own) (is : OwnCalls s base (q .depth) own) (flag : Bool) (f : flag ≡ cond (own .some) (cond (eqb (q .size) 0) true (ltb MAX (q .address))) true) where
+      is′ : OwnCalls s base (functionRow f64 f32 i .depth) own
+      is′ = rw e at is
 
       skip-is : skipped (functionAt k i first) ≡ cond (eqb (q .size) 0) true (ltb MAX (q .address))
       skip-is = functionAt-skipped k i first ∙ rw e refl
 
       -- "No call location made", or skipped
-      pub row-passed : (X : Setup) (w : Words) (s′ : List ℕ) → flag ≡ true → s′ ≡ setCalls s (q .depth) top 0
-          → RowLeft X k base i first (topOf s (functionInColumns f64 f32 i .depth)) (callsOf s base (functionInColumns f64 f32 i .depth)) s s′ w w
+      pub row-passed : (X : Setup) (w : Words) (s′ : List ℕ) → flag ≡ true → s′ ≡ setCalls s (q .depth) (own .top) 0
+          → RowLeft X k base i first (topOf s (functionRow f64 f32 i .depth)) (callsOf s base (functionRow f64 f32 i .depth)) s s′ w w
       row-passed X w s′ z y =
-          rw (y, e, own′ .top-is)
-          (passed-over base (functionInColumns f64 f32 i .depth) (topOf s (functionInColumns f64 f32 i .depth)) (length (row-spans k i first)) (ready .low) s _ w (omega (arith, ready .room)) (go some refl (sym f ∙ z)))
+          rw (y, e, is′ .top-is)
+          (passed-over base (functionRow f64 f32 i .depth) (topOf s (functionRow f64 f32 i .depth)) (length (row-spans k i first)) (ready .low) s _ w (omega (arith, ready .room)) (go (own .some) refl (sym f ∙ z)))
         where
-          go : (b : Bool) → some ≡ b → cond b (cond (eqb (q .size) 0) true (ltb MAX (q .address))) true ≡ true
-              → rowM input (over-words X) (functionAt k i first) (row-spans k i first) (callsOf s base (functionInColumns f64 f32 i .depth)) w ≡ record { state = w; calls = [] }
-          go true x g = row-skipped input (over-words X) (functionAt k i first) (row-spans k i first) w (callsOf s base (functionInColumns f64 f32 i .depth)) (skip-is ∙ g)
-          go false x g = rw (own′ .none x) (row-empty input (over-words X) (functionAt k i first) (row-spans k i first) w)
+          go : (b : Bool) → own .some ≡ b → cond b (cond (eqb (q .size) 0) true (ltb MAX (q .address))) true ≡ true
+              → rowM input (over-words X) (functionAt k i first) (row-spans k i first) (callsOf s base (functionRow f64 f32 i .depth)) w ≡ record { state = w; calls = [] }
+          go true x g = row-skipped input (over-words X) (functionAt k i first) (row-spans k i first) w (callsOf s base (functionRow f64 f32 i .depth)) (skip-is ∙ g)
+          go false x g = rw (is′ .none x) (row-empty input (over-words X) (functionAt k i first) (row-spans k i first) w)
 
       module _ (z : flag ≡ false) where
-        both : (b : Bool) → some ≡ b → cond b (cond (eqb (q .size) 0) true (ltb MAX (q .address))) true ≡ false → (some ≡ true) × (skipped (functionAt k i first) ≡ false)
+        both : (b : Bool) → own .some ≡ b → cond b (cond (eqb (q .size) 0) true (ltb MAX (q .address))) true ≡ false → (own .some ≡ true) × (skipped (functionAt k i first) ≡ false)
         both true x g = (x, skip-is ∙ g)
         both false x g = absurd (true≢false g)
 
-        pub visit-ready : RowReady k (length s) base i first top × (calls + count * 2 ≤ base + top * 2) × (skipped (functionAt k i first) ≡ false)
-        visit-ready = (rw (own′ .top-is) ready, own′ .below, both some refl (sym f ∙ z) .1)
+        pub visit-ready : VisitReady k (length s) base (record { function = q; i = i; «first_line» = first }) own
+        visit-ready = record { is = e; ready = rw (is′ .top-is) ready; below = is′ .below; visited = both (own .some) refl (sym f ∙ z) .1 }
 
-        pub row-visits : (X : Setup) (w w′ : Words) (s′ : List ℕ) → ((a : ℕ) → RowLeft X k base i first top (ref a current ∷ refsAt s calls count) s s′ w w′)
-            → RowLeft X k base i first (topOf s (functionInColumns f64 f32 i .depth)) (callsOf s base (functionInColumns f64 f32 i .depth)) s s′ w w′
+        pub row-visits : (X : Setup) (w w′ : Words) (s′ : List ℕ) → ((a : ℕ) → RowLeft X k base i first (own .top) (calls-of s a (own .«call_locations»)) s s′ w w′)
+            → RowLeft X k base i first (topOf s (functionRow f64 f32 i .depth)) (callsOf s base (functionRow f64 f32 i .depth)) s s′ w w′
         row-visits X w w′ s′ g =
-            let x = own′ .first (both some refl (sym f ∙ z) .0) in
-            rw (← own′ .top-is, x .1) (g (x .0))
+            let x = is′ .first (both (own .some) refl (sym f ∙ z) .0) in
+            rw (← is′ .top-is, x .1) (g (x .0))
 
 -- ── The rows ──
 

@@ -93,63 +93,6 @@ fn function_word(functions: &[u32], s: &mut [u32], i: u32) {
     put(s, k, row.a);
 }
 
-// A step for function i. Later steps go on from what earlier ones left in scratch memory.
-fn look(
-    step: u32,
-    undecorate: bool,
-    string_bytes: &[u8],
-    strings: &[u32],
-    functions: &[u32],
-    ranges: &[u32],
-    s: &mut [u32],
-    functions64: &[u64],
-    functions32: &[u32],
-    text: &[u8],
-    i: u32,
-) {
-    match step {
-        0 => name_link(undecorate, strings, s, functions64, functions32, text, i),
-        1 => range_link(ranges, s, functions64, functions32, i),
-        2 => name_row(strings, s, i),
-        3 => name_bytes(string_bytes, s, i),
-        4 => function_link(functions, s, functions64, functions32, i),
-        _ => function_word(functions, s, i),
-    }
-}
-
-// A step for each of the first n functions.
-fn look_at_all(
-    step: u32,
-    undecorate: bool,
-    string_bytes: &[u8],
-    strings: &[u32],
-    functions: &[u32],
-    ranges: &[u32],
-    s: &mut [u32],
-    functions64: &[u64],
-    functions32: &[u32],
-    text: &[u8],
-    n: u32,
-) {
-    let mut i: u32 = 0;
-    while i < n {
-        look(
-            step,
-            undecorate,
-            string_bytes,
-            strings,
-            functions,
-            ranges,
-            s,
-            functions64,
-            functions32,
-            text,
-            i,
-        );
-        i += 1;
-    }
-}
-
 // At most eight functions are read ahead.
 fn few(n: usize) -> u32 {
     if n < 8 {
@@ -158,7 +101,7 @@ fn few(n: usize) -> u32 {
     8
 }
 
-// Six steps, each for all of these functions.
+// Six steps, each for all of these functions. Later steps go on from what earlier ones left in scratch memory.
 pub(crate) fn read_ahead(
     undecorate: bool,
     string_bytes: &[u8],
@@ -173,19 +116,19 @@ pub(crate) fn read_ahead(
     let n = few(functions64.len() / 2);
     let mut step: u32 = 0;
     while step < 6 {
-        look_at_all(
-            step,
-            undecorate,
-            string_bytes,
-            strings,
-            functions,
-            ranges,
-            s,
-            functions64,
-            functions32,
-            text,
-            n,
-        );
+        let mut next: u32 = 0;
+        while next < n {
+            let i = next;
+            next += 1;
+            match step {
+                0 => name_link(undecorate, strings, s, functions64, functions32, text, i),
+                1 => range_link(ranges, s, functions64, functions32, i),
+                2 => name_row(strings, s, i),
+                3 => name_bytes(string_bytes, s, i),
+                4 => function_link(functions, s, functions64, functions32, i),
+                _ => function_word(functions, s, i),
+            }
+        }
         step += 1;
     }
 }

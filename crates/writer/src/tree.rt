@@ -1,10 +1,12 @@
 // A tree call: `process_symbolic_functions`.
 use crate::ahead::read_ahead;
+use crate::lines::CallLocations;
 use crate::lines::process_lines;
-use crate::scratch::calls_at;
-use crate::scratch::gather;
-use crate::scratch::set_calls;
-use crate::scratch::word;
+use crate::stack::Pairs;
+use crate::stack::calls_at;
+use crate::stack::gather;
+use crate::stack::set_calls;
+use crate::stack::word;
 use raw::SourceLocation;
 use rows::FunctionRow;
 use steps::Indexed;
@@ -14,21 +16,22 @@ use steps::insert_end;
 use steps::insert_source_location;
 use steps::mark_end;
 ghost use mathlib.Core.Path.{_≡_};
-ghost use mathlib.Core.Bool.{Bool, true, false, cond};
-ghost use mathlib.Core.List.{List, [], _∷_, map};
-ghost use Prim.Native.Nat.{ℕ, _+_, _*_, _/_, _%_, _≤_, _<_};
+ghost use mathlib.Core.Bool.{Bool, true, cond};
+ghost use mathlib.Core.List.{List, []};
+ghost use Prim.Native.Nat.{ℕ, _+_, _*_, _%_, _≤_};
 ghost use lib.Dec.{eqb, ltb};
 ghost use lib.ListN.{length};
 ghost use Rattle.names.specs.Names.{undecorated};
-ghost use Rattle.model.specs.Rows.{MAX, skipped};
+ghost use Rattle.model.specs.Rows.{MAX};
 ghost use Rattle.model.specs.Rows.{FunctionRow as ModelRow};
-ghost use Rattle.model.specs.Machine.{entryM, closingM, convertM, startM};
-ghost use Rattle.model.specs.Converter.{Setup, input, deep};
-ghost use Rattle.rows.specs.Columns.{columns, functionInColumns, functionAt, textOf, treeRows};
-ghost use Rattle.rows.specs.Refusals.{firstLine, refusalOf};
+ghost use Rattle.model.specs.Machine.{entryM, closingM};
+ghost use Rattle.model.specs.Converter.{Setup, input};
+ghost use Rattle.rows.specs.Columns.{columns, textOf};
+ghost use Rattle.rows.specs.Refusals.{refusalOf};
 ghost use Rattle.steps.specs.Words.{words, gave, begin-named, over-words};
-ghost use Rattle.scratch.specs.Scratch.{refsAt, callsOf, topOf, kid-spans, LinesWithin};
-ghost use Rattle.writer.specs.Walk.{OwnCalls, Sorted, RowReady, RowLeft, ref};
+ghost use Rattle.scratch.specs.Scratch.{topOf, kid-spans};
+ghost use Rattle.writer.specs.Walk.{calls-of, OwnCalls, GatherReady, Sorted, InProgress, VisitReady};
+ghost use Rattle.writer.specs.Walk.{RowLeft, RowConverted, TreeConverted};
 ghost use Rattle.symbols.specs.Symbols.{switches};
 
 // Functions of size 0, and those whose address is too large for 32 bits, are skipped.
@@ -38,7 +41,7 @@ fn is_skipped(q: FunctionRow) -> bool
     if q.size == 0 {
         return true;
     }
-    4294967295 < q.address
+    q.address > u32::MAX as u64
 }
 
 // The end address, cut to 32 bits.
@@ -53,7 +56,7 @@ pub(crate) fn entry_pc(q: FunctionRow) -> u32
     ensures { λ r. ⌜ r ≡ cond (q .inline) MAX (q .address % 4294967296) ⌝ }
 {
     if q.inline {
-        return 4294967295;
+        return u32::MAX;
     }
     (q.address % 4294967296) as u32
 }
@@ -68,7 +71,12 @@ fn begin_row(
     text: &[u8],
     q: FunctionRow,
 ) -> Indexed
-    ensures { λ r. ⌜ ((f c n : List ℕ) → gave (r .index) (words (r .state) (now («string_bytes» .exit)) (now (strings .exit)) f (now (functions .exit)) c n) ≡ begin-named (cond undecorate (undecorated (textOf (now (text .entry)) (q .name))) (textOf (now (text .entry)) (q .name))) (cond (q .inline) MAX (q .address % 4294967296)) (q .language) (words state (now («string_bytes» .entry)) (now (strings .entry)) f (now (functions .entry)) c n)) ⌝ }
+    ensures { λ r. ⌜ ((f c n : List ℕ) →
+        let name = textOf (now (text .entry)) (q .name) in
+        let before = words state (now («string_bytes» .entry)) (now (strings .entry)) f (now (functions .entry)) c n in
+        let after = words (r .state) (now («string_bytes» .exit)) (now (strings .exit)) f (now (functions .exit)) c n in
+        gave (r .index) after
+        ≡ begin-named (cond undecorate (undecorated name) name) (cond (q .inline) MAX (q .address % 4294967296)) (q .language) before) ⌝ }
 {
     let part = q.name;
     let name = rows::part(text, part);
@@ -87,16 +95,20 @@ fn begin_row(
 
 // The bare minimum of information at a function's entry, if there isn't any.
 fn insert_entry(state: State, ranges: &mut [u32], q: FunctionRow, function_idx: u32) -> State
-    ensures { λ r. ⌜ ((X : Setup) (p : ModelRow) (x i f g c : List ℕ) → p .address ≡ q .address → p .inline ≡ q .inline → q .address ≤ MAX → words r x i f g c (now (ranges .exit)) ≡ entryM input (over-words X) p «function_idx» (words state x i f g c (now (ranges .entry)))) ⌝ }
+    ensures { λ r. ⌜ ((X : Setup) (p : ModelRow) (x i f g c : List ℕ) →
+        let before = words state x i f g c (now (ranges .entry)) in
+        let after = words r x i f g c (now (ranges .exit)) in
+        p .address ≡ q .address → p .inline ≡ q .inline → q .address ≤ MAX
+        → after ≡ entryM input (over-words X) p «function_idx» before) ⌝ }
 {
     if q.inline {
         return state;
     }
     let bare = SourceLocation {
-        file_idx: 4294967295,
+        file_idx: u32::MAX,
         line: 0,
         function_idx,
-        inlined_into_idx: 4294967295,
+        inlined_into_idx: u32::MAX,
     };
     let entry = (q.address % 4294967296) as u32;
     insert_source_location(state, ranges, entry, bare)
@@ -104,7 +116,11 @@ fn insert_entry(state: State, ranges: &mut [u32], q: FunctionRow, function_idx: 
 
 // After a function's own lines: its entry, the last end, and the empty mapping at its end.
 fn close_function(state: State, ranges: &mut [u32], q: FunctionRow, function_idx: u32) -> State
-    ensures { λ r. ⌜ ((X : Setup) (p : ModelRow) (x i f g c : List ℕ) → p .address ≡ q .address → p .size ≡ q .size → p .inline ≡ q .inline → q .address ≤ MAX → words r x i f g c (now (ranges .exit)) ≡ closingM input (over-words X) p «function_idx» (words state x i f g c (now (ranges .entry)))) ⌝ }
+    ensures { λ r. ⌜ ((X : Setup) (p : ModelRow) (x i f g c : List ℕ) →
+        let before = words state x i f g c (now (ranges .entry)) in
+        let after = words r x i f g c (now (ranges .exit)) in
+        p .address ≡ q .address → p .size ≡ q .size → p .inline ≡ q .inline → q .address ≤ MAX
+        → after ≡ closingM input (over-words X) p «function_idx» before) ⌝ }
 {
     let entered = insert_entry(state, ranges, q, function_idx);
     let end = function_end(q);
@@ -116,25 +132,25 @@ fn close_function(state: State, ranges: &mut [u32], q: FunctionRow, function_idx
 struct Own {
     // The pairs in use end here.
     top: usize,
+    // Whether there is one.
     some: bool,
-    // The first one, and where the others are, as pairs.
-    current: u32,
-    calls: usize,
-    count: usize,
+    call_locations: CallLocations,
 }
 
 // Those of depth 0 are no pairs but a value.
 fn own_calls(s: &[u32], base: usize, depth: u32) -> Own
     requires { ⌜ base + topOf (now s) depth * 2 ≤ length (now s) ⌝ }
-    ensures { λ r. ⌜ OwnCalls (now (s .entry)) base depth (r .top) (r .some) (r .current) (r .calls) (r .count) ⌝ }
+    ensures { λ r. ⌜ OwnCalls (now (s .entry)) base depth r ⌝ }
 {
+    let none = Pairs { at: 0, len: 0 };
     if depth == 0 {
         return Own {
             top: 0,
             some: true,
-            current: 4294967295,
-            calls: 0,
-            count: 0,
+            call_locations: CallLocations {
+                first: u32::MAX,
+                others: none,
+            },
         };
     }
     let c = calls_at(s, depth - 1);
@@ -145,19 +161,22 @@ fn own_calls(s: &[u32], base: usize, depth: u32) -> Own
         return Own {
             top,
             some: false,
-            current: 0,
-            calls: 0,
-            count: 0,
+            call_locations: CallLocations {
+                first: 0,
+                others: none,
+            },
         };
     }
     let at = base + start * 2;
-    let current = word(s, at + 1);
+    let first = word(s, at + 1);
+    let others = Pairs {
+        at: at + 2,
+        len: len - 1,
+    };
     Own {
         top,
         some: true,
-        current,
-        calls: at + 2,
-        count: len - 1,
+        call_locations: CallLocations { first, others },
     }
 }
 
@@ -173,8 +192,10 @@ fn sorted_ranges(
     first: usize,
     depth: u32,
 ) -> usize
-    requires { ⌜ (at + length (kid-spans (columns (now functions64) (now functions32) (now lines64) (now lines32) []) depth i first) * 2 ≤ length (now s)) × (i ≤ length (now functions64) / 2) × (depth < 65536) × (first ≡ firstLine (columns (now functions64) (now functions32) (now lines64) (now lines32) []) i) × LinesWithin (now functions64) (now functions32) (now lines64) ⌝ }
-    ensures { λ r. ⌜ Sorted at (kid-spans (columns (now (functions64 .entry)) (now (functions32 .entry)) (now (lines64 .entry)) (now (lines32 .entry)) []) depth i first) r (now (s .entry)) (now (s .exit)) ⌝ }
+    requires { ⌜ GatherReady (columns (now functions64) (now functions32) (now lines64) (now lines32) []) (length (now s)) at i first depth ⌝ }
+    ensures { λ r. ⌜ (
+        let k = columns (now (functions64 .entry)) (now (functions32 .entry)) (now (lines64 .entry)) (now (lines32 .entry)) [] in
+        Sorted at (kid-spans k depth i first) r (now (s .entry)) (now (s .exit))) ⌝ }
 {
     let spans = gather(
         s,
@@ -192,7 +213,14 @@ fn sorted_ranges(
     spans
 }
 
-// A function row that is visited: its first call location is `current`, `count` more are pairs from word `calls` on, and the pairs in use end at `top`.
+// A function row, its number, and its first line row.
+struct InProgressFunction {
+    function: FunctionRow,
+    i: usize,
+    first_line: usize,
+}
+
+// A function row that is visited.
 fn visit_row(
     undecorate: bool,
     state: State,
@@ -209,56 +237,64 @@ fn visit_row(
     lines32: &[u32],
     text: &[u8],
     base: usize,
-    i: usize,
-    first: usize,
-    current: u32,
-    calls: usize,
-    count: usize,
-    top: usize,
+    row: InProgressFunction,
+    own: Own,
 ) -> State
-    requires { ⌜ RowReady (columns (now functions64) (now functions32) (now lines64) (now lines32) (now text)) (length (now s)) base i first top × (calls + count * 2 ≤ base + top * 2) × (skipped (functionAt (columns (now functions64) (now functions32) (now lines64) (now lines32) (now text)) i first) ≡ false) ⌝ }
-    ensures { λ r. ⌜ ((Y : Bool) (a : ℕ) → RowLeft (switches undecorate Y) (columns (now (functions64 .entry)) (now (functions32 .entry)) (now (lines64 .entry)) (now (lines32 .entry)) (now (text .entry))) base i first top (ref a current ∷ refsAt (now (s .entry)) calls count) (now (s .entry)) (now (s .exit)) (words state (now («string_bytes» .entry)) (now (strings .entry)) (now (files .entry)) (now (functions .entry)) (now («call_locations» .entry)) (now (ranges .entry))) (words r (now («string_bytes» .exit)) (now (strings .exit)) (now (files .exit)) (now (functions .exit)) (now («call_locations» .exit)) (now (ranges .exit)))) ⌝ }
+    requires { ⌜ VisitReady (columns (now functions64) (now functions32) (now lines64) (now lines32) (now text)) (length (now s)) base row own ⌝ }
+    ensures { λ r. ⌜ ((Y : Bool) (a : ℕ) →
+        let k = columns (now (functions64 .entry)) (now (functions32 .entry)) (now (lines64 .entry)) (now (lines32 .entry)) (now (text .entry)) in
+        let before = words state (now («string_bytes» .entry)) (now (strings .entry)) (now (files .entry))
+        (now (functions .entry)) (now («call_locations» .entry)) (now (ranges .entry)) in
+        let after = words r (now («string_bytes» .exit)) (now (strings .exit)) (now (files .exit))
+        (now (functions .exit)) (now («call_locations» .exit)) (now (ranges .exit)) in
+        let calls = calls-of (now (s .entry)) a (own .«call_locations») in
+        RowLeft (switches undecorate Y) k base (row .i) (row .«first_line») (own .top) calls (now (s .entry)) (now (s .exit)) before after) ⌝ }
 {
-    let q = rows::function_row(functions64, functions32, i);
-    let at = base + top * 2;
-    let spans = sorted_ranges(
+    let function = row.function;
+    let at = base + own.top * 2;
+    let len = sorted_ranges(
         s,
         at,
         functions64,
         functions32,
         lines64,
         lines32,
-        i + 1,
-        first + q.lines as usize,
-        q.depth,
+        row.i + 1,
+        row.first_line + function.lines as usize,
+        function.depth,
     );
-    let function = begin_row(undecorate, state, string_bytes, strings, functions, text, q);
-    let begun = function.state;
+    let inlinee_ranges = Pairs { at, len };
+    let begun = begin_row(
+        undecorate,
+        state,
+        string_bytes,
+        strings,
+        functions,
+        text,
+        function,
+    );
+    let begun_state = begun.state;
+    let own_call_locations = own.call_locations;
     let lines = process_lines(
-        begun,
+        begun_state,
         string_bytes,
         strings,
         files,
         call_locations,
         ranges,
         s,
-        functions64,
-        functions32,
         lines64,
         lines32,
         text,
-        i,
-        first,
-        function.index,
-        current,
-        calls,
-        count,
-        at,
-        spans,
+        function,
+        row.first_line,
+        begun.index,
+        own_call_locations,
+        inlinee_ranges,
     );
     let walked = lines.state;
-    let closed = close_function(walked, ranges, q, function.index);
-    set_calls(s, q.depth, top, lines.calls);
+    let closed = close_function(walked, ranges, function, begun.index);
+    set_calls(s, function.depth, own.top, lines.callee_call_locations);
     closed
 }
 
@@ -272,7 +308,7 @@ fn is_passed_over(q: FunctionRow, some: bool) -> bool
     true
 }
 
-// Function row i, whose first line row is `first`; `base` is the word at which the pairs begin.
+// A function row; `base` is the word at which the pairs begin.
 fn process_row(
     undecorate: bool,
     state: State,
@@ -289,16 +325,21 @@ fn process_row(
     lines32: &[u32],
     text: &[u8],
     base: usize,
-    i: usize,
-    first: usize,
+    row: InProgressFunction,
 ) -> State
-    requires { ⌜ RowReady (columns (now functions64) (now functions32) (now lines64) (now lines32) (now text)) (length (now s)) base i first (topOf (now s) (functionInColumns (now functions64) (now functions32) i .depth)) ⌝ }
-    ensures { λ r. ⌜ ((Y : Bool) → RowLeft (switches undecorate Y) (columns (now (functions64 .entry)) (now (functions32 .entry)) (now (lines64 .entry)) (now (lines32 .entry)) (now (text .entry))) base i first (topOf (now (s .entry)) (functionInColumns (now (functions64 .entry)) (now (functions32 .entry)) i .depth)) (callsOf (now (s .entry)) base (functionInColumns (now (functions64 .entry)) (now (functions32 .entry)) i .depth)) (now (s .entry)) (now (s .exit)) (words state (now («string_bytes» .entry)) (now (strings .entry)) (now (files .entry)) (now (functions .entry)) (now («call_locations» .entry)) (now (ranges .entry))) (words r (now («string_bytes» .exit)) (now (strings .exit)) (now (files .exit)) (now (functions .exit)) (now («call_locations» .exit)) (now (ranges .exit)))) ⌝ }
+    requires { ⌜ InProgress (columns (now functions64) (now functions32) (now lines64) (now lines32) (now text)) (now s) base row ⌝ }
+    ensures { λ r. ⌜ ((Y : Bool) →
+        let k = columns (now (functions64 .entry)) (now (functions32 .entry)) (now (lines64 .entry)) (now (lines32 .entry)) (now (text .entry)) in
+        let before = words state (now («string_bytes» .entry)) (now (strings .entry)) (now (files .entry))
+        (now (functions .entry)) (now («call_locations» .entry)) (now (ranges .entry)) in
+        let after = words r (now («string_bytes» .exit)) (now (strings .exit)) (now (files .exit))
+        (now (functions .exit)) (now («call_locations» .exit)) (now (ranges .exit)) in
+        RowConverted (switches undecorate Y) k base row (now (s .entry)) (now (s .exit)) before after) ⌝ }
 {
-    let q = rows::function_row(functions64, functions32, i);
-    let own = own_calls(s, base, q.depth);
-    if is_passed_over(q, own.some) {
-        set_calls(s, q.depth, own.top, 0);
+    let function = row.function;
+    let own = own_calls(s, base, function.depth);
+    if is_passed_over(function, own.some) {
+        set_calls(s, function.depth, own.top, 0);
         return state;
     }
     visit_row(
@@ -317,12 +358,8 @@ fn process_row(
         lines32,
         text,
         base,
-        i,
-        first,
-        own.current,
-        own.calls,
-        own.count,
-        own.top,
+        row,
+        own,
     )
 }
 
@@ -344,14 +381,27 @@ fn process_rows(
     text: &[u8],
 ) -> State
     requires { ⌜ refusalOf (columns (now functions64) (now functions32) (now lines64) (now lines32) (now text)) (length (now s)) ≡ 0 ⌝ }
-    ensures { λ r. ⌜ ((Y : Bool) → words r (now («string_bytes» .exit)) (now (strings .exit)) (now (files .exit)) (now (functions .exit)) (now («call_locations» .exit)) (now (ranges .exit)) ≡ convertM input (over-words (switches undecorate Y)) (map deep (treeRows (columns (now (functions64 .entry)) (now (functions32 .entry)) (now (lines64 .entry)) (now (lines32 .entry)) (now (text .entry))))) (startM input (over-words (switches undecorate Y))) (words state (now («string_bytes» .entry)) (now (strings .entry)) (now (files .entry)) (now (functions .entry)) (now («call_locations» .entry)) (now (ranges .entry)))) ⌝ }
+    ensures { λ r. ⌜ ((Y : Bool) →
+        let k = columns (now (functions64 .entry)) (now (functions32 .entry)) (now (lines64 .entry)) (now (lines32 .entry)) (now (text .entry)) in
+        let before = words state (now («string_bytes» .entry)) (now (strings .entry)) (now (files .entry))
+        (now (functions .entry)) (now («call_locations» .entry)) (now (ranges .entry)) in
+        let after = words r (now («string_bytes» .exit)) (now (strings .exit)) (now (files .exit))
+        (now (functions .exit)) (now («call_locations» .exit)) (now (ranges .exit)) in
+        TreeConverted (switches undecorate Y) k before after) ⌝ }
 {
     let rows = functions64.len() / 2;
     let base = rows * 4;
     let mut now = state;
-    let mut first: usize = 0;
+    let mut first_line: usize = 0;
     let mut i: usize = 0;
     while i < rows {
+        let function = rows::function_row(functions64, functions32, i);
+        let lines = function.lines;
+        let row = InProgressFunction {
+            function,
+            i,
+            first_line,
+        };
         now = process_row(
             undecorate,
             now,
@@ -368,11 +418,9 @@ fn process_rows(
             lines32,
             text,
             base,
-            i,
-            first,
+            row,
         );
-        let q = rows::function_row(functions64, functions32, i);
-        first += q.lines as usize;
+        first_line += lines as usize;
         i += 1;
     }
     now
@@ -396,7 +444,13 @@ pub(crate) fn process_tree(
     text: &[u8],
 ) -> State
     requires { ⌜ refusalOf (columns (now functions64) (now functions32) (now lines64) (now lines32) (now text)) (length (now s)) ≡ 0 ⌝ }
-    ensures { λ r. ⌜ ((Y : Bool) → words r (now («string_bytes» .exit)) (now (strings .exit)) (now (files .exit)) (now (functions .exit)) (now («call_locations» .exit)) (now (ranges .exit)) ≡ convertM input (over-words (switches undecorate Y)) (map deep (treeRows (columns (now (functions64 .entry)) (now (functions32 .entry)) (now (lines64 .entry)) (now (lines32 .entry)) (now (text .entry))))) (startM input (over-words (switches undecorate Y))) (words state (now («string_bytes» .entry)) (now (strings .entry)) (now (files .entry)) (now (functions .entry)) (now («call_locations» .entry)) (now (ranges .entry)))) ⌝ }
+    ensures { λ r. ⌜ ((Y : Bool) →
+        let k = columns (now (functions64 .entry)) (now (functions32 .entry)) (now (lines64 .entry)) (now (lines32 .entry)) (now (text .entry)) in
+        let before = words state (now («string_bytes» .entry)) (now (strings .entry)) (now (files .entry))
+        (now (functions .entry)) (now («call_locations» .entry)) (now (ranges .entry)) in
+        let after = words r (now («string_bytes» .exit)) (now (strings .exit)) (now (files .exit))
+        (now (functions .exit)) (now («call_locations» .exit)) (now (ranges .exit)) in
+        TreeConverted (switches undecorate Y) k before after) ⌝ }
 {
     read_ahead(
         undecorate,
