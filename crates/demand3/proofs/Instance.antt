@@ -12,7 +12,7 @@ use lib.ListN.{replicate, getD}
 use Rattle.text.specs.Leb128.{encoded-in, encoded}
 use Rattle.text.specs.Utf8.{utf8, chars, charLen, UTF8-char, fits, within}
 use Rattle.names.specs.Names as names
-use Rattle.raw.specs.Bytes as bytes
+use Rattle.slices.specs.Bytes as bytes
 use Rattle.raw.specs.Head.{padding}
 use Rattle.raw.specs.Rows.{versionInfoBytes, headerBytes, fileBytes, functionBytes, locationBytes, rangeBytes, isNoSourceLocation}
 use Rattle.model.specs.Basics.{here, there, before, place, sort, intern}
@@ -28,14 +28,18 @@ use Rattle.rows.specs.Refusals.{each, total, lengths?, count?, depth?, shaped?,
 use Rattle.tables.specs.Table.{rowAt, linkAt, headAt, setRow, appendOf, overOf, bucketOf, walk, keyOf, sameRow, hashOf, hitAt, newestOf, lookupOf, insertAt, insertOf, capacityOf}
 use Rattle.tables.specs.Ranges.{getOf, replaceOf, putAt, putOf}
 use Rattle.tables.specs.Strings.{textCapacityOf, storedText, textSize, hashFrom, textHash, textRow, isText, textAt, newestText, findText, indexOf, fullOf, storeOf, insertTextAt, insertTextOf}
-use Rattle.tables.specs.Plain as plain
-use Rattle.steps.specs.Words.{Memory, fits?, store, add-function, add-file-row, add-call, put-range, store-six, locate-six, begin-named}
-use Rattle.writer.specs.Calls.{usable?, finished, beginOf, treeOf, symbolOf}
+use Rattle.table_laws.specs.Plain as plain
+use Rattle.memory.specs.Memory.{Memory}
+use Rattle.memory.specs.Record.{fits?}
+use Rattle.steps.specs.Steps.{store, add-function, add-file-row, add-call, put-range, store-six, locate-six, begin-named}
+use Rattle.memory.specs.declared.Converter.{Converter}
+use Rattle.memory.specs.Record.{usable?, beginOf}
+use Rattle.writer.specs.Calls.{finished, treeOf, symbolOf}
 use Rattle.serialize.specs.Sections.{file-row, function-row, call-row, entries, in-order, entry-location, location-row, start-row}
 use Rattle.serialize.specs.File.{Wrote, written-file, serializeOf}
 use Rattle.read_back.specs.Shown.{Shown, Found}
-use Rattle.demand3.specs.Lists.{Call, tree, symbol, write, Standing, givenTree, next, run, begun}
-use Rattle.demand3.specs.Demand3.{Premises, Reopened, file-of}
+use Rattle.demand3.specs.Lists.{Call, tree, symbol, write, Standing, givenTree, next, run, by-value, beginning}
+use Rattle.demand3.specs.Demand3.{Premises, Reopened, file-written}
 use Rattle.demand3.proofs.Claim.{demand3}
 use Rattle.demand3.proofs.Tests.{every?, some?, numbers, number-in, typed?, typed, asc?, row-well?, last-at?, holds?, inlinee-well?, disjoint?, apart?, rows-well?, nested?, not-in?, symbol-clear?, separate?, all-separate?, premises?, premises}
 
@@ -156,21 +160,21 @@ lent = record { text = replicate 31 7; strings = replicate 64 7; files = replica
 abbrev switches : Setup
 switches = record { functions-on = true; symbols-on = true }
 
-abbrev start : Standing
-start = begun id 5 true true lent
+abbrev start : Standing Converter
+start = beginning id 5 true true lent
 
 -- where the list stands at each write, and what is written
-abbrev first-stand : Standing
-first-stand = run first-calls start
+abbrev first-stand : Standing Converter
+first-stand = run by-value first-calls start
 
 abbrev first-written : Wrote
-first-written = serializeOf (first-stand .converter) (first-stand .memory) first-output
+first-written = serializeOf (first-stand .carrier) (first-stand .memory) first-output
 
-abbrev second-stand : Standing
-second-stand = run before-second start
+abbrev second-stand : Standing Converter
+second-stand = run by-value before-second start
 
 abbrev second-written : Wrote
-second-written = serializeOf (second-stand .converter) (second-stand .memory) second-output
+second-written = serializeOf (second-stand .carrier) (second-stand .memory) second-output
 
 -- ── The calls that count ──
 
@@ -226,7 +230,7 @@ pub record Computed : Type 0 where
   pub second-met : premises? second-counted ≡ true
 
 pub computed : Computed
-unfolding every? some? typed? numbers next run usable? finished beginOf treeOf symbolOf functionInColumns lineInColumns partOf lineAt linesFrom functionAt rowsFrom each total lengths? count? depth? shaped? inside? readable? optional? functionTexts? lineTexts? texts? end? ends? room? refusalOf utf8 chars charLen UTF8-char fits within names.starts-with names.special names.contains names.rfind names.digit names.digits names.value names.number names.parses names.sized names.cut names.prefixed names.undecorated before place sort advanceM set-atM kid-spansM unless-held put-end walkM loopM entryM closingM rowM convertM startM named-symbolM convert-symbolM isNoSourceLocation rowAt linkAt headAt setRow appendOf overOf bucketOf walk keyOf sameRow hashOf hitAt newestOf lookupOf insertAt insertOf capacityOf getOf replaceOf putAt putOf textCapacityOf encoded-in encoded storedText textSize hashFrom textHash textRow isText textAt newestText findText indexOf fullOf storeOf insertTextAt insertTextOf fits? store add-function add-file-row add-call put-range store-six locate-six begin-named serializeOf written-file versionInfoBytes headerBytes bytes.words bytes.le bytes.tableBytes file-row fileBytes function-row functionBytes call-row locationBytes location-row entry-location start-row rangeBytes padding in-order entries plain.rowsFrom inlinees asc? row-well? last-at? holds? inlinee-well? disjoint? apart? rows-well? nested? not-in? symbol-clear? separate? all-separate? premises?
+unfolding every? some? typed? numbers next run usable? finished beginOf treeOf symbolOf functionInColumns lineInColumns partOf lineAt linesFrom functionAt rowsFrom each total lengths? count? depth? shaped? inside? readable? optional? functionTexts? lineTexts? texts? end? ends? room? refusalOf utf8 chars charLen UTF8-char fits within names.starts-with names.special names.contains names.rfind names.digit names.digits names.value names.number names.parses names.sized names.cut names.prefixed names.undecorated before place sort advanceM set-atM kid-spansM unless-held put-end walkM loopM entryM closingM rowM convertM startM named-symbolM convert-symbolM isNoSourceLocation rowAt linkAt headAt setRow appendOf overOf bucketOf walk keyOf sameRow hashOf hitAt newestOf lookupOf insertAt insertOf capacityOf getOf replaceOf putAt putOf textCapacityOf encoded-in encoded storedText textSize hashFrom textHash textRow isText textAt newestText findText indexOf fullOf storeOf insertTextAt insertTextOf fits? store add-function add-file-row add-call put-range store-six locate-six begin-named serializeOf written-file versionInfoBytes headerBytes bytes.wordBytes bytes.le bytes.tableBytes file-row fileBytes function-row functionBytes call-row locationBytes location-row entry-location start-row rangeBytes padding in-order entries plain.rowsFrom inlinees asc? row-well? last-at? holds? inlinee-well? disjoint? apart? rows-well? nested? not-in? symbol-clear? separate? all-separate? premises?
 computed = record {
   words-typed = refl;
   answers = refl;
@@ -253,10 +257,10 @@ refused = record {
 -- ── What demand 3 gives ──
 
 abbrev first-file : List ℕ
-first-file = file-of first-written
+first-file = file-written first-written
 
 abbrev second-file : List ℕ
-second-file = file-of second-written
+second-file = file-written second-written
 
 -- both writes answer 0
 pub first-zero : first-written .code ≡ 0
@@ -337,7 +341,7 @@ pub record Elsewhere : Type 0 where
   pub second-1038 : (d : List ℕ) → Found second-file d 0x1038 []
 
 pub elsewhere : Elsewhere
-unfolding before place sort intern advanceM set-atM kid-spansM unless-held put-end walkM loopM entryM closingM rowM convertM startM named-symbolM convert-symbolM convert-opM runM model.store model.store-six model.range-at model.put-range model.begin-row model.locate-line model.begin-symbol model.locate-symbol model.enter-call callers frames-of better best frames-at utf8 chars charLen UTF8-char fits within names.starts-with names.special names.contains names.rfind names.digit names.digits names.value names.number names.parses names.sized names.cut names.prefixed names.undecorated
+unfolding before place sort intern advanceM set-atM kid-spansM unless-held put-end walkM loopM entryM closingM rowM convertM startM named-symbolM convert-symbolM convert-opM runM model.intern-text model.intern-six model.range-at model.range-put model.begin-row model.locate-line model.begin-symbol model.locate-symbol model.enter-call callers frames-of better best frames-at utf8 chars charLen UTF8-char fits within names.starts-with names.special names.contains names.rfind names.digit names.digits names.value names.number names.parses names.sized names.cut names.prefixed names.undecorated
 elsewhere = record {
   first-1029 = λ d. first-reopened .every-address d 0x1029;
   second-1010 = λ d. second-reopened .every-address d 0x1010;

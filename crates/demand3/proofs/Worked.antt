@@ -9,7 +9,7 @@ use native.Mathlib.Omega.{arith}
 use lib.ListN.{replicate, getD}
 use Rattle.text.specs.Leb128.{encoded-in, encoded}
 use Rattle.text.specs.Utf8.{utf8, chars, charLen, UTF8-char, fits, within}
-use Rattle.raw.specs.Bytes as bytes
+use Rattle.slices.specs.Bytes as bytes
 use Rattle.raw.specs.Head.{padding}
 use Rattle.raw.specs.Rows.{versionInfoBytes, headerBytes, fileBytes, functionBytes, locationBytes, rangeBytes, isNoSourceLocation}
 use Rattle.model.specs.Basics.{here, before, place, sort}
@@ -24,15 +24,19 @@ use Rattle.rows.proofs.Examples.{worked-columns}
 use Rattle.tables.specs.Table.{rowAt, linkAt, headAt, setRow, appendOf, overOf, bucketOf, walk, keyOf, sameRow, hashOf, hitAt, newestOf, lookupOf, insertAt, insertOf, capacityOf}
 use Rattle.tables.specs.Ranges.{getOf, replaceOf, putAt, putOf}
 use Rattle.tables.specs.Strings.{textCapacityOf, storedText, textSize, hashFrom, textHash, textRow, isText, textAt, newestText, findText, indexOf, fullOf, storeOf, insertTextAt, insertTextOf}
-use Rattle.tables.specs.Plain as plain
-use Rattle.steps.specs.Words.{Memory, fits?, store, add-function, add-file-row, add-call, put-range, store-six, locate-six, begin-named}
-use Rattle.writer.specs.Calls.{usable?, finished, beginOf, treeOf}
+use Rattle.table_laws.specs.Plain as plain
+use Rattle.memory.specs.Memory.{Memory}
+use Rattle.memory.specs.Record.{fits?}
+use Rattle.steps.specs.Steps.{store, add-function, add-file-row, add-call, put-range, store-six, locate-six, begin-named}
+use Rattle.memory.specs.declared.Converter.{Converter}
+use Rattle.memory.specs.Record.{usable?, beginOf}
+use Rattle.writer.specs.Calls.{finished, treeOf}
 use Rattle.serialize.specs.Sections.{file-row, function-row, call-row, entries, in-order, entry-location, location-row, start-row}
 use Rattle.serialize.specs.File.{Wrote, wrote, written-file, serializeOf}
-use Rattle.symcache.proofs.Worked as original
+use Rattle.read_back.proofs.WorkedBytes as original
 use Rattle.read_back.specs.Shown.{Shown, with-stand-in, Found}
-use Rattle.demand3.specs.Lists.{Call, tree, write, Standing, next, run, begun}
-use Rattle.demand3.specs.Demand3.{Premises, Reopened, file-of}
+use Rattle.demand3.specs.Lists.{Call, tree, write, Standing, next, run, by-value, beginning}
+use Rattle.demand3.specs.Demand3.{Premises, Reopened, file-written}
 use Rattle.demand3.proofs.Claim.{demand3}
 use Rattle.demand3.proofs.Tests.{every?, some?, numbers, typed?, typed, asc?, row-well?, last-at?, holds?, inlinee-well?, disjoint?, apart?, rows-well?, nested?, separate?, all-separate?, premises?, premises}
 
@@ -42,8 +46,8 @@ use Rattle.demand3.proofs.Tests.{every?, some?, numbers, typed?, typed,
 abbrev lent : Memory
 lent = record { text = replicate 25 7; strings = replicate 48 7; files = replicate 16 7; functions = replicate 16 7; calls = replicate 8 7; ranges = replicate 40 7 }
 
-abbrev start : Standing
-start = begun (replicate 32 0) 0 false false lent
+abbrev start : Standing Converter
+start = beginning (replicate 32 0) 0 false false lent
 
 abbrev one-tree : List Call
 one-tree = tree worked-columns (replicate 20 7) ∷ []
@@ -55,11 +59,11 @@ output = replicate 306 7
 abbrev calls : List Call
 calls = one-tree ++ (write output ∷ [])
 
-abbrev stands : Standing
-stands = run one-tree start
+abbrev stands : Standing Converter
+stands = run by-value one-tree start
 
 abbrev written : Wrote
-written = serializeOf (stands .converter) (stands .memory) output
+written = serializeOf (stands .carrier) (stands .memory) output
 
 -- ── What is computed ──
 
@@ -71,7 +75,7 @@ pub record Computed : Type 0 where
   pub met : premises? worked ≡ true
 
 pub computed : Computed
-unfolding every? some? typed? numbers next run usable? finished beginOf treeOf functionInColumns lineInColumns partOf lineAt linesFrom functionAt rowsFrom each total lengths? count? depth? shaped? inside? readable? optional? functionTexts? lineTexts? texts? end? ends? room? refusalOf utf8 chars charLen UTF8-char fits within before place sort advanceM set-atM kid-spansM unless-held put-end walkM loopM entryM closingM rowM convertM startM isNoSourceLocation rowAt linkAt headAt setRow appendOf overOf bucketOf walk keyOf sameRow hashOf hitAt newestOf lookupOf insertAt insertOf capacityOf getOf replaceOf putAt putOf textCapacityOf encoded-in encoded storedText textSize hashFrom textHash textRow isText textAt newestText findText indexOf fullOf storeOf insertTextAt insertTextOf fits? store add-function add-file-row add-call put-range store-six locate-six begin-named serializeOf written-file versionInfoBytes headerBytes bytes.words bytes.le bytes.tableBytes file-row fileBytes function-row functionBytes call-row locationBytes location-row entry-location start-row rangeBytes padding in-order entries plain.rowsFrom original.worked inlinees asc? row-well? last-at? holds? inlinee-well? disjoint? apart? rows-well? nested? separate? all-separate? premises?
+unfolding every? some? typed? numbers next run usable? finished beginOf treeOf functionInColumns lineInColumns partOf lineAt linesFrom functionAt rowsFrom each total lengths? count? depth? shaped? inside? readable? optional? functionTexts? lineTexts? texts? end? ends? room? refusalOf utf8 chars charLen UTF8-char fits within before place sort advanceM set-atM kid-spansM unless-held put-end walkM loopM entryM closingM rowM convertM startM isNoSourceLocation rowAt linkAt headAt setRow appendOf overOf bucketOf walk keyOf sameRow hashOf hitAt newestOf lookupOf insertAt insertOf capacityOf getOf replaceOf putAt putOf textCapacityOf encoded-in encoded storedText textSize hashFrom textHash textRow isText textAt newestText findText indexOf fullOf storeOf insertTextAt insertTextOf fits? store add-function add-file-row add-call put-range store-six locate-six begin-named serializeOf written-file versionInfoBytes headerBytes bytes.wordBytes bytes.le bytes.tableBytes file-row fileBytes function-row functionBytes call-row locationBytes location-row entry-location start-row rangeBytes padding in-order entries plain.rowsFrom original.worked inlinees asc? row-well? last-at? holds? inlinee-well? disjoint? apart? rows-well? nested? separate? all-separate? premises?
 computed = record { words-typed = refl; answers = refl; counted = refl; file = refl; met = refl }
 
 -- ── What demand 3 gives ──
@@ -80,8 +84,8 @@ computed = record { words-typed = refl; answers = refl; counted = refl; file = r
 pub reopened : Reopened plain-setup worked original.worked
 unfolding original.worked
 reopened =
-    subst (λ (f : List ℕ). Reopened plain-setup worked f) (ap file-of (computed .file))
-    (subst (λ (gs : List Given). Reopened plain-setup gs (file-of written)) (computed .counted)
+    subst (λ (f : List ℕ). Reopened plain-setup worked f) (ap file-written (computed .file))
+    (subst (λ (gs : List Given). Reopened plain-setup gs (file-written written)) (computed .counted)
     (demand3 (replicate 32 0) 0 false false lent calls refl (omega arith) (typed calls (computed .words-typed)) one-tree [] output refl (ap (λ (o : Wrote). o .code) (computed .file))))
 
 pub worked-premises : Premises worked

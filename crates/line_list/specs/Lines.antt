@@ -1,11 +1,12 @@
 -- Line rows as one lent list of rows: document 01, "First over plain number slices; then one thin entry takes the line rows as one lent list of rows". The words that a row is unpacked to, and the
 -- columns of numbers that a list of rows stands for.
-use mathlib.Core.Bool.{Bool, true, false, cond, _&&_}
+use mathlib.Core.Bool.{Bool, cond, _&&_}
 use mathlib.Core.List.{List, [], _∷_, _++_}
 use Prim.Native.Nat.{ℕ, suc, _*_, _/_}
 use lib.Dec.{eqb, ltb}
 use lib.ListN.{length, getD}
 use lib.Seq.{sets}
+use Rattle.slices.specs.Slices.{flagOf}
 use Rattle.rows.specs.Columns.{Columns, columns, lineFields}
 use Rattle.rows.specs.Refusals.{each, lineTexts?}
 use Rattle.rows.specs.declared.LineRow.{LineRow}
@@ -16,19 +17,15 @@ use Rattle.rows.specs.declared.LineRow.{LineRow}
 abbrev pub noLine : LineRow
 noLine = lineFields [] [] 0
 
-abbrev pub flag : Bool → ℕ
-flag true = 1
-flag false = 0
-
 abbrev pub words64 : LineRow → List ℕ
 words64 l = l .address ∷ l .size ∷ l .number ∷ []
 
 abbrev pub words32 : LineRow → List ℕ
 words32 l =
-    flag (l .«has_size») ∷ l .name .start ∷ l .name .len ∷ l .directory .start ∷ l .directory .len
-    ∷ flag (l .«srcsrv_name» .present) ∷ l .«srcsrv_name» .part .start ∷ l .«srcsrv_name» .part .len
-    ∷ flag (l .«srcsrv_dir» .present) ∷ l .«srcsrv_dir» .part .start ∷ l .«srcsrv_dir» .part .len
-    ∷ flag (l .revision .present) ∷ l .revision .part .start ∷ l .revision .part .len ∷ []
+    flagOf (l .«has_size») ∷ l .name .start ∷ l .name .len ∷ l .directory .start ∷ l .directory .len
+    ∷ flagOf (l .«srcsrv_name» .present) ∷ l .«srcsrv_name» .part .start ∷ l .«srcsrv_name» .part .len
+    ∷ flagOf (l .«srcsrv_dir» .present) ∷ l .«srcsrv_dir» .part .start ∷ l .«srcsrv_dir» .part .len
+    ∷ flagOf (l .revision .present) ∷ l .revision .part .start ∷ l .revision .part .len ∷ []
 
 -- ── All rows as columns ──
 

@@ -15,10 +15,11 @@ use Rattle.model.specs.Machine.{Machine, LoopedM, unless-held, put-end, loopM, 
 use Rattle.model.specs.Converter.{Setup, input}
 use Rattle.sorting.specs.Pairs.{pairWords, sortedOf}
 use Rattle.rows.specs.declared.FunctionRow.{FunctionRow as FunctionStruct}
-use Rattle.rows.specs.Columns.{Columns, columns, functionRows, lineRows, functionRow, functionStruct, functionAt, textOf}
+use Rattle.rows.specs.Columns.{Columns, columns, functionRows, lineRows, functionInColumns, functionStruct, functionAt, textOf}
 use Rattle.rows.proofs.RowLaws.{functionAt-lines, functionAt-skipped}
 use Rattle.rows.proofs.Accepted.{Accepted}
-use Rattle.steps.specs.Words.{Words, put-range, location, begin-named, over-words}
+use Rattle.memory.specs.Memory.{Words}
+use Rattle.steps.specs.Steps.{put-range, location, begin-named, over-words}
 use Rattle.steps.proofs.RowTexts.{begin-is}
 use Rattle.scratch.specs.Scratch.{pairsAt, ref-of, refsAt, startAt, lenAt, setCalls, callsOf, topOf, kid-spans, Lined, RowDone}
 use Rattle.scratch.proofs.Pairs.{pairs-kept}
@@ -152,16 +153,16 @@ module _ (f64 f32 l64 l32 t : List ℕ) (base i first : ℕ) where
 
   -- ── A row that is visited ──
 
-  module _ (size top : ℕ) (ready : RowReady k size base i first top) (q : FunctionStruct) (e : q ≡ functionRow f64 f32 i) where
+  module _ (size top : ℕ) (ready : RowReady k size base i first top) (q : FunctionStruct) (e : q ≡ functionInColumns f64 f32 i) where
     same-spans : kid-spans k₀ (q .depth) (i + 1) (first + q .lines) ≡ row-spans k i first
-    same-spans = rw e (sym (spans-text f64 f32 l64 l32 t (functionRow f64 f32 i .depth) (i + 1) (first + functionRow f64 f32 i .lines)))
+    same-spans = rw e (sym (spans-text f64 f32 l64 l32 t (functionInColumns f64 f32 i .depth) (i + 1) (first + functionInColumns f64 f32 i .lines)))
 
     pub gather-ready : GatherReady k₀ size (base + top * 2) (i + 1) (first + q .lines) (q .depth)
     gather-ready = record {
       room = rw same-spans (omega (arith, ready .room));
       inside = omega (arith, ready .inside);
       shallow = rw e (ready .shallow);
-      first-is = rw e (ap (λ (x : ℕ). x + functionRow f64 f32 i .lines) (ready .first-is) ∙ sym (first-line k i));
+      first-is = rw e (ap (λ (x : ℕ). x + functionInColumns f64 f32 i .lines) (ready .first-is) ∙ sym (first-line k i));
       within = ready .within;
     }
 
@@ -193,16 +194,16 @@ module _ (f64 f32 l64 l32 t : List ℕ) (base i first : ℕ) where
           let d′ : Lined (base + top * 2) (length (row-spans k i first)) (loopM input (over-words X) (functionAt k i first) fi (functionAt k i first .lines) (calls .first) (refsAt s₂ at len) (pairsAt s₂ (base + top * 2) (length (row-spans k i first))) 0 w₁) s₂ s₃ w₃ m =
           rw (functionAt-lines k i first) (rw (o′ .count) at d) in
           rw (c, y, e)
-          (row-done (over-words X) (functionAt k i first) (row-spans k i first) base (functionRow f64 f32 i .depth) top at len (calls .first) s s₂ s₃ w w₁ w₃ fi m n o′ z h (ready .low) (omega (arith, ready .room)) b′ d′ a)
+          (row-done (over-words X) (functionAt k i first) (row-spans k i first) base (functionInColumns f64 f32 i .depth) top at len (calls .first) s s₂ s₃ w w₁ w₃ fi m n o′ z h (ready .low) (omega (arith, ready .room)) b′ d′ a)
 
   -- ── A row, visited or not ──
 
-  module _ (s : List ℕ) (ready : RowReady k (length s) base i first (topOf s (functionRow f64 f32 i .depth))) (q : FunctionStruct) (e : q ≡ functionRow f64 f32 i) where
+  module _ (s : List ℕ) (ready : RowReady k (length s) base i first (topOf s (functionInColumns f64 f32 i .depth))) (q : FunctionStruct) (e : q ≡ functionInColumns f64 f32 i) where
     pub own-ready : base + topOf s (q .depth) * 2 ≤ length s
     own-ready = rw e (omega (arith, ready .room))
 
     module _ (own : Own) (is : OwnCalls s base (q .depth) own) (flag : Bool) (f : flag ≡ cond (own .some) (cond (eqb (q .size) 0) true (ltb MAX (q .address))) true) where
-      is′ : OwnCalls s base (functionRow f64 f32 i .depth) own
+      is′ : OwnCalls s base (functionInColumns f64 f32 i .depth) own
       is′ = rw e at is
 
       skip-is : skipped (functionAt k i first) ≡ cond (eqb (q .size) 0) true (ltb MAX (q .address))
@@ -210,14 +211,14 @@ module _ (f64 f32 l64 l32 t : List ℕ) (base i first : ℕ) where
 
       -- "No call location made", or skipped
       pub row-passed : (X : Setup) (w : Words) (s′ : List ℕ) → flag ≡ true → s′ ≡ setCalls s (q .depth) (own .top) 0
-          → RowLeft X k base i first (topOf s (functionRow f64 f32 i .depth)) (callsOf s base (functionRow f64 f32 i .depth)) s s′ w w
+          → RowLeft X k base i first (topOf s (functionInColumns f64 f32 i .depth)) (callsOf s base (functionInColumns f64 f32 i .depth)) s s′ w w
       row-passed X w s′ z y =
           rw (y, e, is′ .top-is)
-          (passed-over base (functionRow f64 f32 i .depth) (topOf s (functionRow f64 f32 i .depth)) (length (row-spans k i first)) (ready .low) s _ w (omega (arith, ready .room)) (go (own .some) refl (sym f ∙ z)))
+          (passed-over base (functionInColumns f64 f32 i .depth) (topOf s (functionInColumns f64 f32 i .depth)) (length (row-spans k i first)) (ready .low) s _ w (omega (arith, ready .room)) (go (own .some) refl (sym f ∙ z)))
         where
           go : (b : Bool) → own .some ≡ b → cond b (cond (eqb (q .size) 0) true (ltb MAX (q .address))) true ≡ true
-              → rowM input (over-words X) (functionAt k i first) (row-spans k i first) (callsOf s base (functionRow f64 f32 i .depth)) w ≡ record { state = w; calls = [] }
-          go true x g = row-skipped input (over-words X) (functionAt k i first) (row-spans k i first) w (callsOf s base (functionRow f64 f32 i .depth)) (skip-is ∙ g)
+              → rowM input (over-words X) (functionAt k i first) (row-spans k i first) (callsOf s base (functionInColumns f64 f32 i .depth)) w ≡ record { state = w; calls = [] }
+          go true x g = row-skipped input (over-words X) (functionAt k i first) (row-spans k i first) w (callsOf s base (functionInColumns f64 f32 i .depth)) (skip-is ∙ g)
           go false x g = rw (is′ .none x) (row-empty input (over-words X) (functionAt k i first) (row-spans k i first) w)
 
       module _ (z : flag ≡ false) where
@@ -229,7 +230,7 @@ module _ (f64 f32 l64 l32 t : List ℕ) (base i first : ℕ) where
         visit-ready = record { is = e; ready = rw (is′ .top-is) ready; below = is′ .below; visited = both (own .some) refl (sym f ∙ z) .1 }
 
         pub row-visits : (X : Setup) (w w′ : Words) (s′ : List ℕ) → ((a : ℕ) → RowLeft X k base i first (own .top) (calls-of s a (own .«call_locations»)) s s′ w w′)
-            → RowLeft X k base i first (topOf s (functionRow f64 f32 i .depth)) (callsOf s base (functionRow f64 f32 i .depth)) s s′ w w′
+            → RowLeft X k base i first (topOf s (functionInColumns f64 f32 i .depth)) (callsOf s base (functionInColumns f64 f32 i .depth)) s s′ w w′
         row-visits X w w′ s′ g =
             let x = is′ .first (both (own .some) refl (sym f ∙ z) .0) in
             rw (← is′ .top-is, x .1) (g (x .0))

@@ -1,8 +1,10 @@
 // A function's lines.
-use crate::scratch::set_word;
-use crate::scratch::word;
+use crate::stack::Pairs;
+use slices::put;
+use slices::word;
 use raw::SourceLocation;
-use steps::State;
+use rows::FunctionRow;
+use memory::State;
 use steps::comp_dir_part;
 use steps::insert_call_location;
 use steps::insert_range;
@@ -10,128 +12,89 @@ use steps::locate_line;
 ghost use mathlib.Core.Path.{_≡_};
 ghost use mathlib.Core.Bool.{cond};
 ghost use mathlib.Core.List.{List};
-ghost use Prim.Native.Nat.{ℕ, _+_, _*_, _-_, _/_, _≤_, _<_};
+ghost use Prim.Native.Nat.{ℕ, _+_, _*_, _/_, _≤_};
 ghost use lib.Dec.{ltb};
 ghost use lib.ListN.{length};
-ghost use Rattle.model.specs.Machine.{advanceM, loopM};
-ghost use Rattle.model.specs.Converter.{Setup, input};
-ghost use Rattle.rows.specs.Columns.{columns, functionInColumns, functionAt, linesFrom};
-ghost use Rattle.steps.specs.Words.{words, put-range, over-words};
-ghost use Rattle.scratch.specs.Scratch.{pairsAt, refsAt, turned, turn, Lined};
-ghost use Rattle.writer.specs.Walk.{cursor};
+ghost use Rattle.model.specs.Machine.{advanceM};
+ghost use Rattle.model.specs.Converter.{Setup};
+ghost use Rattle.rows.specs.Columns.{columns, functionInColumns};
+ghost use Rattle.memory.specs.Memory.{words};
+ghost use Rattle.steps.specs.Steps.{put-range};
+ghost use Rattle.writer.specs.Walk.{refs-from, cursor-at, LinesReady, LinesLeft};
 
-// Where the walk over the call locations stands: the current one, and how many of those after it are passed.
-pub(crate) struct Current {
-    pub idx: u32,
-    pub passed: usize,
+// The call locations of a function: the number of the first one, and the others as pairs of address and number.
+pub(crate) struct CallLocations {
+    pub first: u32,
+    pub others: Pairs,
 }
 
-// Finds the call location for a line that starts at `start`, among `count` pairs from word `at` on.
-fn find_call_location(s: &[u32], at: usize, count: usize, current: Current, start: u32) -> Current
-    requires { ⌜ (at + count * 2 ≤ length (now s)) × (current .passed ≤ count) ⌝ }
-    ensures { λ r. ⌜ (r .passed ≤ count) × (advanceM start (current .idx) (refsAt (now (s .entry)) (at + current .passed * 2) (count - current .passed)) ≡ cursor (r .idx) (refsAt (now (s .entry)) (at + r .passed * 2) (count - r .passed))) ⌝ }
+// Where the walk over them stands: the number of the current one, and which of the others is next.
+pub(crate) struct CallLocationIter {
+    pub current_call_location: u32,
+    pub next_call_location: usize,
+}
+
+// Finds the call location for a line that starts at `line_range_start`.
+fn find_call_location(
+    s: &[u32],
+    others: Pairs,
+    iter: CallLocationIter,
+    line_range_start: u32,
+) -> CallLocationIter
+    requires { ⌜ (others .at + others .len * 2 ≤ length (now s)) × (iter .«next_call_location» ≤ others .len) ⌝ }
+    ensures { λ r. ⌜ (
+        let left = refs-from (now (s .entry)) others (iter .«next_call_location») in
+        (r .«next_call_location» ≤ others .len)
+        × (advanceM «line_range_start» (iter .«current_call_location») left ≡ cursor-at (now (s .entry)) others r)) ⌝ }
 {
-    let mut idx = current.idx;
-    let mut passed = current.passed;
-    while passed < count {
-        let k = at + passed * 2;
-        if start < word(s, k) {
-            return Current { idx, passed };
+    let at = others.at;
+    let len = others.len;
+    let mut current_call_location = iter.current_call_location;
+    let mut next_call_location = iter.next_call_location;
+    while next_call_location < len {
+        let k = at + next_call_location * 2;
+        if line_range_start < word(s, k) {
+            return CallLocationIter {
+                current_call_location,
+                next_call_location,
+            };
         }
-        idx = word(s, k + 1);
-        passed += 1;
+        current_call_location = word(s, k + 1);
+        next_call_location += 1;
     }
-    Current { idx, passed }
+    CallLocationIter {
+        current_call_location,
+        next_call_location,
+    }
 }
 
-// A line's own range, where the walk stands before the next inlinee range.
+// "insert_range", if the address is not covered by the next inlinee range, which starts at `inline_start`.
 fn insert_self_range(
     state: State,
     ranges: &mut [u32],
-    address: u32,
-    next: u32,
-    location: SourceLocation,
+    current_address: u32,
+    inline_start: u32,
+    source_location: SourceLocation,
 ) -> State
-    ensures { λ r. ⌜ ((x i f g c : List ℕ) → words r x i f g c (now (ranges .exit)) ≡ cond (ltb address next) (put-range address location (words state x i f g c (now (ranges .entry)))) (words state x i f g c (now (ranges .entry)))) ⌝ }
+    ensures { λ r. ⌜ ((x i f g c : List ℕ) →
+        let before = words state x i f g c (now (ranges .entry)) in
+        let after = words r x i f g c (now (ranges .exit)) in
+        after ≡ cond (ltb «current_address» «inline_start») (put-range «current_address» «source_location» before) before) ⌝ }
 {
-    if address < next {
-        return insert_range(state, ranges, address, location);
+    if current_address < inline_start {
+        return insert_range(state, ranges, current_address, source_location);
     }
     state
 }
 
-// What a turn of the inner walk leaves: how many inlinee ranges are taken, the address at which it stands, and whether it stopped there.
-pub(crate) struct Turn {
-    pub state: State,
-    pub taken: usize,
-    pub address: u32,
-    pub done: bool,
-}
-
-// One turn of the walk over the inlinee ranges (`count` pairs from word `at` on) of a line that ends at `end`. A range that the line covers becomes a call location.
-fn take_turn(
-    state: State,
-    call_locations: &mut [u32],
-    ranges: &mut [u32],
-    s: &mut [u32],
-    at: usize,
-    count: usize,
-    taken: usize,
-    address: u32,
-    end: u32,
-    location: SourceLocation,
-) -> Turn
-    requires { ⌜ at + count * 2 ≤ length (now s) ⌝ }
-    ensures { λ r. ⌜ ((X : Setup) (x i f g : List ℕ) → turned (words (r .state) x i f g (now («call_locations» .exit)) (now (ranges .exit))) (now (s .exit)) (r .taken) (r .address) (r .done) ≡ turn (over-words X) location end at count taken address (now (s .entry)) (words state x i f g (now («call_locations» .entry)) (now (ranges .entry)))) ⌝ }
-{
-    if end <= address {
-        return Turn {
-            state,
-            taken,
-            address,
-            done: true,
-        };
-    }
-    if count <= taken {
-        let last = insert_range(state, ranges, address, location);
-        return Turn {
-            state: last,
-            taken,
-            address: end,
-            done: true,
-        };
-    }
-    let k = at + taken * 2;
-    let start = word(s, k);
-    let next = insert_self_range(state, ranges, address, start, location);
-    if end <= start {
-        return Turn {
-            state: next,
-            taken,
-            address: end,
-            done: true,
-        };
-    }
-    let stop = word(s, k + 1);
-    let call = insert_call_location(next, call_locations, location);
-    let after = call.state;
-    set_word(s, k + 1, call.index);
-    Turn {
-        state: after,
-        taken: taken + 1,
-        address: stop,
-        done: false,
-    }
-}
-
-// What the loop over the lines leaves: how many inlinee ranges became call locations.
+// What the loop over the lines leaves: the first `callee_call_locations` of the inlinee ranges became call locations for the inlinees.
 pub(crate) struct Lines {
     pub state: State,
-    pub calls: usize,
+    pub callee_call_locations: usize,
 }
 
-// The lines of function row i, whose first line row is `first`. Its own call location is `current`, and `count` more are pairs from word `calls` on. Its inlinee ranges are `spans`
-// pairs from word `at` on.
+// The lines of a function, whose first line row is `first_line`. Its inlinee ranges are pairs of start and end, sorted by start;
+// each that a line covers becomes a pair of start and call location.
 pub(crate) fn process_lines(
     state: State,
     string_bytes: &mut [u8],
@@ -140,82 +103,160 @@ pub(crate) fn process_lines(
     call_locations: &mut [u32],
     ranges: &mut [u32],
     s: &mut [u32],
-    functions64: &[u64],
-    functions32: &[u32],
     lines64: &[u64],
     lines32: &[u32],
     text: &[u8],
-    i: usize,
-    first: usize,
+    function: FunctionRow,
+    first_line: usize,
     function_idx: u32,
-    current: u32,
-    calls: usize,
-    count: usize,
-    at: usize,
-    spans: usize,
+    own: CallLocations,
+    inlinee_ranges: Pairs,
 ) -> Lines
-    requires { ⌜ (at + spans * 2 ≤ length (now s)) × (calls + count * 2 ≤ at) × (first + functionInColumns (now functions64) (now functions32) i .lines ≤ length (now lines64) / 3) ⌝ }
-    ensures { λ r. ⌜ ((X : Setup) (g : List ℕ) → Lined at spans (loopM input (over-words X) (functionAt (columns (now (functions64 .entry)) (now (functions32 .entry)) (now (lines64 .entry)) (now (lines32 .entry)) (now (text .entry))) i first) «function_idx» (linesFrom (columns (now (functions64 .entry)) (now (functions32 .entry)) (now (lines64 .entry)) (now (lines32 .entry)) (now (text .entry))) first (functionInColumns (now (functions64 .entry)) (now (functions32 .entry)) i .lines)) current (refsAt (now (s .entry)) calls count) (pairsAt (now (s .entry)) at spans) 0 (words state (now («string_bytes» .entry)) (now (strings .entry)) (now (files .entry)) g (now («call_locations» .entry)) (now (ranges .entry)))) (now (s .entry)) (now (s .exit)) (words (r .state) (now («string_bytes» .exit)) (now (strings .exit)) (now (files .exit)) g (now («call_locations» .exit)) (now (ranges .exit))) (r .calls)) ⌝ }
+    requires { ⌜ LinesReady function «first_line» own «inlinee_ranges» (length (now lines64) / 3) (length (now s)) ⌝ }
+    ensures { λ r. ⌜ ((X : Setup) (f64 f32 g : List ℕ) (i : ℕ) → function ≡ functionInColumns f64 f32 i →
+        let k = columns f64 f32 (now (lines64 .entry)) (now (lines32 .entry)) (now (text .entry)) in
+        let before = words state (now («string_bytes» .entry)) (now (strings .entry)) (now (files .entry)) g
+        (now («call_locations» .entry)) (now (ranges .entry)) in
+        let after = words (r .state) (now («string_bytes» .exit)) (now (strings .exit)) (now (files .exit)) g
+        (now («call_locations» .exit)) (now (ranges .exit)) in
+        let made = r .«callee_call_locations» in
+        LinesLeft X k i «first_line» «function_idx» own «inlinee_ranges» (now (s .entry)) (now (s .exit)) before after made) ⌝ }
 {
-    let q = rows::function_row(functions64, functions32, i);
-    let comp_dir = comp_dir_part(text, q.comp_dir);
-    let lines = q.lines;
-    let mut now = state;
-    let mut call = Current {
-        idx: current,
-        passed: 0,
+    let comp_dir = comp_dir_part(text, function.comp_dir);
+    let lines = function.lines;
+    let others = own.others;
+    let inline_at = inlinee_ranges.at;
+    let inline_len = inlinee_ranges.len;
+
+    // Walk three iterators. All of these are already sorted by address.
+    let mut next_line: u32 = 0;
+    let mut call_location_iter = CallLocationIter {
+        current_call_location: own.first,
+        next_call_location: 0,
     };
-    let mut taken: usize = 0;
-    let mut below: u32 = 0;
-    let mut j: u32 = 0;
-    while j < lines {
-        let line = rows::line_row(lines64, lines32, first + j as usize);
-        let b = rows::line_boundaries(line.address, line.has_size, line.size);
-        let start = b.start;
-        let end = b.end;
-        let cut = (line.address % 4294967296) as u32;
-        if below <= cut {
-            call = find_call_location(s, calls, count, call, start);
-            let located = locate_line(
-                now,
-                string_bytes,
-                strings,
-                files,
-                text,
-                comp_dir,
-                line,
-                function_idx,
-                call.idx,
-            );
-            now = located.state;
-            let location = located.location;
-            let mut address = start;
-            let stop = loop {
-                let t = take_turn(
-                    now,
-                    call_locations,
-                    ranges,
-                    s,
-                    at,
-                    spans,
-                    taken,
-                    address,
-                    end,
-                    location,
-                );
-                now = t.state;
-                taken = t.taken;
-                address = t.address;
-                if t.done {
-                    break address;
-                }
-            };
-            below = stop;
+    let mut next_inline: usize = 0;
+
+    let mut now = state;
+    let mut current_address: u32 = 0;
+
+    // Iterate over the line records.
+    while next_line < lines {
+        let line = rows::line_row(lines64, lines32, first_line + next_line as usize);
+        next_line += 1;
+        let line_range = rows::line_boundaries(line.address, line.has_size, line.size);
+        let line_range_start = line_range.start;
+        let line_range_end = line_range.end;
+
+        // Skip any lines that start before current_address.
+        // Such lines can exist if the debug information is faulty, or if the compiler created
+        // multiple identical small "call line" records instead of one combined record
+        // covering the entire inlinee range. We can't have different "call lines" for a single
+        // inlinee range anyway, so it's fine to skip these.
+        let address = (line.address % 4294967296) as u32;
+        if address < current_address {
+            continue;
         }
-        j += 1;
+
+        // Find the call location for this line.
+        call_location_iter = find_call_location(s, others, call_location_iter, line_range_start);
+        let located = locate_line(
+            now,
+            string_bytes,
+            strings,
+            files,
+            text,
+            comp_dir,
+            line,
+            function_idx,
+            call_location_iter.current_call_location,
+        );
+        now = located.state;
+        let source_location = located.location;
+
+        // The current line can be a "self line", or a "call line", or even a mixture.
+        //
+        // Examples:
+        //
+        //  a) Just self line:
+        //      Line:            |==============|
+        //      Inlinee ranges:  (none)
+        //
+        //      Effect: insert_range
+        //
+        //  b) Just call line:
+        //      Line:            |==============|
+        //      Inlinee ranges:  |--------------|
+        //
+        //      Effect: make_call_location
+        //
+        //  c) Just call line, for multiple inlined calls:
+        //      Line:            |==========================|
+        //      Inlinee ranges:  |----------||--------------|
+        //
+        //      Effect: make_call_location, make_call_location
+        //
+        //  d) Call line and trailing self line:
+        //      Line:            |==================|
+        //      Inlinee ranges:  |-----------|
+        //
+        //      Effect: make_call_location, insert_range
+        //
+        //  e) Leading self line and also call line:
+        //      Line:            |==================|
+        //      Inlinee ranges:         |-----------|
+        //
+        //      Effect: insert_range, make_call_location
+        //
+        //  f) Interleaving
+        //      Line:            |======================================|
+        //      Inlinee ranges:         |-----------|    |-------|
+        //
+        //      Effect: insert_range, make_call_location, insert_range, make_call_location, insert_range
+        //
+        //  g) Bad debug info
+        //      Line:            |=======|
+        //      Inlinee ranges:  |-------------|
+        //
+        //      Effect: make_call_location
+
+        current_address = line_range_start;
+        current_address = loop {
+            if line_range_end <= current_address {
+                break current_address;
+            }
+
+            if inline_len <= next_inline {
+                // "insert_range"
+                now = insert_range(now, ranges, current_address, source_location);
+                break line_range_end;
+            }
+
+            // Emit our source location at current_address if current_address is not covered by an inlinee.
+            let k = inline_at + next_inline * 2;
+            let inline_start = word(s, k);
+            now = insert_self_range(now, ranges, current_address, inline_start, source_location);
+
+            // No further inlinee ranges are overlapping with this line record. Advance to the
+            // end of the line record.
+            if line_range_end <= inline_start {
+                break line_range_end;
+            }
+
+            // There is an inlinee range covered by this line record: turn this line into that
+            // call's "call line". Make a call location for it and store it in the range's place.
+            // "make_call_location"
+            let inline_end = word(s, k + 1);
+            let call_location = insert_call_location(now, call_locations, source_location);
+            now = call_location.state;
+            put(s, k + 1, call_location.index);
+
+            // Advance current_address to the end of this inlinee range.
+            current_address = inline_end;
+            next_inline += 1;
+        };
     }
     Lines {
         state: now,
-        calls: taken,
+        callee_call_locations: next_inline,
     }
 }

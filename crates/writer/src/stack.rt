@@ -5,31 +5,14 @@
 ghost use mathlib.Core.Path.{_≡_};
 ghost use mathlib.Core.List.{List, []};
 ghost use Prim.Native.Nat.{ℕ, _+_, _*_, _/_, _≤_};
-ghost use lib.ListN.{length, getD, set};
+ghost use lib.ListN.{length, set};
 ghost use lib.Seq.{sets};
 ghost use Rattle.sorting.specs.Pairs.{pairWords};
 ghost use Rattle.rows.specs.Columns.{columns};
 ghost use Rattle.scratch.specs.Scratch.{startAt, lenAt, setCalls, line-spans, kid-spans};
 ghost use Rattle.writer.specs.Walk.{GatherReady};
-
-// The word at j, 0 past the end.
-pub(crate) fn word(s: &[u32], j: usize) -> u32
-    ensures { λ r. ⌜ r ≡ getD (now (s .entry)) j 0 ⌝ }
-{
-    if j < s.len() {
-        return s[j];
-    }
-    0
-}
-
-// The word at j becomes v; past the end nothing changes.
-pub(crate) fn set_word(s: &mut [u32], j: usize, v: u32)
-    ensures { λ _. ⌜ now (s .exit) ≡ set (now (s .entry)) j v ⌝ }
-{
-    if j < s.len() {
-        s[j] = v;
-    }
-}
+use slices::put;
+use slices::word;
 
 // Pairs of words: `len` of them, from word `at` on.
 pub(crate) struct Pairs {
@@ -63,10 +46,10 @@ pub(crate) fn set_calls(s: &mut [u32], d: u32, start: usize, len: usize)
     ensures { λ _. ⌜ now (s .exit) ≡ setCalls (now (s .entry)) d start len ⌝ }
 {
     let k = (d as usize) * 4;
-    set_word(&mut *s, k, (start % 4294967296) as u32);
-    set_word(&mut *s, k + 1, (start / 4294967296) as u32);
-    set_word(&mut *s, k + 2, (len % 4294967296) as u32);
-    set_word(&mut *s, k + 3, (len / 4294967296) as u32);
+    put(&mut *s, k, (start % 4294967296) as u32);
+    put(&mut *s, k + 1, (start / 4294967296) as u32);
+    put(&mut *s, k + 2, (len % 4294967296) as u32);
+    put(&mut *s, k + 3, (len / 4294967296) as u32);
 }
 
 // The boundaries of `count` line rows from row `first` on, as pairs from word `at` on.
@@ -81,8 +64,8 @@ fn push_lines(s: &mut [u32], at: usize, lines64: &[u64], lines32: &[u32], first:
         let k = i as usize;
         let line = rows::line_row(lines64, lines32, first + k);
         let b = rows::line_boundaries(line.address, line.has_size, line.size);
-        set_word(&mut *s, at + k * 2, b.start);
-        set_word(&mut *s, at + k * 2 + 1, b.end);
+        put(&mut *s, at + k * 2, b.start);
+        put(&mut *s, at + k * 2 + 1, b.end);
         i += 1;
     }
 }

@@ -6,11 +6,11 @@ use crate::stack::Pairs;
 use crate::stack::calls_at;
 use crate::stack::gather;
 use crate::stack::set_calls;
-use crate::stack::word;
+use slices::word;
 use raw::SourceLocation;
 use rows::FunctionRow;
 use steps::Indexed;
-use steps::State;
+use memory::State;
 use steps::begin_function;
 use steps::insert_end;
 use steps::insert_source_location;
@@ -28,11 +28,12 @@ ghost use Rattle.model.specs.Machine.{entryM, closingM};
 ghost use Rattle.model.specs.Converter.{Setup, input};
 ghost use Rattle.rows.specs.Columns.{columns, textOf};
 ghost use Rattle.rows.specs.Refusals.{refusalOf};
-ghost use Rattle.steps.specs.Words.{words, gave, begin-named, over-words};
+ghost use Rattle.memory.specs.Memory.{words};
+ghost use Rattle.steps.specs.Steps.{gave, begin-named, over-words};
 ghost use Rattle.scratch.specs.Scratch.{topOf, kid-spans};
 ghost use Rattle.writer.specs.Walk.{calls-of, OwnCalls, GatherReady, Sorted, InProgress, VisitReady};
 ghost use Rattle.writer.specs.Walk.{RowLeft, RowConverted, TreeConverted};
-ghost use Rattle.symbols.specs.Symbols.{switches};
+ghost use Rattle.steps.specs.Symbols.{switches};
 
 // Functions of size 0, and those whose address is too large for 32 bits, are skipped.
 fn is_skipped(q: FunctionRow) -> bool
