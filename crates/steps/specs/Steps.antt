@@ -17,6 +17,7 @@ use Rattle.raw.specs.declared.SourceLocation.{SourceLocation}
 use Rattle.tables.specs.Table.{insertOf}
 use Rattle.tables.specs.Ranges.{rangeRow, getOf, putOf}
 use Rattle.tables.specs.Strings.{insertTextOf}
+use Rattle.tables.specs.Kinds.{rowOfFile, rowOfFunction, rowOfCall}
 use Rattle.tables.specs.declared.Row.{Row}
 use Rattle.tables.specs.declared.ranges.Found.{Found}
 use Rattle.tables.specs.declared.ranges.Found.the-variants.{Absent, At}
@@ -39,7 +40,7 @@ store t s =
 
 -- `functions.insert_full`: name, no compilation directory (as in the Rust, u32::MAX), entry, language
 abbrev pub functionRow : ℕ → ℕ → ℕ → Row
-functionRow name entry lang = record { a = name; b = MAX; c = entry; d = lang; e = 0; f = 0 }
+functionRow name entry lang = rowOfFunction (record { «name_offset» = name; «comp_dir_offset» = MAX; «entry_pc» = entry; lang = lang })
 
 unfoldable pub add-function : ℕ → ℕ → ℕ → Words → ℕ × Words
 add-function name entry lang s =
@@ -48,7 +49,14 @@ add-function name entry lang s =
 
 -- `files.insert_full`: "in struct order, not the order of the writer's literal"
 abbrev pub fileRow : Six ℕ → Row
-fileRow x = record { a = x .comp-dir; b = x .directory; c = x .name; d = x .srcsrv-name; e = x .srcsrv-dir; f = x .revision }
+fileRow x = rowOfFile (record {
+  «comp_dir_offset» = x .comp-dir;
+  «directory_offset» = x .directory;
+  «name_offset» = x .name;
+  «srcsrv_name_offset» = x .srcsrv-name;
+  «srcsrv_dir_offset» = x .srcsrv-dir;
+  «srcsrv_revision_offset» = x .revision;
+})
 
 unfoldable pub add-file-row : Row → Words → ℕ × Words
 add-file-row row s =
@@ -57,7 +65,7 @@ add-file-row row s =
 
 -- `call_locations.insert_full`
 abbrev pub locationRow : SourceLocation → Row
-locationRow l = record { a = l .«file_idx»; b = l .line; c = l .«function_idx»; d = l .«inlined_into_idx»; e = 0; f = 0 }
+locationRow l = rowOfCall l
 
 unfoldable pub add-call : SourceLocation → Words → ℕ × Words
 add-call l s =

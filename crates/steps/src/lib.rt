@@ -2,11 +2,16 @@
 // A step's contract gives the tables that it does not touch any content: they stay as they are.
 use memory::LastAddr;
 use memory::State;
+use raw::File;
+use raw::Function;
 use raw::SourceLocation;
 use rows::LineRow;
 use rows::OptionalPart;
 use rows::TextPart;
 use tables::Row;
+use tables::kinds::row_of_call;
+use tables::kinds::row_of_file;
+use tables::kinds::row_of_function;
 use tables::ranges::Found;
 ghost use mathlib.Core.Path.{_≡_};
 ghost use mathlib.Core.Bool.{cond};
@@ -69,14 +74,12 @@ pub fn insert_function(
         gave (r .index) after ≡ add-function «name_offset» «entry_pc» lang before
         ) ⌝ }
 {
-    let row = Row {
-        a: name_offset,
-        b: u32::MAX,
-        c: entry_pc,
-        d: lang,
-        e: 0,
-        f: 0,
-    };
+    let row = row_of_function(Function {
+        name_offset,
+        comp_dir_offset: u32::MAX,
+        entry_pc,
+        lang,
+    });
     let got = tables::index_set::insert_full(functions, state.functions, row);
     state.functions = got.count;
     Indexed {
@@ -115,14 +118,7 @@ pub fn insert_call_location(
         gave (r .index) after ≡ add-call l before
         ) ⌝ }
 {
-    let row = Row {
-        a: l.file_idx,
-        b: l.line,
-        c: l.function_idx,
-        d: l.inlined_into_idx,
-        e: 0,
-        f: 0,
-    };
+    let row = row_of_call(l);
     let got = tables::index_set::insert_full(call_locations, state.call_locations, row);
     state.call_locations = got.count;
     Indexed {
@@ -382,14 +378,14 @@ pub fn insert_texts(
         line.srcsrv_dir,
     );
     let revision = insert_optional(srcsrv_dir.state, string_bytes, strings, text, line.revision);
-    let row = Row {
-        a: dir.index,
-        b: directory.index,
-        c: name.index,
-        d: srcsrv_name.index,
-        e: srcsrv_dir.index,
-        f: revision.index,
-    };
+    let row = row_of_file(File {
+        comp_dir_offset: dir.index,
+        directory_offset: directory.index,
+        name_offset: name.index,
+        srcsrv_name_offset: srcsrv_name.index,
+        srcsrv_dir_offset: srcsrv_dir.index,
+        srcsrv_revision_offset: revision.index,
+    });
     let state = revision.state;
     Six { row, state }
 }

@@ -75,14 +75,12 @@ fn function_link(
 ) {
     let k = (i as usize) * 4;
     let q = rows::function_row(functions64, functions32, i as usize);
-    let row = Row {
-        a: word(s, k),
-        b: u32::MAX,
-        c: entry_pc(q),
-        d: q.language,
-        e: 0,
-        f: 0,
-    };
+    let row = tables::kinds::row_of_function(raw::Function {
+        name_offset: word(s, k),
+        comp_dir_offset: u32::MAX,
+        entry_pc: entry_pc(q),
+        lang: q.language,
+    });
     put(s, k, tables::index_set::newest(functions, row));
 }
 

@@ -1,30 +1,32 @@
 -- `insert_texts` meets its contract: `six-law`. Each of the six calls keeps the lengths.
-use mathlib.Core.Path.{_∙_}
+use mathlib.Core.Path.{ap, _∙_}
 use Rattle.memory.specs.Memory.{words}
-use Rattle.steps.specs.Steps.{sixOf}
+use Rattle.tables.specs.declared.Row.{Row}
+use Rattle.steps.specs.Steps.{gave, sixOf}
 use Rattle.steps.proofs.Laws.{six-law}
 use borrow.Author.Needs.{needs}
 use Rattle.steps.proofs.insert_texts.Statement.{statement}
 use Rattle.steps.proofs.insert_texts.Tie as tie
 
 same-length : tie.Need-same-length
-same-length c = c .before .before .before .before .before .insert-optional3 .kept .1 .0 ∙ (c .before .before .before .before .before .before .before .before .before .before .before .before .insert-optional2 .kept .1 .0 ∙ (c .before .before .before .before .before .before .before .before .before .before .before .before .before .before .before .before .before .before .before .insert-optional .kept .1 .0 ∙ (c .before .before .before .before .before .before .before .before .before .before .before .before .before .before .before .before .before .before .before .before .before .before .before .before .before .before .insert-part3 .kept .1 .0 ∙ (c .before .before .before .before .before .before .before .before .before .before .before .before .before .before .before .before .before .before .before .before .before .before .before .before .before .before .before .before .before .before .before .before .before .insert-part2 .kept .1 .0 ∙ c .before .before .before .before .before .before .before .before .before .before .before .before .before .before .before .before .before .before .before .before .before .before .before .before .before .before .before .before .before .before .before .before .before .before .before .before .before .before .before .before .insert-part .kept .1 .0))))
+same-length c = c .before .before .before .before .before .before .insert-optional3 .kept .1 .0 ∙ (c .before .before .before .before .before .before .before .before .before .before .before .before .before .insert-optional2 .kept .1 .0 ∙ (c .before .before .before .before .before .before .before .before .before .before .before .before .before .before .before .before .before .before .before .before .insert-optional .kept .1 .0 ∙ (c .before .before .before .before .before .before .before .before .before .before .before .before .before .before .before .before .before .before .before .before .before .before .before .before .before .before .before .insert-part3 .kept .1 .0 ∙ (c .before .before .before .before .before .before .before .before .before .before .before .before .before .before .before .before .before .before .before .before .before .before .before .before .before .before .before .before .before .before .before .before .before .before .insert-part2 .kept .1 .0 ∙ c .before .before .before .before .before .before .before .before .before .before .before .before .before .before .before .before .before .before .before .before .before .before .before .before .before .before .before .before .before .before .before .before .before .before .before .before .before .before .before .before .before .insert-part .kept .1 .0))))
 
 same-length-2 : tie.Need-same-length-2
-same-length-2 c = c .before .before .before .before .before .insert-optional3 .kept .1 .1 .0 ∙ (c .before .before .before .before .before .before .before .before .before .before .before .before .insert-optional2 .kept .1 .1 .0 ∙ (c .before .before .before .before .before .before .before .before .before .before .before .before .before .before .before .before .before .before .before .insert-optional .kept .1 .1 .0 ∙ (c .before .before .before .before .before .before .before .before .before .before .before .before .before .before .before .before .before .before .before .before .before .before .before .before .before .before .insert-part3 .kept .1 .1 .0 ∙ (c .before .before .before .before .before .before .before .before .before .before .before .before .before .before .before .before .before .before .before .before .before .before .before .before .before .before .before .before .before .before .before .before .before .insert-part2 .kept .1 .1 .0 ∙ c .before .before .before .before .before .before .before .before .before .before .before .before .before .before .before .before .before .before .before .before .before .before .before .before .before .before .before .before .before .before .before .before .before .before .before .before .before .before .before .before .insert-part .kept .1 .1 .0))))
+same-length-2 c = c .before .before .before .before .before .before .insert-optional3 .kept .1 .1 .0 ∙ (c .before .before .before .before .before .before .before .before .before .before .before .before .before .insert-optional2 .kept .1 .1 .0 ∙ (c .before .before .before .before .before .before .before .before .before .before .before .before .before .before .before .before .before .before .before .before .insert-optional .kept .1 .1 .0 ∙ (c .before .before .before .before .before .before .before .before .before .before .before .before .before .before .before .before .before .before .before .before .before .before .before .before .before .before .before .insert-part3 .kept .1 .1 .0 ∙ (c .before .before .before .before .before .before .before .before .before .before .before .before .before .before .before .before .before .before .before .before .before .before .before .before .before .before .before .before .before .before .before .before .before .before .insert-part2 .kept .1 .1 .0 ∙ c .before .before .before .before .before .before .before .before .before .before .before .before .before .before .before .before .before .before .before .before .before .before .before .before .before .before .before .before .before .before .before .before .before .before .before .before .before .before .before .before .before .insert-part .kept .1 .1 .0))))
 
 returns : tie.Need-returns
 unfolding sixOf
 returns c =
-    let x = c .before .before .before .before .before .before .before .before .before .before .before .before .before .before .before .before .before .before .before .before .before .before .before .before .before .before .before .before .before .before .before .before .before .before .before .before .before .before .before .before .before .before .before .before .before .before .args in
-    let a = c .before .before .before .before .before .before .before .before .before .before .before .before .before .before .before .before .before .before .before .before .before .before .before .before .before .before .before .before .before .before .before .before .before .before .before .before .before .before .before .before .insert-part in
-    let b = c .before .before .before .before .before .before .before .before .before .before .before .before .before .before .before .before .before .before .before .before .before .before .before .before .before .before .before .before .before .before .before .before .before .insert-part2 in
-    let d = c .before .before .before .before .before .before .before .before .before .before .before .before .before .before .before .before .before .before .before .before .before .before .before .before .before .before .insert-part3 in
-    let e = c .before .before .before .before .before .before .before .before .before .before .before .before .before .before .before .before .before .before .before .insert-optional in
-    let h = c .before .before .before .before .before .before .before .before .before .before .before .before .insert-optional2 in
-    let k = c .before .before .before .before .before .insert-optional3 in
+    let x = c .before .before .before .before .before .before .before .before .before .before .before .before .before .before .before .before .before .before .before .before .before .before .before .before .before .before .before .before .before .before .before .before .before .before .before .before .before .before .before .before .before .before .before .before .before .before .before .args in
+    let a = c .before .before .before .before .before .before .before .before .before .before .before .before .before .before .before .before .before .before .before .before .before .before .before .before .before .before .before .before .before .before .before .before .before .before .before .before .before .before .before .before .before .insert-part in
+    let b = c .before .before .before .before .before .before .before .before .before .before .before .before .before .before .before .before .before .before .before .before .before .before .before .before .before .before .before .before .before .before .before .before .before .before .insert-part2 in
+    let d = c .before .before .before .before .before .before .before .before .before .before .before .before .before .before .before .before .before .before .before .before .before .before .before .before .before .before .before .insert-part3 in
+    let e = c .before .before .before .before .before .before .before .before .before .before .before .before .before .before .before .before .before .before .before .before .insert-optional in
+    let h = c .before .before .before .before .before .before .before .before .before .before .before .before .before .insert-optional2 in
+    let k = c .before .before .before .before .before .before .insert-optional3 in
     λ f g m n.
-    six-law (sixOf (x .text .now) (x .comp-dir) (x .line))
+    ap (λ (row : Row). gave row (words (k .result .state) (k .last .1 .0) (k .last .1 .1 .0) f g m n)) (c .row-of-file .ensures)
+    ∙ six-law (sixOf (x .text .now) (x .comp-dir) (x .line))
     (words (x .state) (x .string-bytes .now) (x .strings .now) f g m n)
     (words (a .result .state) (a .last .1 .0) (a .last .1 .1 .0) f g m n) (words (b .result .state) (b .last .1 .0) (b .last .1 .1 .0) f g m n) (words (d .result .state) (d .last .1 .0) (d .last .1 .1 .0) f g m n) (words (e .result .state) (e .last .1 .0) (e .last .1 .1 .0) f g m n) (words (h .result .state) (h .last .1 .0) (h .last .1 .1 .0) f g m n) (words (k .result .state) (k .last .1 .0) (k .last .1 .1 .0) f g m n)
     (a .result .index) (b .result .index) (d .result .index) (e .result .index) (h .result .index) (k .result .index)
@@ -35,7 +37,7 @@ insert-texts-spec =
     tie.close
     (tie.spec
     (λ c κs. search needs) (λ c κs. search needs) (λ c κs. search needs) (λ c κs. search needs) (λ c κs. search needs)
-    (λ c κs. search needs)
+    (λ c κs. search needs) (λ c κs. search needs)
     same-length
     same-length-2
     returns)
