@@ -420,12 +420,12 @@ fn write(c: Case, converter: Converter, tables: Tables, file: &[u8]) -> Done {
     let n7 = at_most(lent[7], 400);
     let written = serialize::serialize(
         converter,
-        & string_bytes[..n0],
-        & strings[..n1],
-        & files[..n2],
-        & functions[..n3],
-        & call_locations[..n4],
-        & ranges[..n5],
+        &string_bytes[..n0],
+        &strings[..n1],
+        &files[..n2],
+        &functions[..n3],
+        &call_locations[..n4],
+        &ranges[..n5],
         &mut out[..n7],
     );
     Done {

@@ -178,7 +178,10 @@ fn with_name(mut c: Case, w: &[u8]) -> Case {
         c.index = 0;
         return c;
     }
-    let k = index_in(b"of only at is begin tree symbol write first whole closed ", w);
+    let k = index_in(
+        b"of only at is begin tree symbol write first whole closed ",
+        w,
+    );
     if k < BEGIN {
         c.mode = k;
         return c;

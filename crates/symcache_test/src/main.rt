@@ -1,4 +1,4 @@
-// Replays what the original answered on written, damaged and random files: oracle/FORMAT.md, "Reader". A line is printed for each case, the checksum of its words.
+// Replays what the original answered on written, damaged and random files: oracle/FORMAT.md, "Reader". A line is printed for each case, its checksum.
 use libc::STDOUT_FILENO;
 use raw::File;
 use raw::Function;
@@ -334,12 +334,17 @@ fn add_lookup(sum: u32, s: &[u8], address: u64) -> u32 {
     }
 }
 
+// Address `i` of a case, after their count.
+fn address_at(addresses: &[u8], i: u32) -> u64 {
+    number(addresses, 4 + 8 * (i as usize))
+}
+
 fn add_lookups(sum: u32, s: &[u8], addresses: &[u8]) -> u32 {
     let n = word(addresses, 0);
     let mut now = sum;
     let mut i: u32 = 0;
     while i < n {
-        now = add_lookup(now, s, number(addresses, 4 + 8 * (i as usize)));
+        now = add_lookup(now, s, address_at(addresses, i));
         i += 1;
     }
     now

@@ -7,7 +7,8 @@ use Rattle.refusals_test.proofs.calls.begin.Tie as tie
 pub begin-spec : {M : Type 1} → statement M
 begin-spec =
     tie.close
-    (tie.spec (λ c κs. tt) (λ c κs. tt) (λ c κs. tt) (λ c κs. tt) (λ c κs. tt) (λ c κs. tt) (λ c. search needs) (λ c κs. tt)
-    (λ c. search needs) (λ c κs. tt) (λ c. search needs) (λ c κs. tt) (λ c. search needs) (λ c κs. tt) (λ c. search needs) (λ c κs. tt)
-    (λ c. search needs) (λ c κs. tt) (λ c. search needs) (λ c. search (part, needs)) (λ c. search needs) (λ c. search (part, needs)) (λ c. search needs) (λ c. search (part, needs))
-    (λ c. search needs) (λ c. search (part, needs)) (λ c. search needs) (λ c. search (part, needs)) (λ c. search needs) (λ c. search (part, needs)) (λ c κs. tt) (λ c. tt))
+    (tie.spec (λ c κs. tt) (λ c κs. tt) (λ c κs. tt) (λ c κs. tt) (λ c κs. tt) (λ c κs. tt) (λ c. search needs) (λ c κs. tt) (λ c. search needs)
+    (λ c κs. tt) (λ c. search needs) (λ c κs. tt) (λ c. search needs) (λ c κs. tt) (λ c. search needs) (λ c κs. tt) (λ c. search needs) (λ c κs. tt)
+    (λ c. search needs) (λ c. search (part, needs)) (λ c. search needs) (λ c. search (part, needs)) (λ c. search needs) (λ c. search (part, needs))
+    (λ c. search needs) (λ c. search (part, needs)) (λ c. search needs) (λ c. search (part, needs)) (λ c. search needs) (λ c. search (part, needs))
+    (λ c κs. tt) (λ c. tt))

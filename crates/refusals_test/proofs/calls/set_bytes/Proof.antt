@@ -18,5 +18,4 @@ pub set-bytes-spec : {M : Type 1} → statement M
 set-bytes-spec =
     tie.close
     (tie.spec Inv-loop μ-loop (λ c. search needs) (λ c κs. tt) (λ c κs. tt) (λ c. search needs) (λ c. search needs) (λ c. search needs)
-    (λ c. search needs) (λ c. search needs) (λ c. search needs) (λ c. counts _ _ (omega arith)) (λ c. search needs)
-    (λ c. counts _ _ (omega arith)))
+    (λ c. search needs) (λ c. search needs) (λ c. search needs) (λ c. counts _ _ (omega arith)) (λ c. search needs) (λ c. counts _ _ (omega arith)))

@@ -17,6 +17,6 @@ abbrev μ-loop : tie.MeasureT-loop
 pub set-numbers-spec : {M : Type 1} → statement M
 set-numbers-spec =
     tie.close
-    (tie.spec Inv-loop μ-loop (λ c. search needs) (λ c κs. tt) (λ c. search needs) (λ c. search needs) (λ c. search needs)
-    (λ c. search needs) (λ c. search needs) (λ c. search needs) (λ c. search needs) (λ c. search needs) (λ c. counts _ _ (omega arith))
-    (λ c. search needs) (λ c. counts _ _ (omega arith)))
+    (tie.spec Inv-loop μ-loop (λ c. search needs) (λ c κs. tt) (λ c. search needs) (λ c. search needs) (λ c. search needs) (λ c. search needs)
+    (λ c. search needs) (λ c. search needs) (λ c. search needs) (λ c. search needs) (λ c. counts _ _ (omega arith)) (λ c. search needs)
+    (λ c. counts _ _ (omega arith)))

@@ -7,8 +7,8 @@ use Rattle.refusals_test.proofs.calls.symbol.Tie as tie
 pub symbol-spec : {M : Type 1} → statement M
 symbol-spec =
     tie.close
-    (tie.spec (λ c κs. tt) (λ c κs. tt) (λ c κs. tt) (λ c κs. tt) (λ c κs. tt) (λ c κs. tt) (λ c. search needs) (λ c κs. tt)
-    (λ c. search needs) (λ c κs. tt) (λ c. search needs) (λ c κs. tt) (λ c. search needs) (λ c κs. tt) (λ c. search needs) (λ c κs. tt)
-    (λ c. search needs) (λ c κs. tt) (λ c. search needs) (λ c. search (part, needs)) (λ c. search needs) (λ c. search (part, needs)) (λ c. search needs) (λ c. search (part, needs))
-    (λ c. search needs) (λ c. search (part, needs)) (λ c. search needs) (λ c. search (part, needs)) (λ c. search needs) (λ c. search (part, needs)) (λ c. search needs) (λ c. search needs)
-    (λ c κs. tt) (λ c κs. tt) (λ c. tt))
+    (tie.spec (λ c κs. tt) (λ c κs. tt) (λ c κs. tt) (λ c κs. tt) (λ c κs. tt) (λ c κs. tt) (λ c. search needs) (λ c κs. tt) (λ c. search needs)
+    (λ c κs. tt) (λ c. search needs) (λ c κs. tt) (λ c. search needs) (λ c κs. tt) (λ c. search needs) (λ c κs. tt) (λ c. search needs) (λ c κs. tt)
+    (λ c. search needs) (λ c. search (part, needs)) (λ c. search needs) (λ c. search (part, needs)) (λ c. search needs) (λ c. search (part, needs))
+    (λ c. search needs) (λ c. search (part, needs)) (λ c. search needs) (λ c. search (part, needs)) (λ c. search needs) (λ c. search (part, needs))
+    (λ c. search needs) (λ c. search needs) (λ c κs. tt) (λ c κs. tt) (λ c. tt))

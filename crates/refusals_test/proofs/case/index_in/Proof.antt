@@ -15,6 +15,6 @@ abbrev μ-loop : tie.MeasureT-loop
 pub index-in-spec : {M : Type 1} → statement M
 index-in-spec =
     tie.close
-    (tie.spec Inv-loop μ-loop (λ c. search needs) (λ c. search needs) (λ c. search needs) (λ c. search needs) (λ c. search needs)
-    (λ c κs. tt) (λ c. tt) (λ c. search needs) (λ c. search needs) (λ c. search needs) (λ c. search needs)
+    (tie.spec Inv-loop μ-loop (λ c. search needs) (λ c. search needs) (λ c. search needs) (λ c. search needs) (λ c. search needs) (λ c κs. tt)
+    (λ c. tt) (λ c. search needs) (λ c. search needs) (λ c. search needs) (λ c. search needs)
     (λ c. ⊎-elim (λ w. search needs) (λ w. search needs) (c .if1 .came)) (λ c. tt))
