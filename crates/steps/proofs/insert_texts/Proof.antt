@@ -25,7 +25,7 @@ returns c =
     let h = c .before .before .before .before .before .before .before .before .before .before .before .before .before .insert-optional2 in
     let k = c .before .before .before .before .before .before .insert-optional3 in
     λ f g m n.
-    ap (λ (row : Row). gave row (words (k .result .state) (k .last .1 .0) (k .last .1 .1 .0) f g m n)) (c .row-of-file .ensures)
+    ap (λ (row : Row). gave row (words (k .result .state) (k .last .1 .0) (k .last .1 .1 .0) f g m n)) (c .before .row-of-file .ensures)
     ∙ six-law (sixOf (x .text .now) (x .comp-dir) (x .line))
     (words (x .state) (x .string-bytes .now) (x .strings .now) f g m n)
     (words (a .result .state) (a .last .1 .0) (a .last .1 .1 .0) f g m n) (words (b .result .state) (b .last .1 .0) (b .last .1 .1 .0) f g m n) (words (d .result .state) (d .last .1 .0) (d .last .1 .1 .0) f g m n) (words (e .result .state) (e .last .1 .0) (e .last .1 .1 .0) f g m n) (words (h .result .state) (h .last .1 .0) (h .last .1 .1 .0) f g m n) (words (k .result .state) (k .last .1 .0) (k .last .1 .1 .0) f g m n)
