@@ -17,8 +17,8 @@ pub(crate) const SYMBOL: usize = 6;
 
 pub(crate) const WRITE: usize = 7;
 
-// `begun` is how much of each slice is lent to the calls before the one under test, `lent` how much to that one. `words` are what a call is given, 64 for each slice from 8 on.
-// `slice`, `mode` and `index` say what the next number of the line stands for.
+// `begun` is how much of each slice is lent to the calls before the one under test, `lent` how much to that one. `words` are what a call is given,
+// 64 for each slice from 8 on. `slice`, `mode` and `index` say what the next number of the line stands for.
 pub(crate) struct Case {
     pub call: usize,
     pub first: bool,
