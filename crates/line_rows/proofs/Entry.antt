@@ -47,7 +47,6 @@ module _ (c : Converter) (m : Memory) (s u v f64 f32 : List ℕ) (ls : List Line
   number = numberOf usable (length s) (length u) (length v) f64 f32 (length ls) (linesTexts? t ls) t
 
   usable-is : usable ≡ usable? c m
-  unfolding usable? fits?
   usable-is = refl
 
   room-is : leb (length ls) (length u / 3) && leb (length ls) (length v / 14) ≡ unpackRoom? k u v

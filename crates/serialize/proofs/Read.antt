@@ -26,8 +26,8 @@ use Rattle.serialize.proofs.Rows.{length-file-row, length-function-row,
 use Rattle.serialize.proofs.Whole.{Standing}
 
 -- what owning a slice of 32-bit words says of it
-abbrev pub Words32 : List ℕ → Type 0
-Words32 t = (j : ℕ) → getD t j 0 < 2 ^ 32
+abbrev pub Slice32 : List ℕ → Type 0
+Slice32 t = (j : ℕ) → getD t j 0 < 2 ^ 32
 
 no-row : Row
 no-row = record { a = 0; b = 0; c = 0; d = 0; e = 0; f = 0 }
@@ -43,7 +43,7 @@ row-there bytes size long t n s at i h g =
     rw e at (row-stands bytes size long (rowsOf t n) no-row s at i (at + size * i) (rw (rows-length t 0 n) h) refl g)
 
 -- the words of an entry's location
-location-words : (t : List ℕ) → Words32 t → (n : ℕ) (p : Span) → Words32 (locationWords (entry-location t n p))
+location-words : (t : List ℕ) → Slice32 t → (n : ℕ) (p : Span) → Words32 (locationWords (entry-location t n p))
 unfolding entry-location rowAt
 location-words t w n p = go (ltb (p .to) n) where
   go : (b : Bool) → Words32 (locationWords (cond b (locationOf (rowAt t (p .to))) noSourceLocation))
@@ -57,26 +57,26 @@ module _ (c : Converter) (m : Memory) (at : Layout) (s : List ℕ) (h : Standing
   pub header-read : HeaderFits (header-of c (length (ranges-of c m))) → headerAt s 8 ≡ header-of c (length (ranges-of c m))
   header-read f = header-back (header-of c (length (ranges-of c m))) s 8 f (h .header)
 
-  pub file-read : Words32 (m .files) → (i : ℕ) → i < c .state .files → fileAt s (80 + 24 * i) ≡ fileOfRow (rowAt (m .files) i)
+  pub file-read : Slice32 (m .files) → (i : ℕ) → i < c .state .files → fileAt s (80 + 24 * i) ≡ fileOfRow (rowAt (m .files) i)
   unfolding file-row rowAt
   file-read w i l =
       file-back (fileOfRow (rowAt (m .files) i)) s (80 + 24 * i) (w (i * 7), (w (i * 7 + 1), (w (i * 7 + 1 + 1), (w (i * 7 + 1 + 1 + 1), (w (i * 7 + 1 + 1 + 1 + 1), (w (i * 7 + 1 + 1 + 1 + 1 + 1), tt))))))
       (row-there file-row 24 length-file-row (m .files) (c .state .files) s 80 i l (h .files))
 
-  pub function-read : Words32 (m .functions) → (i : ℕ) → i < c .state .functions → functionAt s (at .functions + 16 * i) ≡ functionOfRow (rowAt (m .functions) i)
+  pub function-read : Slice32 (m .functions) → (i : ℕ) → i < c .state .functions → functionAt s (at .functions + 16 * i) ≡ functionOfRow (rowAt (m .functions) i)
   unfolding function-row rowAt
   function-read w i l =
       function-back (functionOfRow (rowAt (m .functions) i)) s (at .functions + 16 * i) (w (i * 7), (w (i * 7 + 1), (w (i * 7 + 1 + 1), (w (i * 7 + 1 + 1 + 1), tt))))
       (row-there function-row 16 length-function-row (m .functions) (c .state .functions) s (at .functions) i l (h .functions))
 
-  pub call-read : Words32 (m .calls) → (i : ℕ) → i < c .state .«call_locations» → locationAt s (at .«call_locations» + 16 * i) ≡ callOfRow (rowAt (m .calls) i)
+  pub call-read : Slice32 (m .calls) → (i : ℕ) → i < c .state .«call_locations» → locationAt s (at .«call_locations» + 16 * i) ≡ callOfRow (rowAt (m .calls) i)
   unfolding call-row rowAt
   call-read w i l =
       location-back (callOfRow (rowAt (m .calls) i)) s (at .«call_locations» + 16 * i) (w (i * 7), (w (i * 7 + 1), (w (i * 7 + 1 + 1), (w (i * 7 + 1 + 1 + 1), tt))))
       (row-there call-row 16 length-call-row (m .calls) (c .state .«call_locations») s (at .«call_locations») i l (h .calls))
 
   -- range i: the location and the start of entry i, in order
-  pub location-read : Words32 (m .ranges) → (i : ℕ) → i < length (ranges-of c m)
+  pub location-read : Slice32 (m .ranges) → (i : ℕ) → i < length (ranges-of c m)
       → locationAt s (at .locations + 16 * i) ≡ entry-location (m .ranges) (c .state .ranges) (getD (ranges-of c m) i no-entry)
   unfolding location-row
   location-read w i l =
