@@ -7,7 +7,7 @@ ghost use lib.Seq.{sets};
 ghost use Rattle.symcache.specs.Answers.{refusalOf, parseAnswer, lookupAnswer, stepAnswer};
 ghost use Rattle.c_words.specs.Stored.{stored};
 ghost use Rattle.c_words.specs.Reading.{filled, moved, answered, stepsTo, cacheWords, countAt, cacheOf, refused, cached, parseCall, openCall, findCall, walkWords, walkOf, walkCall, lookupCall, headWords, frameWords, framedWords, framedNext, nextCall};
-use c_words::rows::put_file;
+use c_words::file_rows::put_file;
 use slices::put;
 use slices::put64;
 use slices::word;

@@ -1,4 +1,5 @@
-// The converter's record as twenty words: the debug id in eight, four bytes a word, little-endian; arch; the two switches; what is in use of the six tables; the last end; whether it is open.
+// The converter's record as twenty words: the debug id in eight, four bytes a word, little-endian; arch; the two switches; what is in use of the
+// six tables; the last end; whether it is open.
 ghost use mathlib.Core.Path.{_≡_};
 ghost use Prim.Native.Nat.{_*_};
 ghost use lib.ListN.{getD, set};
@@ -6,10 +7,6 @@ ghost use lib.Seq.{sets};
 ghost use Rattle.slices.specs.Bytes.{le, leAt};
 ghost use Rattle.c_words.specs.Stored.{stored};
 ghost use Rattle.c_words.specs.Record.{lastOf, idOf, stateOf, converterOf, lastWords, idWords, countWords, switchWords, wordsOf, kept};
-use crate::slices::flag;
-use crate::slices::is_set;
-use crate::slices::put;
-use crate::slices::word;
 use memory::Converter;
 use memory::LastAddr;
 use memory::State;
@@ -19,7 +16,6 @@ use slices::load_u32;
 use slices::put;
 use slices::store_u32;
 use slices::word;
-use raw::Range;
 
 // Reading it
 
@@ -93,7 +89,8 @@ fn put_id_word(record: &mut [u32], id: &[u8], k: u32)
     ensures { λ _. ⌜ now («record» .exit) ≡ set (now («record» .entry)) k (leAt 4 (now (id .entry)) (4 * k)) ⌝ }
 {
     let j = k as usize;
-    put(record, j, load_u32(id, 4 * j));
+    let w = load_u32(id, 4 * j);
+    put(record, j, w);
 }
 
 fn put_id(record: &mut [u32], id: &[u8])

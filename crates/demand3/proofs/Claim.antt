@@ -3,7 +3,7 @@
 use mathlib.Core.Path.{_≡_, refl, sym, ap, _∙_, subst}
 use mathlib.Core.Bool.{Bool, true, false, cond, _&&_}
 use mathlib.Core.Option.{Option, none, some}
-use mathlib.Core.Logic.{_⊎_, inl, inr, _≢_, ⊎-elim}
+use mathlib.Core.Logic.{_⊎_, _≢_, ⊎-elim}
 use mathlib.Core.List.{List, [], _∷_, _++_, map, append-nil}
 use Prim.Native.Nat.{ℕ, _^_, _≤_, _<_}
 use native.Mathlib.Omega.{arith}
@@ -11,21 +11,20 @@ use lib.Dec.{eqb, leb, ltb}
 use lib.ListN.{length, take, drop}
 use lib.Seq.{take-at}
 use borrow.Author.Tests.{eqb-true, le-leb, lt-ltb}
-use Rattle.model.specs.Basics.{_∈_, here, there, Covers, Deep}
+use Rattle.model.specs.Basics.{_∈_, here, there, Covers}
 use Rattle.model.specs.Rows.{MAX, LineRow, FunctionRow, Given, tree-rows, symbol-row}
 use Rattle.model.specs.Converter.{Setup, converted}
-use Rattle.model.specs.Frames.{Frame, frames-at}
+use Rattle.model.specs.Frames.{frames-at}
 use Rattle.model.specs.Counts.{Capacities, plain-fits?}
-use Rattle.model.specs.Premises.{reach, Legal, RowsWell, TreeWell, WellNested, AllSeparate, line-at, wanted, nested-at}
+use Rattle.model.specs.Premises.{reach, Legal, WellNested, line-at, nested-at}
 use Rattle.model.specs.Written.{as-written}
 use Rattle.model.proofs.Chains.{none-some}
 use Rattle.model.proofs.Spans.{∈-elim, ∈-append, ∈-left}
 use Rattle.model.proofs.Demand.{demand-root, demand-stack, alone}
 use Rattle.model.proofs.Sections.{sections}
-use Rattle.rows.specs.Columns.{Columns, rootRow, laterRows}
+use Rattle.rows.specs.Columns.{Columns}
 use Rattle.rows.specs.Refusals.{refusalOf}
-use Rattle.rows.proofs.Accepted.{Accepted, accepted}
-use Rattle.memory.specs.Memory.{Memory}
+use Rattle.rows.proofs.Accepted.{accepted}
 use Rattle.memory.specs.declared.Converter.{Converter}
 use Rattle.steps.proofs.Lengths.{Lens}
 use Rattle.serialize.specs.File.{Wrote, wrote, serializeOf}
@@ -35,14 +34,14 @@ use Rattle.read_back.specs.Bytes.{sections-header, file-bytes}
 use Rattle.read_back.specs.Shown.{with-stand-in, Found}
 use Rattle.read_back.proofs.Written.{file-shows, file-opened, file-demand}
 use Rattle.writer.specs.Calls.{setup, treeOf, symbolOf}
-use Rattle.memory.specs.Record.{words-of, usable?, beginOf}
+use Rattle.memory.specs.Record.{usableIn, usable?, beginOf}
 use Rattle.steps.specs.Symbols.{symbolRow}
 use Rattle.line_list.specs.Lines.{lineColumns}
-use Rattle.demand3.specs.Lists.{Call, tree, lines-tree, symbol, write, givenTree, Standing, next, run, by-value, beginning, Typed}
-use Rattle.demand3.specs.Demand3.{Nested, Premises, asked, Shows, Reopened, file-written, Demand3}
+use Rattle.demand3.specs.Lists.{Call, tree, lines-tree, symbol, write, givenTree, Standing, next, run, by-value, beginning}
+use Rattle.demand3.specs.Demand3.{Nested, asked, Reopened, file-written, Demand3}
 use Rattle.demand3.proofs.Encoding.{capacities, capacities-lent}
 use Rattle.demand3.proofs.OneCall.{lengths-of}
-use Rattle.demand3.proofs.EveryList.{Open, Closed, Stands, every-list, open-fits, lines-next, scratch-of}
+use Rattle.demand3.proofs.EveryList.{Open, Closed, every-list, open-fits, lines-next, scratch-of}
 use Rattle.demand3.proofs.WrittenFile.{write-answers}
 
 -- ── The depths of counted trees ──
@@ -130,7 +129,7 @@ taken F out o e z = go (leb (length F) (length out)) e
 
 -- a closed list writes nothing: 19
 closed-writes : (n : Lens) (r : Standing Converter) (out : List ℕ) → Closed n r → serializeOf (r .carrier) (r .memory) out .code ≡ 19
-unfolding serializeOf
+unfolding serializeOf usableIn
 closed-writes n r out h = rw (h .closed)
 
 -- what an open list's file shows: f is its bytes

@@ -31,7 +31,7 @@ use Rattle.tables.proofs.Room.{cap-most, text-room}
 use Rattle.table_laws.proofs.Sets as sets
 use Rattle.table_laws.proofs.TextTables as text-tables
 use Rattle.memory.specs.Memory.{Words}
-use Rattle.memory.specs.Record.{fits?}
+use Rattle.memory.specs.Record.{fitsIn, fits?}
 use Rattle.steps.specs.Steps.{last-of}
 use Rattle.steps.proofs.Lengths.{Lens, lens}
 use Rattle.demand3.proofs.WordRows.{file-row, function-row, call-row, range-row, source, grows-length, within-later, text-word-later, Few}
@@ -70,7 +70,7 @@ pub record Room (w : Words) : Type 0 where
   pub ranges : w .st .ranges ≤ capacityOf (length (w .mm .ranges))
 
 pub room-of : (w : Words) → fits? w ≡ true → Room w
-unfolding fits?
+unfolding fitsIn
 room-of w h =
     let (a, h₁) = both-true (leb (w .st .«string_bytes») (textCapacityOf (length (w .mm .text)))) _ h in
     let (b, h₂) = both-true (leb (w .st .strings) (capacityOf (length (w .mm .strings)))) _ h₁ in
@@ -80,7 +80,7 @@ room-of w h =
     record { bytes = leb-true _ _ a; texts = leb-true _ _ b; files = leb-true _ _ c; functions = leb-true _ _ d; calls = leb-true _ _ e; ranges = leb-true _ _ f }
 
 pub has-room : (w : Words) → Room w → fits? w ≡ true
-unfolding fits?
+unfolding fitsIn
 has-room w r =
     both-of _ _ (le-leb _ _ (r .bytes))
     (both-of _ _ (le-leb _ _ (r .texts)) (both-of _ _ (le-leb _ _ (r .files)) (both-of _ _ (le-leb _ _ (r .functions)) (both-of _ _ (le-leb _ _ (r .calls)) (le-leb _ _ (r .ranges))))))

@@ -32,8 +32,7 @@ use Rattle.memory.specs.declared.Converter.{Converter}
 use Rattle.steps.proofs.Lengths.{Lens}
 use Rattle.writer.specs.Calls.{Called, called, setup, finished, rows-converted, treeOf, symbolOf}
 use Rattle.slices.specs.Slices.{zeros}
-use Rattle.memory.specs.Record.{with-state, words-of, usable?, beginOf}
-use Rattle.memory.specs.Record.{unused}
+use Rattle.memory.specs.Record.{usableIn, with-state, words-of, usable?, beginOf, unused}
 use Rattle.steps.specs.Symbols.{symbolRow}
 use Rattle.line_list.specs.Lines.{lineColumns}
 use Rattle.line_rows.specs.Calls.{linesOf}
@@ -73,11 +72,11 @@ lengths-stay n b r (inr h) = ap lengths-of (h .zero) ∙ zero-lengths n
 -- ── 19 ──
 
 open-usable : (n : Lens) (b : Converter) (r : Standing Converter) → Open n b r → usable? (r .carrier) (r .memory) ≡ true
-unfolding usable?
+unfolding usableIn
 open-usable n b r h = both-of _ _ (h .opened) (has-room _ (enc-room n _ _ (h .enc)))
 
 closed-unusable : (n : Lens) (r : Standing Converter) → Closed n r → usable? (r .carrier) (r .memory) ≡ false
-unfolding usable?
+unfolding usableIn
 closed-unusable n r h = rw (h .closed)
 
 -- closed: 19, and nothing changes

@@ -29,9 +29,8 @@ use Rattle.table_laws.specs.Plain.{Holds}
 use Rattle.tables.specs.declared.Row.{Row}
 use Rattle.memory.specs.declared.LastAddr.{LastAddr}
 use Rattle.memory.specs.Memory.{Words}
-use Rattle.memory.specs.Record.{fits?, with-last}
-use Rattle.steps.specs.Steps.{add-file-row, add-call, fileRow, functionRow, locationRow, last-of}
-use Rattle.steps.specs.Steps.{store, store-six, add-function, put-range}
+use Rattle.memory.specs.Record.{fitsIn, with-last}
+use Rattle.steps.specs.Steps.{add-file-row, add-call, fileRow, functionRow, locationRow, last-of, store, store-six, add-function, put-range}
 use Rattle.steps.proofs.Lengths.{Lens, lens, insert-long, put-long, text-long, text-long-index, store-lens, add-function-lens, add-file-row-lens, add-call-lens, put-range-lens}
 use Rattle.demand3.proofs.WordRows.{file-row, function-row, call-row, range-row, source, call-row-is, range-row-is, grows-length, grows-bytes, within-later, in-later, file-in-later, file-row-later, function-row-later, file-row-one, function-row-one, call-row-one, row-path}
 use Rattle.demand3.proofs.Interned.{Added, added, set-back, placed, put-back, stored, stored-within, texts-back}
@@ -342,7 +341,7 @@ module _ (k : ℕ) (l : Location) (s : Tables) (w : Words) where
 -- ── The last end ──
 
 pub last-full : (a : LastAddr) (w : Words) → full w ≡ true → full (record { st = with-last (w .st) a; mm = w .mm }) ≡ true
-unfolding fits?
+unfolding fitsIn
 last-full a w h = h
 
 pub last-went : (n : Lens) (o : Option ℕ) (a : LastAddr) (s : Tables) (w : Words) → o ≡ last-of a → Enc n s w → Went n (ending s o) (record { st = with-last (w .st) a; mm = w .mm }) (Unit {0})

@@ -36,7 +36,7 @@ use Rattle.tables.specs.declared.ranges.Found.{Found}
 use Rattle.tables.specs.declared.ranges.Found.the-variants.{Absent, At}
 use Rattle.table_laws.proofs.Rows.{rows-getD}
 use Rattle.memory.specs.Memory.{Memory}
-use Rattle.memory.specs.Record.{fits?}
+use Rattle.memory.specs.Record.{fits?, usableIn}
 use Rattle.steps.specs.Steps.{held, last-of}
 use Rattle.memory.specs.declared.LastAddr.{LastAddr}
 use Rattle.memory.specs.declared.LastAddr.the-variants.{Unset, Set}
@@ -300,7 +300,7 @@ written-is X gs n c m h = file-written n (converted X gs) c m h (starts-unique X
 pub write-answers : (X : Setup) (gs : List Given) (n : Lens) (c : Converter) (m : Memory) → c .«open» ≡ true → Enc n (converted X gs) (words-of c m) → (out : List ℕ)
     → let f = file-bytes (c .«debug_id») (c .arch) (sections (as-written (converted X gs))) in
     serializeOf c m out ≡ cond (leb (length f) (length out)) (wrote 0 (length f) (f ++ drop (length f) out)) (wrote 18 0 out)
-unfolding serializeOf
+unfolding serializeOf usableIn
 write-answers X gs n c m o h out =
     let e : (c .«open» && fits? (words-of c m)) ≡ true = both-of (c .«open») (fits? (words-of c m)) o (has-room (words-of c m) (enc-room n (converted X gs) (words-of c m) h)) in
     rw e (ap (λ (f : List ℕ). cond (leb (length f) (length out)) (wrote 0 (length f) (f ++ drop (length f) out)) (wrote 18 0 out)) (written-is X gs n c m h))

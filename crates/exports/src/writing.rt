@@ -41,7 +41,7 @@ pub extern "C" fn symcache_begin(
     if record.len() < 20 {
         return 19;
     }
-    let c = writer::calls::begin(
+    let c = memory::begin(
         debug_id_of(debug_id),
         arch,
         is_set(undecorate_functions),
