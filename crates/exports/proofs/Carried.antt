@@ -19,7 +19,7 @@ use Rattle.model.specs.Machine.{convert-symbolM}
 use Rattle.model.specs.Converter.{input}
 use Rattle.model.proofs.Chains.{both-true}
 use Rattle.memory.specs.Memory.{Memory, Words}
-use Rattle.memory.specs.Record.{fits?}
+use Rattle.memory.specs.Record.{usableIn, fits?}
 use Rattle.steps.specs.Steps.{over-words}
 use Rattle.memory.specs.declared.LastAddr.{LastAddr}
 use Rattle.memory.specs.declared.LastAddr.the-variants.{Unset, Set}
@@ -30,7 +30,7 @@ use Rattle.memory.specs.Record.{words-of, usable?, beginOf}
 use Rattle.steps.specs.Symbols.{symbolRow}
 use Rattle.line_rows.specs.Calls.{LinesCalled, unpackRoom?, linesOf}
 use Rattle.c_words.proofs.StoreLaws.{sets-at}
-use Rattle.slices.specs.Slices.{stored}
+use Rattle.c_words.specs.Stored.{stored}
 use Rattle.slices.specs.Slices.{yes, flagOf}
 use Rattle.c_words.specs.Record.{lastOf, idOf, stateOf, converterOf, lastWords, idWords, countWords, switchWords, wordsOf, Bytes, IdFits}
 use Rattle.c_words.specs.Writing.{leaves, beginCall, treeCall, linesCall, symbolCall}
@@ -176,7 +176,7 @@ long r e = go (ltb 19 (length r)) refl
         omega arith
 
 usable-long : (r : List ℕ) (m : Memory) → usable? (converterOf r) m ≡ true → 20 ≤ length r
-unfolding usable? converterOf
+unfolding usableIn converterOf
 usable-long r m h = long r (both-true (yes (getD r 19 0)) _ h .0)
 
 -- after a call that answered o, the record is the converter of o
