@@ -1,4 +1,5 @@
-// The reader and the lookup over words: a file read to the words of a cache, an address found, a walk between whose steps there are the words of a cursor. The exported functions of these
+// The reader and the lookup over words: a file read to the words of a cache, an address found, a walk between whose steps there are the words of a
+// cursor. The exported functions of these
 // names pass on what these answer.
 ghost use mathlib.Core.Path.{_≡_};
 ghost use mathlib.Core.List.{[], _∷_};
@@ -6,7 +7,8 @@ ghost use lib.ListN.{getD};
 ghost use lib.Seq.{sets};
 ghost use Rattle.symcache.specs.Answers.{refusalOf, parseAnswer, lookupAnswer, stepAnswer};
 ghost use Rattle.c_words.specs.Stored.{stored};
-ghost use Rattle.c_words.specs.Reading.{filled, moved, answered, stepsTo, cacheWords, countAt, cacheOf, refused, cached, parseCall, openCall, findCall, walkWords, walkOf, walkCall, lookupCall, headWords, frameWords, framedWords, framedNext, nextCall};
+ghost use Rattle.c_words.specs.Reading.{filled, moved, answered, stepsTo, cacheWords, countAt, cacheOf, refused, cached, parseCall, openCall};
+ghost use Rattle.c_words.specs.Reading.{findCall, walkWords, walkOf, walkCall, lookupCall, headWords, frameWords, framedWords, framedNext, nextCall};
 use c_words::file_rows::put_file;
 use slices::put;
 use slices::put64;
@@ -239,7 +241,8 @@ fn put_frame(frame: &mut [u32], f: Frame)
 }
 
 fn put_step(cursor: &mut [u32], frame: &mut [u32], step: Step) -> u32
-    ensures { λ r. ⌜ moved r (now (cursor .exit)) (now (frame .exit)) ≡ stepsTo framedNext framedWords (stepAnswer step) (now (cursor .entry)) (now (frame .entry)) ⌝ }
+    ensures { λ r. ⌜ moved r (now (cursor .exit)) (now (frame .exit))
+        ≡ stepsTo framedNext framedWords (stepAnswer step) (now (cursor .entry)) (now (frame .entry)) ⌝ }
 {
     match step {
         Step::Frame { frame: f, next } => {

@@ -2,7 +2,9 @@
 ghost use mathlib.Core.Path.{_≡_};
 ghost use Rattle.symcache.specs.Answers.{fileAnswer, functionAnswer, functionsAnswer, filesAnswer};
 ghost use Rattle.symcache.specs.Strings.{stringAnswer};
-ghost use Rattle.c_words.specs.Reading.{filled, moved, answered, stepsTo, partWords, stringCall, gotName, nameCall, functionRow, fileRow, functionCall, fileCall, indexOf, nextFunctionWords, functionNext, functionsCall, nextFileWords, fileNext, filesCall};
+ghost use Rattle.c_words.specs.Reading.{filled, moved, answered, stepsTo, partWords, stringCall, gotName, nameCall, functionRow, fileRow};
+ghost use Rattle.c_words.specs.Reading.{functionCall, fileCall, indexOf, nextFunctionWords, functionNext, functionsCall, nextFileWords, fileNext};
+ghost use Rattle.c_words.specs.Reading.{filesCall};
 use c_words::file_rows::put_file;
 use c_words::file_rows::put_function;
 use slices::put;
@@ -116,7 +118,8 @@ fn index_of(cursor: &[u32]) -> u32
 }
 
 fn put_function_step(cursor: &mut [u32], row: &mut [u32], step: FunctionStep) -> u32
-    ensures { λ r. ⌜ moved r (now (cursor .exit)) (now (row .exit)) ≡ stepsTo functionNext nextFunctionWords (functionsAnswer step) (now (cursor .entry)) (now (row .entry)) ⌝ }
+    ensures { λ r. ⌜ moved r (now (cursor .exit)) (now (row .exit))
+        ≡ stepsTo functionNext nextFunctionWords (functionsAnswer step) (now (cursor .entry)) (now (row .entry)) ⌝ }
 {
     match step {
         FunctionStep::Function {
@@ -149,7 +152,8 @@ pub fn functions_next(bytes: &[u8], cursor: &mut [u32], row: &mut [u32]) -> u32
 }
 
 fn put_file_step(cursor: &mut [u32], row: &mut [u32], step: FileStep) -> u32
-    ensures { λ r. ⌜ moved r (now (cursor .exit)) (now (row .exit)) ≡ stepsTo fileNext nextFileWords (filesAnswer step) (now (cursor .entry)) (now (row .entry)) ⌝ }
+    ensures { λ r. ⌜ moved r (now (cursor .exit)) (now (row .exit))
+        ≡ stepsTo fileNext nextFileWords (filesAnswer step) (now (cursor .entry)) (now (row .entry)) ⌝ }
 {
     match step {
         FileStep::File { index, file, next } => {

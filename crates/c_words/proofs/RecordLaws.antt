@@ -1,4 +1,4 @@
--- The record's wordBytes, read and stored.
+-- The record's words, read and stored.
 use Prim.Native.Nat.{ℕ, _+_, _*_}
 use mathlib.Core.Bool.{Bool, cond}
 use mathlib.Core.Path.{_≡_, refl, sym, ap, _∙_}

@@ -1,4 +1,5 @@
--- The exported calls of the reader and the lookup: what the calls of `symcache` answer (symcache's Answers, Reader, Lookup, Strings), as a number and as words in the lent slices.
+-- The exported calls of the reader and the lookup: what the calls of `symcache` answer (symcache's Answers, Reader, Lookup, Strings), as a number and
+-- as words in the lent slices.
 use Prim.Native.Nat.{ℕ, _%_}
 use mathlib.Core.Bool.{cond}
 use mathlib.Core.List.{List, [], _∷_, _++_}

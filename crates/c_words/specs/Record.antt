@@ -1,4 +1,5 @@
--- The converter's record in twenty wordBytes: 0 to 7 the debug id, four bytes a word, little-endian; 8 arch; 9 and 10 the two switches; 11 to 16 what is in use of the six tables; 17 whether the last
+-- The converter's record in twenty words: 0 to 7 the debug id, four bytes a word, little-endian; 8 arch; 9 and 10 the two switches; 11 to 16 what is
+-- in use of the six tables; 17 whether the last
 -- end is set; 18 the last end, 0 where unset; 19 open.
 use Prim.Native.Nat.{ℕ, _<_}
 use mathlib.Core.Bool.{cond, _||_}
@@ -33,7 +34,7 @@ stateOf r = record {
   «last_addr» = lastOf (getD r 17 0) (getD r 18 0);
 }
 
--- "A record of fewer than 20 wordBytes is a closed converter": its last word is read as 0
+-- "A record of fewer than 20 words is a closed converter": its last word is read as 0
 unfoldable pub converterOf : List ℕ → Converter
 converterOf r = record {
   «debug_id» = idOf r;

@@ -1,4 +1,5 @@
--- The exported calls of the converter and the writer: each reads the record, does what the call of `writer` or `serialize` does (writer's Calls, serialize's File), and stores the record where it
+-- The exported calls of the converter and the writer: each reads the record, does what the call of `writer` or `serialize` does (writer's Calls,
+-- serialize's File), and stores the record where it
 -- was accepted or closed. All for any content and any length.
 use Prim.Native.Nat.{ℕ}
 use mathlib.Core.Bool.{cond}

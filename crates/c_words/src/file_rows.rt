@@ -2,9 +2,9 @@
 ghost use mathlib.Core.Path.{_≡_};
 ghost use lib.Seq.{sets};
 ghost use Rattle.raw.specs.Rows.{fileWords, functionWords};
-use slices::put;
 use raw::File;
 use raw::Function;
+use slices::put;
 
 // The six texts of a file, from word k on.
 pub fn put_file(row: &mut [u32], k: u32, f: File)

@@ -1,5 +1,5 @@
--- WHAT IS WRITTEN IS THE PLAIN FILE: where wordBytes hold the plain tables of a list, the bytes that `serialize` writes are the sections of these tables, with the ranges ascending by start.
--- Section by section: a row of wordBytes is the file's row. The ranges: sorting entries (start, row number) is putting what they stand for in order of start, since no start stands twice;
+-- WHAT IS WRITTEN IS THE PLAIN FILE: where words hold the plain tables of a list, the bytes that `serialize` writes are the sections of these tables, with the ranges ascending by start.
+-- Section by section: a row of words is the file's row. The ranges: sorting entries (start, row number) is putting what they stand for in order of start, since no start stands twice;
 -- and there is no sentinel, since a set last end is a start.
 use mathlib.Core.Path.{_≡_, refl, sym, ap, ap₂, _∙_, subst}
 use mathlib.Core.Bool.{Bool, true, false, cond, _&&_}
@@ -65,7 +65,7 @@ unfolding tableBytes
 table-same p q h [] = refl
 table-same p q h (x ∷ xs) = ap₂ (λ (a b : List ℕ). a ++ b) (h x) (table-same p q h xs)
 
--- a table that holds rows f x, where the file's bytes of such a row are the wordBytes g x
+-- a table that holds rows f x, where the file's bytes of such a row are the words g x
 section-is : {A : Type 0} (bytes : Row → List ℕ) (f : A → Row) (g : A → List ℕ) → ((x : A) → bytes (f x) ≡ wordBytes (g x)) → (w : ℕ) (t : List ℕ) (n : ℕ) (xs : List A) → Holds w t n (map f xs)
     → tableBytes bytes (rowsOf t n) ≡ tableBytes wordBytes (map g xs)
 section-is {A} bytes f g e w t n xs h =

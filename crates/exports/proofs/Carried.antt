@@ -1,4 +1,4 @@
--- The record survives between two calls: the wordBytes that one call stores are to the next the very converter that the call of `writer` answered. So what is stated over a list of calls by value holds
+-- The record survives between two calls: the words that one call stores are to the next the very converter that the call of `writer` answered. So what is stated over a list of calls by value holds
 -- of the exported calls too.
 use Prim.Native.Nat.{ℕ, zero, suc, _+_, _*_, _/_, _%_, _<_, _≤_}
 use native.Mathlib.Omega.{arith}
@@ -107,7 +107,7 @@ module _ (id : List ℕ) (arch : ℕ) (f g o : Bool) (x i p q c n : ℕ) where
   made-back h Unset = rw (id-back id h, yes-back f, yes-back g, yes-back o)
   made-back h (Set a) = rw (id-back id h, yes-back f, yes-back g, yes-back o)
 
--- the wordBytes of a converter are that converter
+-- the words of a converter are that converter
 pub words-back : (c : Converter) → IdFits (c .«debug_id») → converterOf (wordsOf c) ≡ c
 words-back c h =
     made-back (c .«debug_id») (c .arch) (c .«undecorate_functions») (c .«undecorate_symbols») (c .«open») (c .state .«string_bytes») (c .state .strings) (c .state .files) (c .state .functions)
@@ -115,7 +115,7 @@ words-back c h =
 
 -- ── In a slice ─────────────────────────────────────────────────────────────────────────────────────────────────────────
 
--- only the first twenty wordBytes count
+-- only the first twenty words count
 module _ (r r′ : List ℕ) (same : (i : ℕ) → i < 20 → getD r i 0 ≡ getD r′ i 0) where
   record-same : converterOf r ≡ converterOf r′
   unfolding converterOf idOf stateOf bytesAt
@@ -151,7 +151,7 @@ words-length : (c : Converter) → length (wordsOf c) ≡ 20
 unfolding wordsOf
 words-length c = rw (last-length (c .state .«last_addr») (flagOf (c .«open»)))
 
--- a record of twenty wordBytes or more, after a converter was stored in it, is that converter
+-- a record of twenty words or more, after a converter was stored in it, is that converter
 pub stored-back : (r : List ℕ) (c : Converter) → 20 ≤ length r → IdFits (c .«debug_id») → converterOf (stored (wordsOf c) r) ≡ c
 stored-back r c h f =
     record-same (stored (wordsOf c) r) (wordsOf c)

@@ -44,7 +44,15 @@ pub extern "C" fn symcache_process_symbolic_function_lines(
     lines: &[LineRow],
     text: &[u8],
 ) -> u32
-    ensures { λ r. ⌜ linesLeft (left r (now («record» .exit)) (memory (now («string_bytes» .exit)) (now (strings .exit)) (now (files .exit)) (now (functions .exit)) (now («call_locations» .exit)) (now (ranges .exit))) (now (scratch .exit))) (now (unpacked64 .exit)) (now (unpacked32 .exit)) ≡ linesCall (now («record» .entry)) (memory (now («string_bytes» .entry)) (now (strings .entry)) (now (files .entry)) (now (functions .entry)) (now («call_locations» .entry)) (now (ranges .entry))) (now (scratch .entry)) (now (unpacked64 .entry)) (now (unpacked32 .entry)) (lineColumns (now (functions64 .entry)) (now (functions32 .entry)) (now (lines .entry)) (now (text .entry))) ⌝ }
+    ensures { λ r. ⌜ (
+        let given = lineColumns (now (functions64 .entry)) (now (functions32 .entry)) (now (lines .entry)) (now (text .entry)) in
+        let before = memory (now («string_bytes» .entry)) (now (strings .entry)) (now (files .entry)) (now (functions .entry))
+        (now («call_locations» .entry)) (now (ranges .entry)) in
+        let after = memory (now («string_bytes» .exit)) (now (strings .exit)) (now (files .exit)) (now (functions .exit))
+        (now («call_locations» .exit)) (now (ranges .exit)) in
+        linesLeft (left r (now («record» .exit)) after (now (scratch .exit))) (now (unpacked64 .exit)) (now (unpacked32 .exit))
+        ≡ linesCall (now («record» .entry)) before (now (scratch .entry)) (now (unpacked64 .entry)) (now (unpacked32 .entry)) given
+        ) ⌝ }
 {
     let converter = read_record(&mut *record);
     let answer = line_rows::process_function_lines(

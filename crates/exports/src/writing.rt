@@ -9,9 +9,9 @@ use c_words::file::put_len;
 use c_words::record::load;
 use c_words::record::store;
 use c_words::record::store_answer;
-use slices::is_set;
 use rows::OptionalPart;
 use rows::TextPart;
+use slices::is_set;
 
 // The first 32 bytes, zeros past the end: a header row begins with its debug id.
 fn debug_id_of(bytes: &[u8]) -> [u8; 32]
@@ -36,7 +36,14 @@ pub extern "C" fn symcache_begin(
     call_locations: &mut [u32],
     ranges: &mut [u32],
 ) -> u32
-    ensures { λ r. ⌜ left r (now («record» .exit)) (memory (now («string_bytes» .exit)) (now (strings .exit)) (now (files .exit)) (now (functions .exit)) (now («call_locations» .exit)) (now (ranges .exit))) [] ≡ beginCall (now («record» .entry)) (now («debug_id» .entry)) arch «undecorate_functions» «undecorate_symbols» (memory (now («string_bytes» .entry)) (now (strings .entry)) (now (files .entry)) (now (functions .entry)) (now («call_locations» .entry)) (now (ranges .entry))) ⌝ }
+    ensures { λ r. ⌜ (
+        let before = memory (now («string_bytes» .entry)) (now (strings .entry)) (now (files .entry)) (now (functions .entry))
+        (now («call_locations» .entry)) (now (ranges .entry)) in
+        let after = memory (now («string_bytes» .exit)) (now (strings .exit)) (now (files .exit)) (now (functions .exit))
+        (now («call_locations» .exit)) (now (ranges .exit)) in
+        left r (now («record» .exit)) after []
+        ≡ beginCall (now («record» .entry)) (now («debug_id» .entry)) arch «undecorate_functions» «undecorate_symbols» before
+        ) ⌝ }
 {
     if record.len() < 20 {
         return 19;
@@ -74,7 +81,15 @@ pub extern "C" fn symcache_process_symbolic_function(
     lines32: &[u32],
     text: &[u8],
 ) -> u32
-    ensures { λ r. ⌜ left r (now («record» .exit)) (memory (now («string_bytes» .exit)) (now (strings .exit)) (now (files .exit)) (now (functions .exit)) (now («call_locations» .exit)) (now (ranges .exit))) (now (scratch .exit)) ≡ treeCall (now («record» .entry)) (memory (now («string_bytes» .entry)) (now (strings .entry)) (now (files .entry)) (now (functions .entry)) (now («call_locations» .entry)) (now (ranges .entry))) (now (scratch .entry)) (columns (now (functions64 .entry)) (now (functions32 .entry)) (now (lines64 .entry)) (now (lines32 .entry)) (now (text .entry))) ⌝ }
+    ensures { λ r. ⌜ (
+        let given = columns (now (functions64 .entry)) (now (functions32 .entry)) (now (lines64 .entry)) (now (lines32 .entry))
+        (now (text .entry)) in
+        let before = memory (now («string_bytes» .entry)) (now (strings .entry)) (now (files .entry)) (now (functions .entry))
+        (now («call_locations» .entry)) (now (ranges .entry)) in
+        let after = memory (now («string_bytes» .exit)) (now (strings .exit)) (now (files .exit)) (now (functions .exit))
+        (now («call_locations» .exit)) (now (ranges .exit)) in
+        left r (now («record» .exit)) after (now (scratch .exit)) ≡ treeCall (now («record» .entry)) before (now (scratch .entry)) given
+        ) ⌝ }
 {
     let answer = writer::calls::process_symbolic_function(
         load(record),
@@ -113,7 +128,14 @@ pub extern "C" fn symcache_process_symbolic_symbol(
     name_start: u32,
     name_len: u32,
 ) -> u32
-    ensures { λ r. ⌜ left r (now («record» .exit)) (memory (now («string_bytes» .exit)) (now (strings .exit)) (now (files .exit)) (now (functions .exit)) (now («call_locations» .exit)) (now (ranges .exit))) [] ≡ symbolCall (now («record» .entry)) (memory (now («string_bytes» .entry)) (now (strings .entry)) (now (files .entry)) (now (functions .entry)) (now («call_locations» .entry)) (now (ranges .entry))) (now (text .entry)) address size (nameAt named «name_start» «name_len») ⌝ }
+    ensures { λ r. ⌜ (
+        let before = memory (now («string_bytes» .entry)) (now (strings .entry)) (now (files .entry)) (now (functions .entry))
+        (now («call_locations» .entry)) (now (ranges .entry)) in
+        let after = memory (now («string_bytes» .exit)) (now (strings .exit)) (now (files .exit)) (now (functions .exit))
+        (now («call_locations» .exit)) (now (ranges .exit)) in
+        left r (now («record» .exit)) after []
+        ≡ symbolCall (now («record» .entry)) before (now (text .entry)) address size (nameAt named «name_start» «name_len»)
+        ) ⌝ }
 {
     let part = TextPart {
         start: name_start,
@@ -153,7 +175,11 @@ pub extern "C" fn symcache_serialize(
     out: &mut [u8],
     len: &mut [u64],
 ) -> u32
-    ensures { λ r. ⌜ leftFile r (now (out .exit)) (now (len .exit)) ≡ serializeCall (now («record» .entry)) (memory (now («string_bytes» .entry)) (now (strings .entry)) (now (files .entry)) (now (functions .entry)) (now («call_locations» .entry)) (now (ranges .entry))) (now (out .entry)) (now (len .entry)) ⌝ }
+    ensures { λ r. ⌜ (
+        let before = memory (now («string_bytes» .entry)) (now (strings .entry)) (now (files .entry)) (now (functions .entry))
+        (now («call_locations» .entry)) (now (ranges .entry)) in
+        leftFile r (now (out .exit)) (now (len .exit)) ≡ serializeCall (now («record» .entry)) before (now (out .entry)) (now (len .entry))
+        ) ⌝ }
 {
     let written = serialize::serialize(
         load(record),

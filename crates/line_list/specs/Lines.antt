@@ -1,4 +1,5 @@
--- Line rows as one lent list of rows: document 01, "First over plain number slices; then one thin entry takes the line rows as one lent list of rows". The words that a row is unpacked to, and the
+-- Line rows as one lent list of rows: document 01, "First over plain number slices; then one thin entry takes the line rows as one lent list of
+-- rows". The words that a row is unpacked to, and the
 -- columns of numbers that a list of rows stands for.
 use mathlib.Core.Bool.{Bool, cond, _&&_}
 use mathlib.Core.List.{List, [], _∷_, _++_}

@@ -1,4 +1,5 @@
-// Line rows that are one lent list: their texts, the words that they are unpacked to, and the number that a call with them is refused with before a word is unpacked.
+// Line rows that are one lent list: their texts, the words that they are unpacked to, and the number that a call with them is refused with before a
+// word is unpacked.
 ghost use mathlib.Core.Path.{_≡_};
 ghost use mathlib.Core.Bool.{_&&_};
 ghost use Rattle.rows.specs.Refusals.{lineTexts?};
@@ -78,7 +79,8 @@ fn put_words32(refused: u32, unpacked32: &mut [u32], j: usize, row: LineRow)
 
 // Row j into both columns.
 fn put_line(refused: u32, unpacked64: &mut [u64], unpacked32: &mut [u32], j: usize, row: LineRow)
-    ensures { λ _. ⌜ (now (unpacked64 .exit) ≡ putRow refused 3 (now (unpacked64 .entry)) j (words64 row)) × (now (unpacked32 .exit) ≡ putRow refused 14 (now (unpacked32 .entry)) j (words32 row)) ⌝ }
+    ensures { λ _. ⌜ (now (unpacked64 .exit) ≡ putRow refused 3 (now (unpacked64 .entry)) j (words64 row))
+        × (now (unpacked32 .exit) ≡ putRow refused 14 (now (unpacked32 .entry)) j (words32 row)) ⌝ }
 {
     put_words64(refused, unpacked64, j, row);
     put_words32(refused, unpacked32, j, row);
@@ -86,7 +88,8 @@ fn put_line(refused: u32, unpacked64: &mut [u64], unpacked32: &mut [u32], j: usi
 
 // All rows into the memory that is lent for them; nothing where the call is refused.
 pub fn unpack(refused: u32, lines: &[LineRow], unpacked64: &mut [u64], unpacked32: &mut [u32])
-    ensures { λ _. ⌜ (now (unpacked64 .exit) ≡ putRows refused 3 words64 (now (lines .entry)) 0 (now (unpacked64 .entry))) × (now (unpacked32 .exit) ≡ putRows refused 14 words32 (now (lines .entry)) 0 (now (unpacked32 .entry))) ⌝ }
+    ensures { λ _. ⌜ (now (unpacked64 .exit) ≡ putRows refused 3 words64 (now (lines .entry)) 0 (now (unpacked64 .entry)))
+        × (now (unpacked32 .exit) ≡ putRows refused 14 words32 (now (lines .entry)) 0 (now (unpacked32 .entry))) ⌝ }
 {
     let mut j: usize = 0;
     while j < lines.len() {

@@ -25,7 +25,8 @@ leaves o u v = record { called = o; unpacked64 = u; unpacked32 = v }
 unfoldable pub unpackRoom? : Columns → List ℕ → List ℕ → Bool
 unpackRoom? k u v = leb (length (k .lines64)) (length u) && leb (length (k .lines32)) (length v)
 
--- That memory counts as scratch: 16 where it has fewer rows than there are line rows, zero after 17 and after every accepted tree, and any other refusal changes none of it.
+-- That memory counts as scratch: 16 where it has fewer rows than there are line rows, zero after 17 and after every accepted tree, and any other
+-- refusal changes none of it.
 -- "Trees: 19, 13, 14, 15, 16, 17"
 unfoldable pub linesOf : Converter → Memory → List ℕ → List ℕ → List ℕ → Columns → LinesCalled
 linesOf c m s u v k =

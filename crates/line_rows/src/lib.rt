@@ -6,14 +6,14 @@ ghost use Rattle.memory.specs.Memory.{memory};
 ghost use Rattle.writer.specs.Calls.{called};
 ghost use Rattle.line_list.specs.Lines.{lineColumns};
 ghost use Rattle.line_rows.specs.Calls.{leaves, linesOf, unpackedOf};
-use memory::Converter;
-use rows::LineRow;
-use slices::zero;
-use slices::zero64;
 use line_list::is_usable;
 use line_list::lines_texts;
 use line_list::refusal;
 use line_list::unpack;
+use memory::Converter;
+use rows::LineRow;
+use slices::zero;
+use slices::zero64;
 use writer::calls::Answer;
 
 // The call over number slices, if it isn't refused; what was unpacked is zeroed.
@@ -35,7 +35,15 @@ fn process_unpacked(
     text: &[u8],
 ) -> Answer
     requires { ⌜ (refused ≡ 0 → (lines * 3 ≤ length (now unpacked64)) × (lines * 14 ≤ length (now unpacked32))) ⌝ }
-    ensures { λ r. ⌜ leaves (called (r .code) (r .converter) (memory (now («string_bytes» .exit)) (now (strings .exit)) (now (files .exit)) (now (functions .exit)) (now («call_locations» .exit)) (now (ranges .exit))) (now (scratch .exit))) (now (unpacked64 .exit)) (now (unpacked32 .exit)) ≡ unpackedOf refused lines converter (memory (now («string_bytes» .entry)) (now (strings .entry)) (now (files .entry)) (now (functions .entry)) (now («call_locations» .entry)) (now (ranges .entry))) (now (scratch .entry)) (now (unpacked64 .entry)) (now (unpacked32 .entry)) (now (functions64 .entry)) (now (functions32 .entry)) (now (text .entry)) ⌝ }
+    ensures { λ r. ⌜ (
+        let before = memory (now («string_bytes» .entry)) (now (strings .entry)) (now (files .entry)) (now (functions .entry))
+        (now («call_locations» .entry)) (now (ranges .entry)) in
+        let after = memory (now («string_bytes» .exit)) (now (strings .exit)) (now (files .exit)) (now (functions .exit))
+        (now («call_locations» .exit)) (now (ranges .exit)) in
+        leaves (called (r .code) (r .converter) after (now (scratch .exit))) (now (unpacked64 .exit)) (now (unpacked32 .exit))
+        ≡ unpackedOf refused lines converter before (now (scratch .entry)) (now (unpacked64 .entry)) (now (unpacked32 .entry))
+        (now (functions64 .entry)) (now (functions32 .entry)) (now (text .entry))
+        ) ⌝ }
 {
     if refused == 0 {
         let answer = writer::calls::process_symbolic_function(
@@ -63,7 +71,8 @@ fn process_unpacked(
     }
 }
 
-// A tree: function rows in preorder in columns of numbers, their line rows as one lent list, and one lent text. The line rows are unpacked into memory that is lent for them.
+// A tree: function rows in preorder in columns of numbers, their line rows as one lent list, and one lent text. The line rows are unpacked into
+// memory that is lent for them.
 pub fn process_function_lines(
     converter: Converter,
     string_bytes: &mut [u8],
@@ -80,7 +89,15 @@ pub fn process_function_lines(
     lines: &[LineRow],
     text: &[u8],
 ) -> Answer
-    ensures { λ r. ⌜ leaves (called (r .code) (r .converter) (memory (now («string_bytes» .exit)) (now (strings .exit)) (now (files .exit)) (now (functions .exit)) (now («call_locations» .exit)) (now (ranges .exit))) (now (scratch .exit))) (now (unpacked64 .exit)) (now (unpacked32 .exit)) ≡ linesOf converter (memory (now («string_bytes» .entry)) (now (strings .entry)) (now (files .entry)) (now (functions .entry)) (now («call_locations» .entry)) (now (ranges .entry))) (now (scratch .entry)) (now (unpacked64 .entry)) (now (unpacked32 .entry)) (lineColumns (now (functions64 .entry)) (now (functions32 .entry)) (now (lines .entry)) (now (text .entry))) ⌝ }
+    ensures { λ r. ⌜ (
+        let given = lineColumns (now (functions64 .entry)) (now (functions32 .entry)) (now (lines .entry)) (now (text .entry)) in
+        let before = memory (now («string_bytes» .entry)) (now (strings .entry)) (now (files .entry)) (now (functions .entry))
+        (now («call_locations» .entry)) (now (ranges .entry)) in
+        let after = memory (now («string_bytes» .exit)) (now (strings .exit)) (now (files .exit)) (now (functions .exit))
+        (now («call_locations» .exit)) (now (ranges .exit)) in
+        leaves (called (r .code) (r .converter) after (now (scratch .exit))) (now (unpacked64 .exit)) (now (unpacked32 .exit))
+        ≡ linesOf converter before (now (scratch .entry)) (now (unpacked64 .entry)) (now (unpacked32 .entry)) given
+        ) ⌝ }
 {
     let texts = lines_texts(lines, text);
     let usable = is_usable(

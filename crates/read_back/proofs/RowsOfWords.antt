@@ -1,4 +1,4 @@
--- Rows of wordBytes in a list of bytes: each stands where its index says, and its wordBytes are read back.
+-- Rows of words in a list of bytes: each stands where its index says, and its words are read back.
 use Prim.Native.Nat.{ℕ, zero, suc, _+_, _*_, _<_}
 use mathlib.Core.Path.{_≡_, refl, sym, ap, _∙_}
 use mathlib.Core.List.{List, [], _∷_, _++_, map, append-assoc}
@@ -14,7 +14,7 @@ use Rattle.slices.proofs.Bytes.{length-words, stands-left, stands-right, word-b
 use Rattle.model.proofs.Sections.{word}
 use Rattle.read_back.specs.Bytes.{Rows}
 
--- a row of n wordBytes that stands at m
+-- a row of n words that stands at m
 pub record RowAt (n : ℕ) (r s : List ℕ) (m : ℕ) : Type 0 where
   pub size : length r ≡ n
   pub low : Words32 r
@@ -65,7 +65,7 @@ module _ {A : Type 0} where
   table-words f [] = refl
   table-words f (x ∷ xs) = append-assoc (le 4 (f x)) [] (tableBytes (λ (y : A). wordBytes (f y ∷ [])) xs) ∙ ap (λ (l : List ℕ). le 4 (f x) ++ l) (table-words f xs)
 
--- ── Words32 as rows ──
+-- ── Words as rows ──
 
 abbrev pub file-of : List ℕ → File
 file-of r = record {

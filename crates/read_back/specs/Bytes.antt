@@ -1,4 +1,4 @@
--- THE BYTES OF A FILE whose rows are given as wordBytes: document 01 "Writer", "Rows"; writer.rs, `serialize`.
+-- THE BYTES OF A FILE whose rows are given as words: document 01 "Writer", "Rows"; writer.rs, `serialize`.
 use Prim.Native.Nat.{ℕ, _*_, _≤_}
 use mathlib.Core.Path.{_≡_}
 use mathlib.Core.List.{List, [], _∷_, _++_}
@@ -27,7 +27,7 @@ file-bytes id a z =
 
 -- ── What has a file ──
 
--- each row has n wordBytes of 32 bits
+-- each row has n words of 32 bits
 abbrev pub Rows : ℕ → List (List ℕ) → Type 0
 Rows n [] = Unit {0}
 Rows n (r ∷ rs) = ((length r ≡ n) × Words32 r) × Rows n rs

@@ -1,13 +1,13 @@
 // The written file: writer.rs, `serialize`, from the lent tables into a lent output.
-use raw::Header;
-use raw::Range;
-use raw::SourceLocation;
-use raw::VersionInfo;
 use memory::Converter;
 use memory::LastAddr;
 use memory::State;
 use memory::is_usable;
 use memory::lent;
+use raw::Header;
+use raw::Range;
+use raw::SourceLocation;
+use raw::VersionInfo;
 use tables::kinds::call_of_row;
 use tables::kinds::file_of_row;
 use tables::kinds::function_of_row;

@@ -31,7 +31,8 @@ called n c m s = record { code = n; converter = c; memory = m; scratch = s }
 abbrev pub setup : Converter → Setup
 setup c = record { functions-on = c .«undecorate_functions»; symbols-on = c .«undecorate_symbols» }
 
--- "17 fills all tables and scratch with zeros and closes the converter until begun anew"; else the call is accepted, and "Scratch is zero after every accepted tree"
+-- "17 fills all tables and scratch with zeros and closes the converter until begun anew"; else the call is accepted, and "Scratch is zero after every
+-- accepted tree"
 unfoldable pub finished : Converter → List ℕ → Words → Called
 finished c s w =
     cond (fits? w) (called 0 (with-state c true (w .st)) (w .mm) (zeros s)) (called 17 (with-state c false unused) (zeroed (w .mm)) (zeros s))

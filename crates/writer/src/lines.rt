@@ -1,10 +1,10 @@
 // A function's lines.
 use crate::stack::Pairs;
-use slices::put;
-use slices::word;
+use memory::State;
 use raw::SourceLocation;
 use rows::FunctionRow;
-use memory::State;
+use slices::put;
+use slices::word;
 use steps::comp_dir_part;
 use steps::insert_call_location;
 use steps::insert_range;

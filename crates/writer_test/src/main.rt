@@ -1,5 +1,6 @@
 // Replays lists of calls whose written files the original made: oracle/FORMAT.md, "Converter". A line is printed for each list, the checksum of its words.
 use libc::STDOUT_FILENO;
+use memory::Converter;
 use replay::add;
 use replay::add_bytes;
 use replay::low;
@@ -8,7 +9,6 @@ use replay::place;
 use replay::word;
 use rows::OptionalPart;
 use rows::TextPart;
-use memory::Converter;
 use writer::calls::Answer;
 
 // Parts of a record
