@@ -8,9 +8,16 @@ use borrow.Author.Needs.{needs}
 use Rattle.steps.proofs.insert_optional.Statement.{statement}
 use Rattle.steps.proofs.insert_optional.Tie as tie
 
+-- ── Places ──
+
+abbrev start : tie.After-or-empty → tie.Start
+start c = c .before .before .before .before .before .before
+
+-- ── What is needed ──
+
 returns : tie.Need-returns
 returns c =
-    let a = c .before .before .before .before .before .before .before .before .before .before .before .args in
+    let a = (start (c .before .before .before .before .before)) .args in
     λ f g m n.
     store-same (words (a .state) (a .string-bytes .now) (a .strings .now) f g m n) (c .before .before .before .before .insert-part .ensures f g m n) (ap (λ (p : TextPart). textOf (a .text .now) p) (c .before .before .before .before .before .or-empty .ensures))
 

@@ -5,9 +5,16 @@ use borrow.Author.Needs.{needs}
 use Rattle.steps.proofs.insert_part.Statement.{statement}
 use Rattle.steps.proofs.insert_part.Tie as tie
 
+-- ── Places ──
+
+abbrev start : tie.After-part → tie.Start
+start c = c .before .before .before .before
+
+-- ── What is needed ──
+
 returns : tie.Need-returns
 returns c =
-    let a = c .before .before .before .before .before .before .before .before .before .before .before .args in
+    let a = (start (c .before .before .before .before .before .before .before)) .args in
     λ f g m n.
     store-same (words (a .state) (a .string-bytes .now) (a .strings .now) f g m n) (c .before .before .before .before .insert-string .ensures f g m n) (c .before .before .before .before .before .before .before .part .ensures)
 

@@ -4,9 +4,16 @@ use borrow.Author.Needs.{needs}
 use Rattle.steps.proofs.insert_string.Statement.{statement}
 use Rattle.steps.proofs.insert_string.Tie as tie
 
+-- ── Places ──
+
+abbrev start : tie.After-insert → tie.Start
+start c = c .before .before .before .before .before .before
+
+-- ── What is needed ──
+
 returns : tie.Need-returns
 returns c =
-    let a = c .before .before .before .before .before .before .before .before .before .before .args in
+    let a = (start (c .before .before .before .before)) .args in
     let r = c .before .before .before .before .insert in
     store-law (a .state) (a .t .now) (a .string-bytes .now) (a .strings .now) {x1 = r .last .0} {i1 = r .last .1 .0} {got = r .result} (r .ensures)
 

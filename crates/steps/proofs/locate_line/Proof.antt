@@ -6,10 +6,20 @@ use borrow.Author.Needs.{needs}
 use Rattle.steps.proofs.locate_line.Statement.{statement}
 use Rattle.steps.proofs.locate_line.Tie as tie
 
+-- ── Places ──
+
+abbrev at-insert-texts : tie.After-insert-file → tie.After-insert-texts
+at-insert-texts c = c .before .before .before .before .before .before
+
+abbrev start : tie.After-insert-texts → tie.Start
+start c = c .before .before .before .before .before .before .before
+
+-- ── What is needed ──
+
 returns : tie.Need-returns
 returns c =
-    let a = c .before .before .before .before .before .before .before .before .before .before .before .before .before .before .before .before .before .args in
-    let t = c .before .before .before .before .before .before .before .before .before .before .insert-texts in
+    let a = (start (at-insert-texts (c .before .before .before .before))) .args in
+    let t = (at-insert-texts (c .before .before .before .before)) .insert-texts in
     let r = c .before .before .before .before .insert-file in
     λ g m n.
     locate-law (sixOf (a .text .now) (a .comp-dir) (a .line)) (a .line .number) (a .function-idx) (a .inlined-into-idx)

@@ -5,13 +5,23 @@ use borrow.Author.Needs.{needs}
 use Rattle.steps.proofs.symbols.insert_symbol.Statement.{statement}
 use Rattle.steps.proofs.symbols.insert_symbol.Tie as tie
 
+-- ── Places ──
+
+abbrev at-is-free : tie.After-insert-function → tie.After-is-free
+at-is-free c = c .before .before .before
+
+abbrev start : tie.After-is-free → tie.Start
+start c = c .before .before .before .before
+
+-- ── What is needed ──
+
 returns : tie.Need-returns
 returns c =
-    let a = c .before .before .before .before .before .before .before .before .before .before .before .before .before .args in
+    let a = (start (at-is-free (c .before .before .before .before .before .before))) .args in
     let f = c .before .before .before .before .before .before .insert-function in
     let r = c .before .before .insert-range in
     λ X x i y m.
-    symbol-placed X (a .name-offset) (a .address) (words (a .state) x i y (a .functions .now) m (a .ranges .now)) (c .before .before .before .before .before .before .before .before .before .is-free .ensures) (c .before .before .before .before .before .before .before .before .if1 .taken)
+    symbol-placed X (a .name-offset) (a .address) (words (a .state) x i y (a .functions .now) m (a .ranges .now)) ((at-is-free (c .before .before .before .before .before .before)) .is-free .ensures) (c .before .before .before .before .before .before .before .before .if1 .taken)
     {i = f .result .index} {t = words (f .result .state) x i y (f .last .1 .0) m (a .ranges .now)} {u = words (r .result) x i y (f .last .1 .0) m (r .last .1 .0)}
     (f .ensures x i y m (a .ranges .now)) (r .ensures x i y (f .last .1 .0) m)
 

@@ -7,11 +7,27 @@ use borrow.Author.Needs.{needs}
 use Rattle.steps.proofs.symbols.process_named.Statement.{statement}
 use Rattle.steps.proofs.symbols.process_named.Tie as tie
 
+-- ── Places ──
+
+abbrev at-insert-symbol : tie.After-mark-symbol → tie.After-insert-symbol
+at-insert-symbol c = c .before .before .before .before .before
+
+abbrev at-insert-string : tie.After-insert-symbol → tie.After-insert-string
+at-insert-string c = c .before .before .before .before .before .before .before
+
+abbrev at-shown-name : tie.After-insert-string → tie.After-shown-name
+at-shown-name c = c .before .before .before
+
+abbrev start : tie.After-shown-name → tie.Start
+start c = c .before .before .before .before .before .before
+
+-- ── What is needed ──
+
 returns : tie.Need-returns
 returns c =
-    let a = c .before .before .before .before .before .before .before .before .before .before .before .before .before .before .before .before .before .before .before .before .before .before .before .before .before .args in
-    let t = c .before .before .before .before .before .before .before .before .before .before .before .before .before .before .before .before .insert-string in
-    let l = c .before .before .before .before .before .before .before .before .before .insert-symbol in
+    let a = (start (at-shown-name (at-insert-string (at-insert-symbol (c .before .before .before .before))))) .args in
+    let t = (at-insert-string (at-insert-symbol (c .before .before .before .before))) .insert-string in
+    let l = (at-insert-symbol (c .before .before .before .before)) .insert-symbol in
     let m = c .before .before .before .before .mark-symbol in
     let e = c .before .before .insert-symbol-end in
     λ b f k.
@@ -19,7 +35,7 @@ returns c =
     {p = t .result .index} {t = words (t .result .state) (t .last .1 .0) (t .last .1 .1 .0) f (a .functions .now) k (a .ranges .now)}
     {u = words (l .result) (t .last .1 .0) (t .last .1 .1 .0) f (l .last .1 .0) k (l .last .1 .1 .0)}
     {v = words (e .result) (t .last .1 .0) (t .last .1 .1 .0) f (l .last .1 .0) k (e .last .1 .0)} {st = m .result}
-    (c .before .before .before .before .before .before .before .before .before .before .before .before .before .before .before .before .before .before .before .shown-name .ensures) (t .ensures f (a .functions .now) k (a .ranges .now)) (l .ensures (switches b (a .undecorate)) (t .last .1 .0) (t .last .1 .1 .0) f k)
+    ((at-shown-name (at-insert-string (at-insert-symbol (c .before .before .before .before)))) .shown-name .ensures) (t .ensures f (a .functions .now) k (a .ranges .now)) (l .ensures (switches b (a .undecorate)) (t .last .1 .0) (t .last .1 .1 .0) f k)
     (m .ensures) (e .ensures (switches b (a .undecorate)) (a .name .now) (t .last .1 .0) (t .last .1 .1 .0) f (l .last .1 .0) k)
 
 pub process-named-spec : {M : Type 1} → statement M
