@@ -32,7 +32,7 @@ ghost use Rattle.memory.specs.Memory.{memory};
 ghost use Rattle.serialize.specs.File.{header-of, layout-of, written-file, Ready, wrote, serializeOf};
 
 // Document 01's number for an output that is shorter than the file.
-const OUTPUT_TOO_SHORT: u32 = 18;
+const SYMCACHE_OUTPUT_TOO_SHORT: u32 = 18;
 
 // Magic, version and header; then the rows, of these sizes in bytes.
 const HEAD_SIZE: usize = 80;
@@ -80,7 +80,7 @@ pub fn serialize(
     );
     if !is_usable(converter, tables) {
         return Written {
-            code: memory::CLOSED,
+            code: memory::SYMCACHE_CLOSED,
             len: 0,
         };
     }
@@ -91,7 +91,7 @@ pub fn serialize(
     let len = at.len;
     if out.len() < len {
         return Written {
-            code: OUTPUT_TOO_SHORT,
+            code: SYMCACHE_OUTPUT_TOO_SHORT,
             len: 0,
         };
     }

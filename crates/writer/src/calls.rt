@@ -71,7 +71,7 @@ fn finish(
         ranges,
     );
     Answer {
-        code: memory::TABLE_FULL,
+        code: memory::SYMCACHE_TABLE_FULL,
         converter: with_state(c, false, nothing_used()),
     }
 }
@@ -118,13 +118,13 @@ pub fn process_symbolic_symbol(
     );
     if !is_usable(converter, tables) {
         return Answer {
-            code: memory::CLOSED,
+            code: memory::SYMCACHE_CLOSED,
             converter,
         };
     }
     if !is_readable(text, name) {
         return Answer {
-            code: 14,
+            code: rows::SYMCACHE_INVALID_TEXT,
             converter,
         };
     }
@@ -188,7 +188,7 @@ pub fn process_symbolic_function(
     );
     if !is_usable(converter, tables) {
         return Answer {
-            code: memory::CLOSED,
+            code: memory::SYMCACHE_CLOSED,
             converter,
         };
     }
