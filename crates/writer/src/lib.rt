@@ -1,4 +1,5 @@
 // The converter: writer.rs, `SymCacheConverter`, over lent tables. Its record goes in and comes back by value.
+mod ahead;
 pub mod calls;
 mod lines;
 mod stack;

@@ -1,4 +1,5 @@
 // A tree call: `process_symbolic_functions`.
+use crate::ahead::read_ahead;
 use crate::lines::CallLocations;
 use crate::lines::process_lines;
 use crate::stack::Pairs;
@@ -52,7 +53,7 @@ fn function_end(q: FunctionRow) -> u32
     (low % 4294967296) as u32
 }
 
-fn entry_pc(q: FunctionRow) -> u32
+pub(crate) fn entry_pc(q: FunctionRow) -> u32
     ensures { λ r. ⌜ r ≡ cond (q .inline) MAX (q .address % 4294967296) ⌝ }
 {
     if q.inline {
@@ -363,8 +364,8 @@ fn process_row(
     )
 }
 
-// A tree: its function rows in preorder.
-pub(crate) fn process_tree(
+// All function rows, in preorder.
+fn process_rows(
     undecorate: bool,
     state: State,
     string_bytes: &mut [u8],
@@ -424,4 +425,59 @@ pub(crate) fn process_tree(
         i += 1;
     }
     now
+}
+
+// A tree: it is read ahead, then its function rows are processed.
+pub(crate) fn process_tree(
+    undecorate: bool,
+    state: State,
+    string_bytes: &mut [u8],
+    strings: &mut [u32],
+    files: &mut [u32],
+    functions: &mut [u32],
+    call_locations: &mut [u32],
+    ranges: &mut [u32],
+    s: &mut [u32],
+    functions64: &[u64],
+    functions32: &[u32],
+    lines64: &[u64],
+    lines32: &[u32],
+    text: &[u8],
+) -> State
+    requires { ⌜ refusalOf (columns (now functions64) (now functions32) (now lines64) (now lines32) (now text)) (length (now s)) ≡ 0 ⌝ }
+    ensures { λ r. ⌜ ((Y : Bool) →
+        let k = columns (now (functions64 .entry)) (now (functions32 .entry)) (now (lines64 .entry)) (now (lines32 .entry)) (now (text .entry)) in
+        let before = words state (now («string_bytes» .entry)) (now (strings .entry)) (now (files .entry))
+        (now (functions .entry)) (now («call_locations» .entry)) (now (ranges .entry)) in
+        let after = words r (now («string_bytes» .exit)) (now (strings .exit)) (now (files .exit))
+        (now (functions .exit)) (now («call_locations» .exit)) (now (ranges .exit)) in
+        TreeConverted (switches undecorate Y) k before after) ⌝ }
+{
+    read_ahead(
+        undecorate,
+        string_bytes,
+        strings,
+        functions,
+        ranges,
+        s,
+        functions64,
+        functions32,
+        text,
+    );
+    process_rows(
+        undecorate,
+        state,
+        string_bytes,
+        strings,
+        files,
+        functions,
+        call_locations,
+        ranges,
+        s,
+        functions64,
+        functions32,
+        lines64,
+        lines32,
+        text,
+    )
 }
