@@ -18,11 +18,12 @@ use Rattle.text.specs.Texts.{text-part}
 use Rattle.text.proofs.Leb128Laws.{decoded-past}
 use Rattle.text.proofs.TextLaws.{stored-bytes, part-stored, part-absent, absent-prefix}
 use Rattle.tables.specs.Table.{rowAt, rowsFrom, rowsOf, capacityOf, overOf, sameWords}
-use Rattle.tables.specs.Strings.{textCapacityOf, storedText, textSize, textHash, textRow, isText, textAt, newestText, findText, indexOf, fullOf, storeOf, insertTextAt, insertTextOf, StringsLeft, stringsLeft, stored}
+use Rattle.strings.specs.Strings.{textCapacityOf, storedText, textSize, textHash, textRow, isText, textAt, newestText, findText, indexOf, fullOf, storeOf, insertTextAt, insertTextOf, StringsLeft, stringsLeft, stored}
 use Rattle.table_laws.specs.Plain.{intern, Chained}
 use Rattle.table_laws.specs.PlainTexts.{textBytes, textOffset, section, withText, offsetIn, withTexts, offsetsIn, insertTexts, offsetsOf, textRows, rowHash, Texts}
 use Rattle.tables.specs.declared.Row.{Row}
-use Rattle.tables.proofs.Room.{room-is, text-room}
+use Rattle.tables.proofs.Room.{room-is}
+use Rattle.strings.proofs.TextRoom.{text-room}
 use Rattle.table_laws.proofs.Items.{intern-none, intern-found, one-more}
 use Rattle.tables.proofs.Words.{no-ft, words-eq}
 use Rattle.table_laws.proofs.Rows.{words-refl, rows-length, rows-getD, length-append as append-length}
