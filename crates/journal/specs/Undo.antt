@@ -1,7 +1,7 @@
 -- Taking back what was added since a mark, for any content and any counts. A new row goes to the head of its chain and nothing else moves, so the newest rows
 -- can be taken off again in reverse order; a journal says which rows of the ranges were added and what the others held.
 use Prim.Native.Nat.{ℕ, zero, suc, _+_, _*_, _-_}
-use mathlib.Core.List.{List, [], _∷_}
+use mathlib.Core.List.{List, _∷_}
 use mathlib.Core.Bool.{Bool, cond}
 use lib.Dec.{ltb, eqb}
 use lib.ListN.{length, getD, set, replicate}

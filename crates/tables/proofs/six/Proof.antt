@@ -4,7 +4,6 @@ use mathlib.Core.List.{List}
 use native.Mathlib.Omega.{arith}
 use lib.ListN.{length, List·getD-eq-default}
 use Rattle.tables.specs.Table.{wordsAt, rowOf}
-use Rattle.tables.specs.declared.Row.{Row}
 use borrow.Author.Needs.{needs}
 use Rattle.tables.proofs.six.Statement.{statement}
 use Rattle.tables.proofs.six.Tie as tie

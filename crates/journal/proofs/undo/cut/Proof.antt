@@ -3,8 +3,7 @@ use mathlib.Core.Path.{_≡_, refl, sym, _∙_}
 use mathlib.Core.List.{List}
 use native.Mathlib.Omega.{arith}
 use native.Mathlib.Numerals.{add-one}
-use lib.ListN.{length, set, replicate}
-use lib.Seq.{sets}
+use lib.ListN.{length, set}
 use Rattle.journal.specs.Undo.{cutTo}
 use borrow.Author.Needs.{needs}
 use Rattle.journal.proofs.undo.cut.Statement.{statement}
