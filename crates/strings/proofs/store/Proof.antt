@@ -1,7 +1,7 @@
 use Prim.Native.Nat.{ℕ, _+_, _<_, _≤_}
 use mathlib.Core.Path.{_≡_, refl, sym, _∙_, ap}
 use mathlib.Core.List.{List}
-use mathlib.Core.Bool.{Bool, true, false, _&&_}
+use mathlib.Core.Bool.{Bool, true, false, _&&_, false≢true}
 use native.Mathlib.Omega.{arith}
 use lib.Dec.{leb, ltb}
 use lib.ListN.{length}
@@ -25,9 +25,8 @@ record Inside (text : List ℕ) (bytes count prefix len cap : ℕ) : Type 0 wher
   few : count < cap
 
 both : (x y : Bool) → (x && y) ≡ true → (x ≡ true) × (y ≡ true)
-both true true e = (refl, refl)
-both true false e = (refl, e)
-both false y e = absurd (let z : _≡_ {A = ℕ} 0 1 = cc in omega arith)
+both true y e = (refl, e)
+both false y e = absurd (false≢true e)
 
 module _ (text strings : List ℕ) (bytes count : ℕ) (t : List ℕ) {cap limit prefix : ℕ} {f : Bool}
     (e1 : cap ≡ capacityOf (length strings)) (e2 : limit ≡ textCapacityOf (length text)) (e3 : prefix ≡ length (encoded (length t)))
