@@ -24,10 +24,11 @@ use Rattle.model.proofs.Couple.{Limits}
 use Rattle.model.proofs.Encoded.{Encoding, Goes}
 use Rattle.raw.specs.declared.SourceLocation.{SourceLocation}
 use Rattle.tables.specs.Table.{capacityOf}
-use Rattle.tables.specs.Strings.{textCapacityOf}
+use Rattle.strings.specs.Strings.{textCapacityOf}
 use Rattle.table_laws.specs.Plain.{Holds}
 use Rattle.table_laws.specs.PlainTexts.{Texts}
-use Rattle.tables.proofs.Room.{cap-most, text-room}
+use Rattle.tables.proofs.Room.{cap-most}
+use Rattle.strings.proofs.TextRoom.{text-room}
 use Rattle.table_laws.proofs.Sets as sets
 use Rattle.table_laws.proofs.TextTables as text-tables
 use Rattle.memory.specs.Memory.{Words}

@@ -20,7 +20,7 @@ use Rattle.model.proofs.Chains.{false-true, text-eq-ok, store-grows, store-read
 use Rattle.model.proofs.Always.{Within, reads-within}
 use Rattle.tables.specs.Table.{Left, capacityOf, insertOf, sameRow, sameWords, rowWords, keyOf, rowAt}
 use Rattle.tables.specs.Ranges.{getOf, putOf, locationOf}
-use Rattle.tables.specs.Strings.{textCapacityOf, textSize, insertTextOf, StringsLeft}
+use Rattle.strings.specs.Strings.{textCapacityOf, textSize, insertTextOf, StringsLeft}
 use Rattle.table_laws.specs.Plain.{sameKey, putRows, Holds}
 use Rattle.table_laws.specs.Plain.{intern as row-intern}
 use Rattle.table_laws.specs.PlainTexts.{textBytes, textOffset, withText, offsetIn, Texts}

@@ -24,7 +24,7 @@ use Rattle.model.proofs.Encoded.{Goes, goes-then}
 use Rattle.raw.specs.declared.SourceLocation.{SourceLocation}
 use Rattle.tables.specs.Table.{capacityOf, insertOf}
 use Rattle.tables.specs.Ranges.{rangeRow, putOf}
-use Rattle.tables.specs.Strings.{textCapacityOf, insertTextOf}
+use Rattle.strings.specs.Strings.{textCapacityOf, insertTextOf}
 use Rattle.table_laws.specs.Plain.{Holds}
 use Rattle.tables.specs.declared.Row.{Row}
 use Rattle.memory.specs.declared.LastAddr.{LastAddr}

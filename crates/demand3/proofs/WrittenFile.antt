@@ -28,7 +28,7 @@ use Rattle.raw.specs.Head.{version-info, header, padding}
 use Rattle.raw.specs.declared.SourceLocation.{SourceLocation}
 use Rattle.tables.specs.Table.{rowAt, rowsOf}
 use Rattle.tables.specs.Ranges.{getOf, locationOf}
-use Rattle.tables.specs.Strings.{storedText}
+use Rattle.strings.specs.Strings.{storedText}
 use Rattle.table_laws.specs.Plain.{Holds}
 use Rattle.table_laws.specs.PlainTexts.{section}
 use Rattle.tables.specs.declared.Row.{Row}

@@ -5,7 +5,7 @@ use mathlib.Core.List.{List}
 use Prim.Native.Nat.{ℕ}
 use lib.Dec.{leb}
 use Rattle.tables.specs.Table.{capacityOf}
-use Rattle.tables.specs.Strings.{textCapacityOf}
+use Rattle.strings.specs.Strings.{textCapacityOf}
 use Rattle.memory.specs.declared.State.{State}
 use Rattle.memory.specs.declared.Converter.{Converter}
 use Rattle.memory.specs.declared.Lengths.{Lengths}

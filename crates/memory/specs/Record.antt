@@ -4,7 +4,7 @@ use mathlib.Core.List.{List}
 use Prim.Native.Nat.{ℕ}
 use lib.Dec.{leb}
 use Rattle.tables.specs.Table.{capacityOf}
-use Rattle.tables.specs.Strings.{textCapacityOf}
+use Rattle.strings.specs.Strings.{textCapacityOf}
 use Rattle.memory.specs.declared.State.{State}
 use Rattle.memory.specs.declared.LastAddr.{LastAddr}
 use Rattle.memory.specs.declared.LastAddr.the-variants.{Unset}

@@ -4,7 +4,7 @@ ghost use mathlib.Core.Path.{_≡_};
 ghost use mathlib.Core.Bool.{_&&_};
 ghost use lib.Dec.{leb};
 ghost use Rattle.tables.specs.Table.{capacityOf};
-ghost use Rattle.tables.specs.Strings.{textCapacityOf};
+ghost use Rattle.strings.specs.Strings.{textCapacityOf};
 ghost use Rattle.memory.specs.Memory.{memory, lent, zeroed};
 ghost use Rattle.memory.specs.Record.{fitsIn, usableIn, unused, begun, with-state, beginOf};
 use slices::zero;

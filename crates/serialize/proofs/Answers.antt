@@ -11,8 +11,9 @@ use lib.Seq.{sets, sets-eq}
 use borrow.Author.Tests.{not-true, not-false, leb-true, le-leb, lt-leb}
 use Rattle.model.proofs.Chains.{both-true}
 use Rattle.tables.specs.Table.{capacityOf}
-use Rattle.tables.specs.Strings.{textCapacityOf}
-use Rattle.tables.proofs.Room.{cap-most, text-room}
+use Rattle.strings.specs.Strings.{textCapacityOf}
+use Rattle.tables.proofs.Room.{cap-most}
+use Rattle.strings.proofs.TextRoom.{text-room}
 use Rattle.memory.specs.Memory.{Memory, lent}
 use Rattle.memory.specs.Record.{fitsIn, usableIn, usable?}
 use Rattle.memory.specs.declared.Lengths.{Lengths}

@@ -11,7 +11,7 @@ use Rattle.raw.specs.Head.{padding}
 use Rattle.raw.specs.declared.SourceLocation.{SourceLocation}
 use Rattle.tables.specs.Table.{rowAt, linkAt, headAt, setRow, appendOf, bucketOf, walk, keyOf, sameRow, hashOf, hitAt, newestOf, lookupOf, insertAt, insertOf, capacityOf, rowsFrom}
 use Rattle.tables.specs.Ranges.{rangeRow, getOf, putAt, putOf}
-use Rattle.tables.specs.Strings.{textCapacityOf}
+use Rattle.strings.specs.Strings.{textCapacityOf}
 use Rattle.memory.specs.Memory.{Memory, memory}
 use Rattle.memory.specs.Record.{usableIn, fitsIn}
 use Rattle.memory.specs.declared.Converter.{Converter}

@@ -7,11 +7,11 @@ use Rattle.model.specs.Converter.{Six}
 use Rattle.raw.specs.declared.SourceLocation.{SourceLocation}
 use Rattle.tables.specs.Table.{Left, left, insertOf}
 use Rattle.tables.specs.Ranges.{rangeRow, putOf}
-use Rattle.tables.specs.Strings.{StringsLeft, stringsLeft, insertTextOf}
+use Rattle.strings.specs.Strings.{StringsLeft, stringsLeft, insertTextOf}
 use Rattle.tables.specs.declared.Row.{Row}
 use Rattle.tables.specs.declared.Inserted.{Inserted}
 use Rattle.tables.specs.declared.ranges.Change.{Change}
-use Rattle.tables.specs.declared.strings.Stored.{Stored}
+use Rattle.strings.specs.declared.Stored.{Stored}
 use Rattle.memory.specs.declared.State.{State}
 use Rattle.memory.specs.Memory.{Words, words}
 use Rattle.steps.specs.Steps.{gave, store, add-function, functionRow, add-file-row, add-call, locationRow, put-range, begin-named, store-six, store-row, locate-six, location}

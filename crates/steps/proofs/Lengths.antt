@@ -11,7 +11,7 @@ use Rattle.model.specs.Converter.{Setup, Six, input, function-name, symbol-name
 use Rattle.raw.specs.declared.SourceLocation.{SourceLocation}
 use Rattle.tables.specs.Table.{Left, rowAt, sameRow, insertOf, insertAt, bucketOf, bucketIn, headAt, newestOf, lookupOf, capacityOf}
 use Rattle.tables.specs.Ranges.{rangeRow, putOf, putAt, replaceOf}
-use Rattle.tables.specs.Strings.{StringsLeft, textSize, storedText, textCapacityOf, textRow, findText, insertTextOf, insertTextAt, storeOf, indexOf}
+use Rattle.strings.specs.Strings.{StringsLeft, textSize, storedText, textCapacityOf, textRow, findText, insertTextOf, insertTextAt, storeOf, indexOf}
 use Rattle.tables.specs.declared.Row.{Row}
 use Rattle.tables.specs.declared.Inserted.{Inserted}
 use Rattle.tables.specs.declared.ranges.Was.{Was}

@@ -16,7 +16,7 @@ use Rattle.rows.specs.declared.LineRow.{LineRow as LineStruct}
 use Rattle.raw.specs.declared.SourceLocation.{SourceLocation}
 use Rattle.tables.specs.Table.{insertOf}
 use Rattle.tables.specs.Ranges.{rangeRow, getOf, putOf}
-use Rattle.tables.specs.Strings.{insertTextOf}
+use Rattle.strings.specs.Strings.{insertTextOf}
 use Rattle.tables.specs.Kinds.{rowOfFile, rowOfFunction, rowOfCall}
 use Rattle.tables.specs.declared.Row.{Row}
 use Rattle.tables.specs.declared.ranges.Found.{Found}

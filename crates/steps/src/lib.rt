@@ -50,7 +50,7 @@ pub fn insert_string(
         gave (r .index) after ≡ store (now (t .entry)) before
         ) ⌝ }
 {
-    let got = tables::strings::insert(string_bytes, strings, state.string_bytes, state.strings, t);
+    let got = strings::insert(string_bytes, strings, state.string_bytes, state.strings, t);
     state.string_bytes = got.bytes;
     state.strings = got.count;
     Indexed {

@@ -8,11 +8,11 @@ use mathlib.Core.Logic.{_⊎_, inl, inr, ⊎-elim}
 use native.Mathlib.Omega.{arith}
 use lib.Dec.{leb, ltb}
 use lib.ListN.{length}
-use borrow.Author.Tests.{leb-true, leb-false, le-ltb, ltb-true, ltb-false}
+use borrow.Author.Tests.{leb-true, leb-false, le-ltb, ltb-false}
 use Rattle.tables.specs.Table.{rowAt, capacityOf, lookupOf, overOf, left}
 use Rattle.tables.specs.Ranges.{putOf}
 use Rattle.table_laws.specs.Plain.{putRows, wasIn, putAllRows, Pair, pairRow, Holds}
-use Rattle.tables.specs.Undo.{setEntry, noteOf, noteWas, entryOf, putNotedOf}
+use Rattle.journal.specs.Undo.{setEntry, noteOf, noteWas, entryOf, putNotedOf}
 use Rattle.table_laws.specs.Marked.{putNotedAll, Ranges, rangesOf, changed, changesIn}
 use Rattle.tables.specs.declared.Row.{Row}
 use Rattle.tables.specs.declared.ranges.Was.{Was}

@@ -1,6 +1,6 @@
 -- The table is a map from starts to locations: `putOf` does to it what `putRows` does to the plain list of its rows. `step` is one call; `get-last` says, for any
 -- list of puts on zeroed memory that stays within the capacity, that `getOf` gives the last location put at a start; `map-exact` is as `index-set-exact`.
-use Prim.Native.Nat.{ℕ, zero, suc, _+_, _<_, _≤_}
+use Prim.Native.Nat.{ℕ, _+_, _<_, _≤_}
 use mathlib.Core.Path.{_≡_, refl, sym, _∙_, ap}
 use mathlib.Core.List.{List, [], _∷_, _++_}
 use mathlib.Core.Bool.{Bool, true, false, cond}
@@ -20,34 +20,31 @@ use Rattle.tables.specs.declared.ranges.Found.the-variants.{Absent, At}
 use Rattle.tables.specs.declared.ranges.Was.the-variants.{Vacant, Same, Changed}
 use Rattle.tables.specs.declared.ranges.Change.{Change}
 use Rattle.tables.proofs.Room.{room-is}
-use Rattle.table_laws.proofs.Items.{one-more}
+use Rattle.table_laws.proofs.Items.{by-none, by-found, one-more, exact}
 use Rattle.table_laws.proofs.Rows.{same-eq, same-one, rows-set, set-row-same, set-row-other, length-setRow}
 use Rattle.table_laws.proofs.Steps.{Look, found, none, chained-over}
 use Rattle.table_laws.proofs.Sets.{begun, hit-is, looked, length-is, row-is, earlier, more, long-more, holds-more, over-most, Over}
 
 -- ---- the plain map
-put-none : (rows : List Row) (q d : Row) → ((i : ℕ) → i < length rows → eqb (getD rows i d .a) (q .a) ≡ false) → putRows rows q ≡ rows ++ (q ∷ [])
-unfolding putRows
-put-none [] q d h = refl
-put-none (x ∷ xs) q d h = rw (h 0 (omega arith)) (ap (λ (l : List Row). x ∷ l) (put-none xs q d (λ i p. h (suc i) (omega arith))))
+-- q's start is nowhere among the rows
+module _ (rows : List Row) (q d : Row) (h : (i : ℕ) → i < length rows → eqb (getD rows i d .a) (q .a) ≡ false) where
+  put-none : putRows rows q ≡ rows ++ (q ∷ [])
+  unfolding putRows
+  put-none = by-none (λ (x : Row). eqb (x .a) (q .a)) d (λ (l : List Row). putRows l q ≡ l ++ (q ∷ [])) refl (λ x xs e ih. rw e (ap (λ (l : List Row). x ∷ l) ih)) rows h
 
-was-none : (rows : List Row) (q d : Row) → ((i : ℕ) → i < length rows → eqb (getD rows i d .a) (q .a) ≡ false) → wasIn rows q ≡ Vacant
-unfolding wasIn
-was-none [] q d h = refl
-was-none (x ∷ xs) q d h = rw (h 0 (omega arith)) (was-none xs q d (λ i p. h (suc i) (omega arith)))
+  was-none : wasIn rows q ≡ Vacant
+  unfolding wasIn
+  was-none = by-none (λ (x : Row). eqb (x .a) (q .a)) d (λ (l : List Row). wasIn l q ≡ Vacant) refl (λ x xs e ih. rw e ih) rows h
 
-put-found : (rows : List Row) (q d : Row) (i : ℕ) → i < length rows → eqb (getD rows i d .a) (q .a) ≡ true → ((j : ℕ) → j < i → eqb (getD rows j d .a) (q .a) ≡ false) → putRows rows q ≡ set rows i q
-unfolding putRows
-put-found [] q d i p e h = absurd (omega arith)
-put-found (x ∷ xs) q d zero p e h = rw e
-put-found (x ∷ xs) q d (suc i) p e h = rw (h 0 (omega arith)) (ap (λ (l : List Row). x ∷ l) (put-found xs q d i (omega arith) e (λ j r. h (suc j) (omega arith))))
+-- its first place is i
+module _ (rows : List Row) (q d : Row) (i : ℕ) (p : i < length rows) (e : eqb (getD rows i d .a) (q .a) ≡ true) (h : (j : ℕ) → j < i → eqb (getD rows j d .a) (q .a) ≡ false) where
+  put-found : putRows rows q ≡ set rows i q
+  unfolding putRows
+  put-found = by-found (λ (x : Row). eqb (x .a) (q .a)) d (λ (l : List Row) (k : ℕ). putRows l q ≡ set l k q) (λ x xs f. rw f) (λ x xs k f ih. rw f (ap (λ (l : List Row). x ∷ l) ih)) rows i p e h
 
-was-found : (rows : List Row) (q d : Row) (i : ℕ) → i < length rows → eqb (getD rows i d .a) (q .a) ≡ true → ((j : ℕ) → j < i → eqb (getD rows j d .a) (q .a) ≡ false)
-    → wasIn rows q ≡ cond (sameRow (getD rows i d) q) Same Changed
-unfolding wasIn
-was-found [] q d i p e h = absurd (omega arith)
-was-found (x ∷ xs) q d zero p e h = rw e
-was-found (x ∷ xs) q d (suc i) p e h = rw (h 0 (omega arith)) (was-found xs q d i (omega arith) e (λ j r. h (suc j) (omega arith)))
+  was-found : wasIn rows q ≡ cond (sameRow (getD rows i d) q) Same Changed
+  unfolding wasIn
+  was-found = by-found (λ (x : Row). eqb (x .a) (q .a)) d (λ (l : List Row) (k : ℕ). wasIn l q ≡ cond (sameRow (getD l k d) q) Same Changed) (λ x xs f. rw f) (λ x xs k f ih. rw f ih) rows i p e h
 
 put-length : (rows : List Row) (q : Row) → length rows ≤ length (putRows rows q)
 unfolding putRows
@@ -65,15 +62,12 @@ locIn (x ∷ xs) s = cond (eqb (x .a) s) (At (locationOf x)) (locIn xs s)
 
 loc-none : (rows : List Row) (s : ℕ) (d : Row) → ((i : ℕ) → i < length rows → eqb (getD rows i d .a) s ≡ false) → locIn rows s ≡ Absent
 unfolding locIn
-loc-none [] s d h = refl
-loc-none (x ∷ xs) s d h = rw (h 0 (omega arith)) (loc-none xs s d (λ i p. h (suc i) (omega arith)))
+loc-none rows s d = by-none (λ (x : Row). eqb (x .a) s) d (λ (l : List Row). locIn l s ≡ Absent) refl (λ x xs e ih. rw e ih) rows
 
 loc-found : (rows : List Row) (s : ℕ) (d : Row) (i : ℕ) → i < length rows → eqb (getD rows i d .a) s ≡ true → ((j : ℕ) → j < i → eqb (getD rows j d .a) s ≡ false)
     → locIn rows s ≡ At (locationOf (getD rows i d))
 unfolding locIn
-loc-found [] s d i p e h = absurd (omega arith)
-loc-found (x ∷ xs) s d zero p e h = rw e
-loc-found (x ∷ xs) s d (suc i) p e h = rw (h 0 (omega arith)) (loc-found xs s d i (omega arith) e (λ j r. h (suc j) (omega arith)))
+loc-found rows s d = by-found (λ (x : Row). eqb (x .a) s) d (λ (l : List Row) (k : ℕ). locIn l s ≡ At (locationOf (getD l k d))) (λ x xs f. rw f) (λ x xs k f ih. rw f ih) rows
 
 loc-put : (rows : List Row) (q : Row) (s : ℕ) → locIn (putRows rows q) s ≡ cond (eqb (q .a) s) (At (locationOf q)) (locIn rows s)
 unfolding locIn putRows
@@ -260,8 +254,4 @@ module _ (ps : List Pair) (words : ℕ) where
 
   -- the count exceeds the capacity exactly where the plain map does
   pub map-exact : ((capacityOf words < after .got .count) → capacityOf words < length plain) × ((capacityOf words < length plain) → capacityOf words < after .got .count)
-  map-exact = (λ h. go (ltb (capacityOf words) (length plain)) refl h, λ h. let e = map-full h in omega arith)
-    where
-      go : (b : Bool) → ltb (capacityOf words) (length plain) ≡ b → capacityOf words < after .got .count → capacityOf words < length plain
-      go true e h = ltb-true _ _ e
-      go false e h = absurd (let s = map-rows (ltb-false _ _ e) .1 in let r : length plain ≤ capacityOf words = ltb-false _ _ e in omega arith)
+  map-exact = exact (λ r. map-rows r .1) map-full

@@ -9,7 +9,7 @@ use native.Mathlib.Nat.{add-zero, add-suc, suc-add}
 use lib.Dec.{eqb, ltb}
 use lib.ListN.{length, getD, set, length-set}
 use lib.Seq.{sets, length-sets, getD-set-same, getD-set-other}
-use borrow.Author.Tests.{eq-eqb, eqb-true, ltb-true, ltb-false}
+use borrow.Author.Tests.{eq-eqb, ltb-true, ltb-false}
 use Rattle.tables.specs.Table.{wordsAt, rowWords, rowOf, rowAt, rowsFrom, linkAt, headAt, setRow, appendOf, sameWords, sameRow, keyOf}
 use Rattle.tables.specs.Ranges.{startRow}
 use Rattle.table_laws.specs.Plain.{sameKey}

@@ -8,7 +8,7 @@ use native.Mathlib.Nat.{add-zero, zero-add, add-assoc}
 use lib.ListN.{length, getD, take, drop, length-append, List·getD-append}
 use lib.Seq.{take-take, take-all, take-append-le}
 use Rattle.text.specs.Leb128.{encoded}
-use Rattle.tables.specs.Strings.{storedText, textSize, textRow}
+use Rattle.strings.specs.Strings.{storedText, textSize, textRow}
 use Rattle.tables.specs.Table.{sameWords}
 use Rattle.table_laws.specs.Plain.{Interned, intern}
 use Rattle.table_laws.specs.PlainTexts.{textBytes, textOffset, section, textRows}

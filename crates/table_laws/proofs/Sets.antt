@@ -15,7 +15,7 @@ use Rattle.table_laws.specs.Plain.{sameKey, keyHash, intern, internAll, 
 use Rattle.tables.specs.declared.Row.{Row}
 use Rattle.tables.specs.declared.Inserted.{Inserted}
 use Rattle.tables.proofs.Room.{room-is}
-use Rattle.table_laws.proofs.Items.{intern-none, intern-found, all-length, one-more}
+use Rattle.table_laws.proofs.Items.{intern-none, intern-found, all-length, one-more, exact}
 use Rattle.table_laws.proofs.Rows.{same-eq, rows-length, rows-getD, length-append}
 use Rattle.table_laws.proofs.Steps.{Look, found, none, look, row-low, row-top, chained-more, rows-stored, chained-begun}
 
@@ -207,8 +207,4 @@ module _ (w : ℕ) (qs : List Row) (words : ℕ) where
 
   -- the count exceeds the capacity exactly where the plain list does
   pub index-set-exact : ((capacityOf words < after .got .count) → capacityOf words < length plain) × ((capacityOf words < length plain) → capacityOf words < after .got .count)
-  index-set-exact = (λ h. go (ltb (capacityOf words) (length plain)) refl h, λ h. let e = index-set-full h in omega arith)
-    where
-      go : (b : Bool) → ltb (capacityOf words) (length plain) ≡ b → capacityOf words < after .got .count → capacityOf words < length plain
-      go true e h = ltb-true _ _ e
-      go false e h = absurd (let s = index-set (ltb-false _ _ e) .1 in let r : length plain ≤ capacityOf words = ltb-false _ _ e in omega arith)
+  index-set-exact = exact (λ r. index-set r .1) index-set-full

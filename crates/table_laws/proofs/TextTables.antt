@@ -4,7 +4,7 @@
 use Prim.Native.Nat.{ℕ, suc, _+_, _^_, _<_, _≤_}
 use mathlib.Core.Path.{_≡_, refl, sym, _∙_, ap, ap₂}
 use mathlib.Core.List.{List, [], _∷_, _++_, append-nil}
-use mathlib.Core.Bool.{Bool, true, false, cond, _&&_}
+use mathlib.Core.Bool.{Bool, true, false, cond, _&&_, false≢true}
 use mathlib.Core.Logic.{_⊎_, inl, inr, ⊎-elim}
 use native.Mathlib.Omega.{arith}
 use native.Mathlib.Nat.{zero-add}
@@ -18,13 +18,14 @@ use Rattle.text.specs.Texts.{text-part}
 use Rattle.text.proofs.Leb128Laws.{decoded-past}
 use Rattle.text.proofs.TextLaws.{stored-bytes, part-stored, part-absent, absent-prefix}
 use Rattle.tables.specs.Table.{rowAt, rowsFrom, rowsOf, capacityOf, overOf, sameWords}
-use Rattle.tables.specs.Strings.{textCapacityOf, storedText, textSize, textHash, textRow, isText, textAt, newestText, findText, indexOf, fullOf, storeOf, insertTextAt, insertTextOf, StringsLeft, stringsLeft, stored}
+use Rattle.strings.specs.Strings.{textCapacityOf, storedText, textSize, textHash, textRow, isText, textAt, newestText, findText, indexOf, fullOf, storeOf, insertTextAt, insertTextOf, StringsLeft, stringsLeft, stored}
 use Rattle.table_laws.specs.Plain.{intern, Chained}
 use Rattle.table_laws.specs.PlainTexts.{textBytes, textOffset, section, withText, offsetIn, withTexts, offsetsIn, insertTexts, offsetsOf, textRows, rowHash, Texts}
 use Rattle.tables.specs.declared.Row.{Row}
-use Rattle.tables.proofs.Room.{room-is, text-room}
+use Rattle.tables.proofs.Room.{room-is}
+use Rattle.strings.proofs.TextRoom.{text-room}
 use Rattle.table_laws.proofs.Items.{intern-none, intern-found, one-more}
-use Rattle.tables.proofs.Words.{no-ft, words-eq}
+use Rattle.tables.proofs.Words.{words-eq}
 use Rattle.table_laws.proofs.Rows.{words-refl, rows-length, rows-getD, length-append as append-length}
 use Rattle.table_laws.proofs.Steps.{Look, found, none, look, chained-more, rows-stored, chained-begun}
 use Rattle.table_laws.proofs.Sets.{over-above, over-most}
@@ -35,7 +36,7 @@ Text = List ℕ
 
 and-first : (x y : Bool) → (x && y) ≡ true → x ≡ true
 and-first true y e = refl
-and-first false y e = absurd (no-ft e)
+and-first false y e = absurd (false≢true e)
 
 -- ---- a row of the index tells its text
 -- the bytes of text u stand in the section; then the row of u is hit by t exactly where u is t

@@ -7,20 +7,17 @@ use native.Mathlib.Omega.{arith}
 use native.Mathlib.Numerals.{add-one}
 use lib.Dec.{eqb, leb, ltb}
 use lib.ListN.{length, getD, set, drop, replicate, length-set}
-use lib.Seq.{sets, length-sets, getD-set-same, getD-set-other, ext-getD}
+use lib.Seq.{sets, length-sets, getD-set-same, ext-getD}
 use borrow.Author.Tests.{eqb-true, eqb-false, leb-true, leb-false, lt-ltb, le-ltb, ltb-true, ltb-false}
-use Rattle.tables.specs.Table.{wordsAt, rowWords, rowOf, rowAt, setRow, headAt, bucketIn, sameRow, capacityOf, newestOf, lookupOf, appendOf, overOf, insertAt, insertOf, left, inserted, Left}
+use Rattle.tables.specs.Table.{wordsAt, rowWords, rowOf, rowAt, setRow, headAt, bucketIn, sameRow, capacityOf, newestOf, lookupOf, appendOf, overOf, insertAt, insertOf, left, inserted}
 use Rattle.tables.specs.Ranges.{putOf, putAt, replaceOf, change}
 use Rattle.table_laws.specs.Plain.{Pair, pairRow}
 use Rattle.table_laws.specs.Marked.{Clear, ClearJournal, putNotedAll, Ranges, ranges, rangesOf}
-use Rattle.tables.specs.Undo.{rowHashOf, offOf, zeroRow, setEntry, noteOf, noteWas, entryOf, putNotedOf, undoEntry, undoAt, Undone, undone, undoneRanges}
+use Rattle.journal.specs.Undo.{rowHashOf, offOf, zeroRow, setEntry, noteOf, noteWas, entryOf, putNotedOf, undoEntry, undoAt, Undone, undone, undoneRanges}
 use Rattle.tables.specs.declared.Row.{Row}
-use Rattle.tables.specs.declared.Inserted.{Inserted}
-use Rattle.tables.specs.declared.ranges.Was.{Was}
 use Rattle.tables.specs.declared.ranges.Was.the-variants.{Vacant, Same, Changed}
-use Rattle.tables.specs.declared.ranges.Change.{Change}
 use Rattle.tables.proofs.Room.{room-is}
-use Rattle.tables.proofs.Undone.{ranges-done, ranges-more}
+use Rattle.journal.proofs.Undone.{ranges-done, ranges-more}
 use Rattle.table_laws.proofs.Rows.{sets-low, sets-high, sets-at, length-setRow}
 use Rattle.table_laws.proofs.Sets.{over-above, over-most}
 use Rattle.table_laws.proofs.Steps.{zeros}

@@ -11,7 +11,7 @@ use lib.ListN.{length, getD, set, replicate, length-set}
 use lib.Seq.{sets, length-sets, getD-set-same, getD-set-other, ext-getD}
 use borrow.Author.Tests.{eqb-true, eqb-false, leb-true, leb-false, ltb-true, ltb-false}
 use Rattle.tables.specs.Table.{rowWords, linkAt, headAt, setRow, appendOf}
-use Rattle.tables.specs.Undo.{undoOf}
+use Rattle.journal.specs.Undo.{undoOf}
 use Rattle.tables.specs.declared.Row.{Row}
 use Rattle.table_laws.proofs.Rows.{sets-low, sets-high, length-append, append-link-top}
 

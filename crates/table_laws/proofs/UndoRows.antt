@@ -4,20 +4,20 @@ use Prim.Native.Nat.{ℕ, zero, suc, _+_, _*_, _-_, _<_, _≤_}
 use mathlib.Core.Path.{_≡_, refl, sym, _∙_, ap}
 use mathlib.Core.List.{List, [], _∷_}
 use mathlib.Core.Bool.{Bool, true, false, cond}
-use mathlib.Core.Logic.{_⊎_, inl, inr}
+use mathlib.Core.Logic.{inr}
 use native.Mathlib.Omega.{arith}
 use native.Mathlib.Numerals.{add-one}
 use lib.Dec.{eqb, ltb}
 use lib.ListN.{length, getD, replicate}
 use borrow.Author.Tests.{lt-ltb, le-ltb, ltb-true, ltb-false}
-use Rattle.tables.specs.Table.{rowAt, headAt, keyOf, hashOf, bucketOf, bucketIn, capacityOf, newestOf, lookupOf, appendOf, overOf, insertAt, insertOf, left, inserted, Left}
+use Rattle.tables.specs.Table.{headAt, bucketOf, bucketIn, capacityOf, newestOf, lookupOf, appendOf, overOf, insertAt, insertOf, left, inserted, Left}
 use Rattle.table_laws.specs.Plain.{insertAll}
-use Rattle.tables.specs.Undo.{rowHashOf, undoOf, offOf, undoneTo}
+use Rattle.journal.specs.Undo.{rowHashOf, offOf, undoneTo}
 use Rattle.table_laws.specs.Marked.{Clear}
 use Rattle.tables.specs.declared.Row.{Row}
 use Rattle.tables.specs.declared.Inserted.{Inserted}
 use Rattle.tables.proofs.Room.{room-is}
-use Rattle.tables.proofs.Undone.{undo-done, undo-more}
+use Rattle.journal.proofs.Undone.{undo-done, undo-more}
 use Rattle.table_laws.proofs.Rows.{length-append, append-top}
 use Rattle.table_laws.proofs.Steps.{bucket-lt, zeros}
 use Rattle.table_laws.proofs.Sets.{over-above, over-most}

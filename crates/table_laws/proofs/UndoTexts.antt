@@ -1,5 +1,5 @@
 -- Undoing takes back what storing texts added, in the bytes and in the index: `text-added` is one call, `undo-texts` any list of calls.
-use Prim.Native.Nat.{ℕ, zero, suc, _+_, _-_, _<_, _≤_}
+use Prim.Native.Nat.{ℕ, _+_, _-_, _<_, _≤_}
 use mathlib.Core.Path.{_≡_, refl, sym, _∙_}
 use mathlib.Core.List.{List, [], _∷_}
 use mathlib.Core.Bool.{Bool, true, false, cond, _&&_}
@@ -9,9 +9,9 @@ use lib.ListN.{length, getD, replicate, length-replicate, List·getD-eq-default}
 use lib.Seq.{sets, length-sets, ext-getD}
 use borrow.Author.Tests.{leb-true, leb-false, le-ltb, ltb-true, ltb-false}
 use Rattle.tables.specs.Table.{rowAt, capacityOf, overOf}
-use Rattle.tables.specs.Strings.{textCapacityOf, storedText, textSize, textRow, findText, indexOf, fullOf, storeOf, insertTextAt, insertTextOf, StringsLeft, stringsLeft, stored}
+use Rattle.strings.specs.Strings.{textCapacityOf, storedText, textSize, textRow, findText, indexOf, fullOf, storeOf, insertTextAt, insertTextOf, StringsLeft, stringsLeft, stored}
 use Rattle.table_laws.specs.PlainTexts.{insertTexts}
-use Rattle.tables.specs.Undo.{rowHashOf, undoneTo, cutTo}
+use Rattle.journal.specs.Undo.{rowHashOf, undoneTo, cutTo}
 use Rattle.table_laws.specs.Marked.{Clear, ClearText}
 use Rattle.table_laws.proofs.Rows.{sets-low, sets-high}
 use Rattle.table_laws.proofs.Sections.{stored-length}

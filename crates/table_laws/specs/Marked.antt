@@ -4,7 +4,7 @@ use mathlib.Core.Path.{_≡_}
 use mathlib.Core.List.{List, [], _∷_}
 use lib.ListN.{length, getD}
 use Rattle.tables.specs.Table.{capacityOf}
-use Rattle.tables.specs.Undo.{Journaled, putNotedOf}
+use Rattle.journal.specs.Undo.{Journaled, putNotedOf}
 use Rattle.table_laws.specs.Plain.{putRows, wasIn, Pair, pairRow}
 use Rattle.tables.specs.declared.Row.{Row}
 use Rattle.tables.specs.declared.ranges.Was.{Was}

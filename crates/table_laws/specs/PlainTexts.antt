@@ -6,7 +6,7 @@ use mathlib.Core.List.{List, [], _∷_, _++_}
 use mathlib.Core.Bool.{false}
 use lib.ListN.{length, getD, take}
 use Rattle.tables.specs.Table.{sameWords, rowsOf, capacityOf}
-use Rattle.tables.specs.Strings.{textCapacityOf, storedText, textSize, textRow, insertTextOf, StringsLeft, stringsLeft, stored}
+use Rattle.strings.specs.Strings.{textCapacityOf, storedText, textSize, textRow, insertTextOf, StringsLeft, stringsLeft, stored}
 use Rattle.table_laws.specs.Plain.{intern, Chained}
 use Rattle.tables.specs.declared.Row.{Row}
 

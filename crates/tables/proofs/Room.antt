@@ -6,7 +6,6 @@ use native.Mathlib.Omega.{arith}
 use lib.Dec.{ltb}
 use borrow.Author.Tests.{ltb-true, ltb-false}
 use Rattle.tables.specs.Table.{maxRows, capacityOf}
-use Rattle.tables.specs.Strings.{maxBytes, textCapacityOf}
 
 pub record Room (words cap : ℕ) : Type 0 where
   pub most : cap ≤ maxRows
@@ -22,16 +21,3 @@ room-is words = go (ltb (words / 8) maxRows) refl
 
 pub cap-most : (words : ℕ) → capacityOf words ≤ maxRows
 cap-most words = room-is words .most
-
--- the same of a text's bytes
-pub record TextRoom (n limit : ℕ) : Type 0 where
-  pub most : limit ≤ maxBytes
-  pub fits : limit ≤ n
-
-pub text-room : (n : ℕ) → TextRoom n (textCapacityOf n)
-unfolding textCapacityOf
-text-room n = go (ltb n maxBytes) refl
-  where
-    go : (x : Bool) → ltb n maxBytes ≡ x → TextRoom n (cond x n maxBytes)
-    go true e = let h : n < maxBytes = ltb-true _ _ e in record { most = omega arith; fits = omega arith }
-    go false e = let h : maxBytes ≤ n = ltb-false _ _ e in record { most = omega arith; fits = omega arith }

@@ -1,5 +1,3 @@
 pub mod Table
 pub mod Kinds
 pub mod Ranges
-pub mod Strings
-pub mod Undo

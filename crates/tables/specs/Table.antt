@@ -67,6 +67,10 @@ overOf n cap = cond (ltb cap n) n (cap + 1)
 unfoldable pub bucketOf : ℕ → ℕ → ℕ
 bucketOf hash cap = cond (eqb cap 0) 0 ((hash / 512 * cap / 8388608 + hash % 512) % cap)
 
+-- the head of the bucket of a hash
+abbrev pub headOf : List ℕ → ℕ → ℕ
+headOf t hash = headAt (capacityOf (length t)) t (bucketOf hash (capacityOf (length t)))
+
 -- the newest row below a bound that is hit, along the chain from link l; d where there is none. The rows are passed from the bound down, so
 -- it ends on any content; at row i the chain goes on if the link is i + 1. It knows nothing of rows: index sets, ranges and strings use it
 unfoldable pub walk : (ℕ → ℕ) → (ℕ → Bool) → ℕ → ℕ → ℕ → ℕ
@@ -124,6 +128,13 @@ left g t = record { got = g; table = t }
 
 abbrev pub inserted : ℕ → ℕ → Inserted
 inserted i n = record { index = i; count = n }
+
+-- row n at the head of its hash's bucket, where there is room, and the count after it
+unfoldable pub pushOf : List ℕ → ℕ → Row → ℕ → Left ℕ
+pushOf t n q hash =
+    cond (ltb n (capacityOf (length t)))
+    (left (n + 1) (appendOf (capacityOf (length t)) t n q (headOf t hash) (bucketOf hash (capacityOf (length t)))))
+    (left (overOf n (capacityOf (length t))) t)
 
 -- with the capacity, the bucket, its head and the row found at hand
 unfoldable pub insertAt : List ℕ → ℕ → Row → ℕ → ℕ → ℕ → ℕ → Left Inserted

@@ -4,33 +4,31 @@
 // row stand the heads of the buckets, as many as rows. A head is the number + 1 of the newest row in its bucket, and a row's link that of the next older
 // one; 0 is none. A new row goes to the head of its chain and nothing else moves, so the newest rows can be taken back in reverse order.
 // The caller keeps the count of rows. Any content and any count is taken. A row that there is no room for makes the count capacity + 1, and there it stays.
+use slices::put;
+use slices::word;
 ghost use mathlib.Core.Path.{_≡_};
-ghost use Prim.Native.Nat.{_<_, _≤_};
-ghost use lib.ListN.{length, getD, set};
+ghost use Prim.Native.Nat.{_<_};
+ghost use lib.ListN.{length};
 ghost use lib.Seq.{sets};
-ghost use Rattle.tables.specs.Table.{maxRows, capacityOf, wordsAt, rowWords, rowOf, rowAt, setRow, linkAt, headAt, appendOf, overOf};
-ghost use Rattle.tables.specs.Strings.{maxBytes};
+ghost use Rattle.tables.specs.Table.{maxRows, capacityOf, wordsAt, rowWords, rowOf, rowAt, setRow, linkAt, headAt, headOf, appendOf, overOf, pushOf};
 ghost use Rattle.tables.specs.Table.{bucketOf, walk, keyOf, sameRow, hashOf, hitAt, newestOf, lookupOf, insertOf, left};
 
 pub mod index_set;
-pub mod journal;
 pub mod kinds;
 pub mod ranges;
-pub mod strings;
-pub mod undo;
 
 // A table has room for so many rows at most, with eight words for each: seven of the row and one of the heads.
 const MAX_ROWS: u32 = 16777216;
 
 const WORDS: usize = 8;
 
-const ROW: usize = 7;
+// The words of a row with its link, and the link's place among them.
+pub const ROW: usize = 7;
 
-// The link is the last word of a row.
-const LINK: usize = 6;
+pub const LINK: usize = 6;
 
 // What of a row is compared: its first word alone, or all of it.
-const FIRST: u32 = 1;
+pub const FIRST: u32 = 1;
 
 const WHOLE: u32 = 6;
 
@@ -79,11 +77,13 @@ pub fn row_at(t: &[u32], i: u32) -> Row
     six(t, (i as usize) * ROW)
 }
 
-// The six words from k0 on.
-fn six(t: &[u32], k0: usize) -> Row
-    requires { ⌜ k0 < 68719476736 ⌝ }
+// The six words from k0 on; words past the end are 0.
+pub fn six(t: &[u32], k0: usize) -> Row
     ensures { λ r. ⌜ r ≡ rowOf (wordsAt (now (t .entry)) k0 6) ⌝ }
 {
+    if t.len() <= k0 {
+        return Row::ZERO;
+    }
     let k1 = k0 + 1;
     let k2 = k1 + 1;
     let k3 = k2 + 1;
@@ -109,17 +109,19 @@ fn six(t: &[u32], k0: usize) -> Row
 }
 
 // Row i becomes r; words past the end are not stored.
-fn set_row(t: &mut [u32], i: u32, r: Row)
+pub fn set_row(t: &mut [u32], i: u32, r: Row)
     ensures { λ _. ⌜ now (t .exit) ≡ setRow (now (t .entry)) i r ⌝ }
 {
     set_six(t, (i as usize) * ROW, r);
 }
 
-// The six words from k0 on become r.
-fn set_six(t: &mut [u32], k0: usize, r: Row)
-    requires { ⌜ k0 < 68719476736 ⌝ }
+// The six words from k0 on become r; words past the end are not stored.
+pub fn set_six(t: &mut [u32], k0: usize, r: Row)
     ensures { λ _. ⌜ now (t .exit) ≡ sets (now (t .entry)) k0 (rowWords r) ⌝ }
 {
+    if t.len() <= k0 {
+        return;
+    }
     let k1 = k0 + 1;
     let k2 = k1 + 1;
     let k3 = k2 + 1;
@@ -134,35 +136,16 @@ fn set_six(t: &mut [u32], k0: usize, r: Row)
         t[k5] = r.f;
         return;
     }
-    set_word(t, k0, r.a);
-    set_word(t, k1, r.b);
-    set_word(t, k2, r.c);
-    set_word(t, k3, r.d);
-    set_word(t, k4, r.e);
-    set_word(t, k5, r.f);
-}
-
-// The word at j, 0 past the end.
-fn word(t: &[u32], j: usize) -> u32
-    ensures { λ r. ⌜ r ≡ getD (now (t .entry)) j 0 ⌝ }
-{
-    if j < t.len() {
-        return t[j];
-    }
-    0
-}
-
-// The word at j becomes v; past the end nothing changes.
-fn set_word(t: &mut [u32], j: usize, v: u32)
-    ensures { λ r. ⌜ now (t .exit) ≡ set (now (t .entry)) j v ⌝ }
-{
-    if j < t.len() {
-        t[j] = v;
-    }
+    put(t, k0, r.a);
+    put(t, k1, r.b);
+    put(t, k2, r.c);
+    put(t, k3, r.d);
+    put(t, k4, r.e);
+    put(t, k5, r.f);
 }
 
 // The link of row i.
-fn link_at(t: &[u32], i: u32) -> u32
+pub fn link_at(t: &[u32], i: u32) -> u32
     ensures { λ r. ⌜ r ≡ linkAt (now (t .entry)) i ⌝ }
 {
     word(t, (i as usize) * ROW + LINK)
@@ -176,7 +159,7 @@ fn head_at(t: &[u32], cap: u32, h: u32) -> u32
 }
 
 // The bucket of a hash among as many as cap; 0 where there is none. All but its last nine bits say where from 0 to cap, and those are added.
-fn bucket(hash: u32, cap: u32) -> u32
+pub fn bucket(hash: u32, cap: u32) -> u32
     ensures { λ r. ⌜ r ≡ bucketOf hash cap ⌝ }
 {
     if cap == 0 {
@@ -196,23 +179,46 @@ fn append(t: &mut [u32], cap: u32, n: u32, row: Row, link: u32, h: u32)
     ensures { λ _. ⌜ now (t .exit) ≡ appendOf cap (now (t .entry)) n row link h ⌝ }
 {
     set_row(t, n, row);
-    set_word(t, (n as usize) * ROW + LINK, link);
-    set_word(t, (cap as usize) * ROW + (h as usize), n + 1);
+    put(t, (n as usize) * ROW + LINK, link);
+    put(t, (cap as usize) * ROW + (h as usize), n + 1);
 }
 
-// A count after what there was no room for: capacity + 1, and above that as it was.
-fn over(n: u32, cap: u32) -> u32
-    requires { ⌜ cap ≤ maxBytes ⌝ }
-    ensures { λ r. ⌜ r ≡ overOf n cap ⌝ }
+// The head of the bucket of a hash: the number + 1 of its newest row; 0 where there is none.
+pub fn head_of(t: &[u32], hash: u32) -> u32
+    ensures { λ r. ⌜ r ≡ headOf (now (t .entry)) hash ⌝ }
 {
+    let cap = capacity(t);
+    let h = bucket(hash, cap);
+    head_at(t, cap, h)
+}
+
+// The count of rows after one that there was no room for: capacity + 1, and above that as it was.
+pub fn over(t: &[u32], n: u32) -> u32
+    ensures { λ r. ⌜ r ≡ overOf n (capacityOf (length (now (t .entry)))) ⌝ }
+{
+    let cap = capacity(t);
     if cap < n {
         return n;
     }
     cap + 1
 }
 
+// Row n, at the head of the bucket of its hash, where there is room. The answer is the count of rows after it.
+pub fn push(t: &mut [u32], n: u32, row: Row, hash: u32) -> u32
+    ensures { λ r. ⌜ left r (now (t .exit)) ≡ pushOf (now (t .entry)) n row hash ⌝ }
+{
+    let cap = capacity(t);
+    if n < cap {
+        let h = bucket(hash, cap);
+        let link = head_at(t, cap, h);
+        append(t, cap, n, row, link, h);
+        return n + 1;
+    }
+    over(t, n)
+}
+
 // What of a row is compared: its first word alone where the width is that, else all of it.
-fn key(row: Row, width: u32) -> Row
+pub fn key(row: Row, width: u32) -> Row
     ensures { λ r. ⌜ r ≡ keyOf width row ⌝ }
 {
     if width == FIRST {
@@ -252,7 +258,7 @@ fn same(x: Row, y: Row) -> bool
 // The words by factors that no power of two divides, modulo a prime. Of the first word its block of 4,096 counts there, and its place in the block is added by
 // sixteens, so that starts that are near each other have buckets that are. Blocks go by the golden section: those that follow each other lie apart, and hardly
 // overlap.
-fn hash(k: Row) -> u32
+pub fn hash(k: Row) -> u32
     ensures { λ r. ⌜ r ≡ hashOf k ⌝ }
 {
     let s = (k.a as u64 / 4096) * 2654435443
@@ -296,13 +302,11 @@ fn find(t: &[u32], n: u32, l: u32, k: Row, width: u32) -> u32
 fn newest(t: &[u32], row: Row, width: u32) -> u32
     ensures { λ r. ⌜ r ≡ newestOf width (now (t .entry)) row ⌝ }
 {
-    let cap = capacity(t);
-    let h = bucket(hash(key(row, width)), cap);
-    head_at(t, cap, h)
+    head_of(t, hash(key(row, width)))
 }
 
 // The number of the row with the key of `row` among the first n; n where there is none.
-fn lookup(t: &[u32], n: u32, row: Row, width: u32) -> u32
+pub fn lookup(t: &[u32], n: u32, row: Row, width: u32) -> u32
     ensures { λ r. ⌜ r ≡ lookupOf width (now (t .entry)) n row ⌝ }
 {
     let l = newest(t, row, width);
@@ -313,21 +317,12 @@ fn lookup(t: &[u32], n: u32, row: Row, width: u32) -> u32
 fn insert(t: &mut [u32], n: u32, row: Row, width: u32) -> Inserted
     ensures { λ r. ⌜ left r (now (t .exit)) ≡ insertOf width (now (t .entry)) n row ⌝ }
 {
-    let cap = capacity(t);
     let k = key(row, width);
-    let h = bucket(hash(k), cap);
-    let l = head_at(t, cap, h);
-    let i = find(t, n, l, k, width);
+    let hash = hash(k);
+    let i = find(t, n, head_of(t, hash), k, width);
     if i < n {
         return Inserted { index: i, count: n };
     }
-    if n < cap {
-        append(t, cap, n, row, l, h);
-        return Inserted {
-            index: i,
-            count: n + 1,
-        };
-    }
-    let count = over(n, cap);
+    let count = push(t, n, row, hash);
     Inserted { index: i, count }
 }

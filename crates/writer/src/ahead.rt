@@ -19,7 +19,7 @@ fn name_link(
     let k = (i as usize) * 4;
     let q = rows::function_row(functions64, functions32, i as usize);
     let name = steps::shown_name(rows::part(text, q.name), undecorate);
-    put(s, k, tables::strings::newest(strings, name));
+    put(s, k, strings::newest(strings, name));
 }
 
 // The same for the range that starts at its address.

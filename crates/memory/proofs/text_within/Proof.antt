@@ -3,7 +3,7 @@ use Prim.Native.Nat.{ℕ, _<_, _≤_}
 use mathlib.Core.Path.{_≡_, ap}
 use lib.Dec.{leb}
 use borrow.Author.Tests.{lt-ltb, le-ltb}
-use Rattle.tables.specs.Strings.{textCapacityOf}
+use Rattle.strings.specs.Strings.{textCapacityOf}
 use Rattle.memory.proofs.text_within.Statement.{statement}
 use Rattle.memory.proofs.text_within.Tie as tie
 

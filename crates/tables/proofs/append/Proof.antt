@@ -14,11 +14,11 @@ append-law m t n q l h e1 e2 e3 = rw (e3, e2, e1)
 
 returns : tie.Need-returns
 returns c =
-    let at-set-word = c .before .before .before .before .before .before in
-    let at-set-row = at-set-word .before .before .before .before in
+    let at-put = c .before .before .before .before .before .before in
+    let at-set-row = at-put .before .before .before .before in
     let start = at-set-row .before .before .before in
     let a = start .args in
-    append-law (a .cap) (a .t .now) (a .n) (a .row) (a .link) (a .h) (at-set-row .set-row .ensures) (at-set-word .set-word .ensures) (c .before .before .set-word2 .ensures)
+    append-law (a .cap) (a .t .now) (a .n) (a .row) (a .link) (a .h) (at-set-row .set-row .ensures) (at-put .put .ensures) (c .before .before .put2 .ensures)
 
 pub append-spec : {M : Type 1} → statement M
 append-spec =

@@ -1,15 +1,20 @@
-use Prim.Native.Nat.{ℕ, _+_, _*_}
-use mathlib.Core.Path.{_≡_}
-use mathlib.Core.List.{List}
+use Prim.Native.Nat.{ℕ, suc, _+_, _≤_}
+use mathlib.Core.Path.{_≡_, refl, sym}
+use mathlib.Core.List.{List, [], _∷_}
 use native.Mathlib.Omega.{arith}
 use native.Mathlib.Numerals.{add-one}
-use lib.ListN.{set, length-set}
-use lib.Seq.{sets}
+use lib.ListN.{length, set, length-set}
+use lib.Seq.{sets, set-out}
 use Rattle.tables.specs.Table.{rowWords}
 use Rattle.tables.specs.declared.Row.{Row}
 use borrow.Author.Needs.{needs}
 use Rattle.tables.proofs.set_six.Statement.{statement}
 use Rattle.tables.proofs.set_six.Tie as tie
+
+-- past the end nothing is stored
+past : (t : List ℕ) (k : ℕ) (ws : List ℕ) → length t ≤ k → sets t k ws ≡ t
+past t k [] h = refl
+past t k (w ∷ ws) h = rw (set-out t k w h) (past t (suc k) ws (omega arith))
 
 -- the six stores
 stores : (t : List ℕ) (k : ℕ) (r : Row) → set (set (set (set (set (set t (k) (r .a)) (k + 1) (r .b)) (k + 1 + 1) (r .c)) (k + 1 + 1 + 1) (r .d)) (k + 1 + 1 + 1 + 1) (r .e)) (k + 1 + 1 + 1 + 1 + 1) (r .f) ≡ sets t k (rowWords r)
@@ -31,23 +36,27 @@ slice-write-t-5 : tie.Need-slice-write-t-5
 slice-write-t-5 c = simp length-set (omega arith)
 
 returns : tie.Need-returns
-returns c = stores (c .before .before .args .t .now) (c .before .before .args .k0) (c .before .before .args .r)
+returns c = let a = c .before .before .args in sym (past (a .t .now) (a .k0) (rowWords (a .r)) (c .if1 .taken))
 
 returns-2 : tie.Need-returns-2
-returns-2 c =
-    let at-set-word5 = c .before .before .before .before .before .before in
-    let at-set-word4 = at-set-word5 .before .before .before .before in
-    let at-set-word3 = at-set-word4 .before .before .before .before in
-    let at-set-word2 = at-set-word3 .before .before .before .before in
-    let at-set-word = at-set-word2 .before .before .before .before in
-    let start = at-set-word .before .before .before .before in
+returns-2 c = let a = c .before .before .before .args in stores (a .t .now) (a .k0) (a .r)
+
+returns-3 : tie.Need-returns-3
+returns-3 c =
+    let at-put5 = c .before .before .before .before .before .before in
+    let at-put4 = at-put5 .before .before .before .before in
+    let at-put3 = at-put4 .before .before .before .before in
+    let at-put2 = at-put3 .before .before .before .before in
+    let at-put = at-put2 .before .before .before .before in
+    let start = at-put .before .before .before .before .before in
     let a = start .args in
-    calls (a .t .now) (a .k0) (a .r) (at-set-word .set-word .ensures) (at-set-word2 .set-word2 .ensures) (at-set-word3 .set-word3 .ensures) (at-set-word4 .set-word4 .ensures) (at-set-word5 .set-word5 .ensures) (c .before .before .set-word6 .ensures)
+    calls (a .t .now) (a .k0) (a .r) (at-put .put .ensures) (at-put2 .put2 .ensures) (at-put3 .put3 .ensures) (at-put4 .put4 .ensures) (at-put5 .put5 .ensures) (c .before .before .put6 .ensures)
 
 pub set-six-spec : {M : Type 1} → statement M
 set-six-spec =
     tie.close
     (tie.spec
+    returns
     (λ c. search needs) (λ c. search needs) (λ c. search needs) (λ c. search needs) (λ c. search needs)
     (λ c. search needs) (λ c. search needs) (λ c. search needs)
     slice-write-t-2
@@ -58,7 +67,7 @@ set-six-spec =
     (λ c. search needs)
     slice-write-t-5
     (λ c. search needs) (λ c. search needs) (λ c. search needs)
-    returns
+    returns-2
     (λ c κs. search needs) (λ c κs. search needs) (λ c κs. search needs) (λ c κs. search needs) (λ c κs. search needs)
     (λ c κs. search needs) (λ c. search needs)
-    returns-2)
+    returns-3)

@@ -8,7 +8,6 @@ use Rattle.tables.specs.Table.{lookupOf, rowAt}
 use Rattle.tables.specs.Kinds.{startRow, locationOf}
 use Rattle.tables.specs.Ranges.{getOf}
 use Rattle.tables.specs.declared.Row.{Row}
-use Rattle.tables.specs.declared.ranges.Found.{Found}
 use Rattle.tables.specs.declared.ranges.Found.the-variants.{Absent, At}
 use Rattle.tables.proofs.ranges.get.Statement.{statement}
 use Rattle.tables.proofs.ranges.get.Tie as tie
