@@ -1,7 +1,7 @@
 -- Line rows as one lent list of rows: document 01, "First over plain number slices; then one thin entry takes the line rows as one lent list of
 -- rows". The words that a row is unpacked to, and the
 -- columns of numbers that a list of rows stands for.
-use mathlib.Core.Bool.{Bool, cond, _&&_}
+use mathlib.Core.Bool.{Bool, cond}
 use mathlib.Core.List.{List, [], _∷_, _++_}
 use Prim.Native.Nat.{ℕ, suc, _*_, _/_}
 use lib.Dec.{eqb, ltb}
@@ -44,10 +44,14 @@ linesTexts? t ls = each (λ (j : ℕ). lineTexts? t (getD ls j noLine)) (length 
 
 -- ── Unpacking ──
 
--- the w words vs of row j into t, where the call isn't refused and there is room
-unfoldable pub putRow : ℕ → ℕ → List ℕ → ℕ → List ℕ → List ℕ
-putRow refused w t j vs = cond (eqb refused 0 && ltb j (length t / w)) (sets t (j * w) vs) t
+-- the w words vs of row j into t, where there is room
+unfoldable pub putRow : ℕ → List ℕ → ℕ → List ℕ → List ℕ
+putRow w t j vs = cond (ltb j (length t / w)) (sets t (j * w) vs) t
 
-unfoldable pub putRows : ℕ → ℕ → (LineRow → List ℕ) → List LineRow → ℕ → List ℕ → List ℕ
-putRows refused w f [] j t = t
-putRows refused w f (l ∷ ls) j t = putRows refused w f ls (suc j) (putRow refused w t j (f l))
+unfoldable pub putRows : ℕ → (LineRow → List ℕ) → List LineRow → ℕ → List ℕ → List ℕ
+putRows w f [] j t = t
+putRows w f (l ∷ ls) j t = putRows w f ls (suc j) (putRow w t j (f l))
+
+-- t after all rows were unpacked to w words each; as it was where the call is refused
+unfoldable pub unpackedTo : ℕ → ℕ → (LineRow → List ℕ) → List LineRow → List ℕ → List ℕ
+unpackedTo refused w f ls t = cond (eqb refused 0) (putRows w f ls 0 t) t

@@ -1,100 +1,92 @@
 // Line rows that are one lent list: their texts, the words that they are unpacked to, and the number that a call with them is refused with before a
 // word is unpacked.
 ghost use mathlib.Core.Path.{_≡_};
-ghost use mathlib.Core.Bool.{_&&_};
-ghost use Rattle.rows.specs.Refusals.{lineTexts?};
-ghost use Rattle.line_list.specs.Lines.{words64, words32, linesTexts?, putRow, putRows};
+ghost use Rattle.line_list.specs.Lines.{words64, words32, linesTexts?, putRow, unpackedTo};
 ghost use Rattle.line_list.specs.Numbers.{usableBy, numberOf};
+use memory::CLOSED;
 use memory::Converter;
 use memory::Lengths;
+use rows::line_texts;
 use rows::LineRow;
+use rows::SYMCACHE_SCRATCH_TOO_SMALL;
 use slices::flag;
 
-// 14: the texts so far are in order, and so are this row's.
-fn and_texts(good: bool, text: &[u8], row: LineRow) -> bool
-    ensures { λ r. ⌜ r ≡ good && lineTexts? (now (text .entry)) row ⌝ }
-{
-    if good {
-        return rows::line_texts(text, row);
-    }
-    false
-}
-
-// 14: the texts of all line rows.
+// 14: the texts of all line rows, up to the first row whose texts aren't in order.
 pub fn lines_texts(lines: &[LineRow], text: &[u8]) -> bool
     ensures { λ r. ⌜ r ≡ linesTexts? (now (text .entry)) (now (lines .entry)) ⌝ }
 {
-    let mut good = true;
     let mut j: usize = 0;
     while j < lines.len() {
         let row = lines[j];
-        good = and_texts(good, text, row);
+        let good = line_texts(text, row);
+        if !good {
+            return false;
+        }
         j += 1;
     }
-    good
+    true
 }
 
 // The three 64-bit words of row j, where there is room.
-fn put_words64(refused: u32, unpacked64: &mut [u64], j: usize, row: LineRow)
-    ensures { λ _. ⌜ now (unpacked64 .exit) ≡ putRow refused 3 (now (unpacked64 .entry)) j (words64 row) ⌝ }
+fn put_words64(unpacked64: &mut [u64], j: usize, row: LineRow)
+    ensures { λ _. ⌜ now (unpacked64 .exit) ≡ putRow 3 (now (unpacked64 .entry)) j (words64 row) ⌝ }
 {
-    if refused == 0 {
-        if j < unpacked64.len() / 3 {
-            let k = j * 3;
-            unpacked64[k] = row.address;
-            unpacked64[k + 1] = row.size;
-            unpacked64[k + 2] = row.number;
-        }
+    if j < unpacked64.len() / 3 {
+        let k = j * 3;
+        unpacked64[k] = row.address;
+        unpacked64[k + 1] = row.size;
+        unpacked64[k + 2] = row.number;
     }
 }
 
 // Its fourteen 32-bit words.
-fn put_words32(refused: u32, unpacked32: &mut [u32], j: usize, row: LineRow)
-    ensures { λ _. ⌜ now (unpacked32 .exit) ≡ putRow refused 14 (now (unpacked32 .entry)) j (words32 row) ⌝ }
+fn put_words32(unpacked32: &mut [u32], j: usize, row: LineRow)
+    ensures { λ _. ⌜ now (unpacked32 .exit) ≡ putRow 14 (now (unpacked32 .entry)) j (words32 row) ⌝ }
 {
-    if refused == 0 {
-        if j < unpacked32.len() / 14 {
-            let has_size = flag(row.has_size);
-            let srcsrv_name = flag(row.srcsrv_name.present);
-            let srcsrv_dir = flag(row.srcsrv_dir.present);
-            let revision = flag(row.revision.present);
-            let k = j * 14;
-            unpacked32[k] = has_size;
-            unpacked32[k + 1] = row.name.start;
-            unpacked32[k + 2] = row.name.len;
-            unpacked32[k + 3] = row.directory.start;
-            unpacked32[k + 4] = row.directory.len;
-            unpacked32[k + 5] = srcsrv_name;
-            unpacked32[k + 6] = row.srcsrv_name.part.start;
-            unpacked32[k + 7] = row.srcsrv_name.part.len;
-            unpacked32[k + 8] = srcsrv_dir;
-            unpacked32[k + 9] = row.srcsrv_dir.part.start;
-            unpacked32[k + 10] = row.srcsrv_dir.part.len;
-            unpacked32[k + 11] = revision;
-            unpacked32[k + 12] = row.revision.part.start;
-            unpacked32[k + 13] = row.revision.part.len;
-        }
+    if j < unpacked32.len() / 14 {
+        let has_size = flag(row.has_size);
+        let srcsrv_name = flag(row.srcsrv_name.present);
+        let srcsrv_dir = flag(row.srcsrv_dir.present);
+        let revision = flag(row.revision.present);
+        let k = j * 14;
+        unpacked32[k] = has_size;
+        unpacked32[k + 1] = row.name.start;
+        unpacked32[k + 2] = row.name.len;
+        unpacked32[k + 3] = row.directory.start;
+        unpacked32[k + 4] = row.directory.len;
+        unpacked32[k + 5] = srcsrv_name;
+        unpacked32[k + 6] = row.srcsrv_name.part.start;
+        unpacked32[k + 7] = row.srcsrv_name.part.len;
+        unpacked32[k + 8] = srcsrv_dir;
+        unpacked32[k + 9] = row.srcsrv_dir.part.start;
+        unpacked32[k + 10] = row.srcsrv_dir.part.len;
+        unpacked32[k + 11] = revision;
+        unpacked32[k + 12] = row.revision.part.start;
+        unpacked32[k + 13] = row.revision.part.len;
     }
 }
 
 // Row j into both columns.
-fn put_line(refused: u32, unpacked64: &mut [u64], unpacked32: &mut [u32], j: usize, row: LineRow)
-    ensures { λ _. ⌜ (now (unpacked64 .exit) ≡ putRow refused 3 (now (unpacked64 .entry)) j (words64 row))
-        × (now (unpacked32 .exit) ≡ putRow refused 14 (now (unpacked32 .entry)) j (words32 row)) ⌝ }
+fn put_line(unpacked64: &mut [u64], unpacked32: &mut [u32], j: usize, row: LineRow)
+    ensures { λ _. ⌜ (now (unpacked64 .exit) ≡ putRow 3 (now (unpacked64 .entry)) j (words64 row))
+        × (now (unpacked32 .exit) ≡ putRow 14 (now (unpacked32 .entry)) j (words32 row)) ⌝ }
 {
-    put_words64(refused, unpacked64, j, row);
-    put_words32(refused, unpacked32, j, row);
+    put_words64(unpacked64, j, row);
+    put_words32(unpacked32, j, row);
 }
 
 // All rows into the memory that is lent for them; nothing where the call is refused.
 pub fn unpack(refused: u32, lines: &[LineRow], unpacked64: &mut [u64], unpacked32: &mut [u32])
-    ensures { λ _. ⌜ (now (unpacked64 .exit) ≡ putRows refused 3 words64 (now (lines .entry)) 0 (now (unpacked64 .entry)))
-        × (now (unpacked32 .exit) ≡ putRows refused 14 words32 (now (lines .entry)) 0 (now (unpacked32 .entry))) ⌝ }
+    ensures { λ _. ⌜ (now (unpacked64 .exit) ≡ unpackedTo refused 3 words64 (now (lines .entry)) (now (unpacked64 .entry)))
+        × (now (unpacked32 .exit) ≡ unpackedTo refused 14 words32 (now (lines .entry)) (now (unpacked32 .entry))) ⌝ }
 {
+    if refused != 0 {
+        return;
+    }
     let mut j: usize = 0;
     while j < lines.len() {
         let row = lines[j];
-        put_line(refused, &mut *unpacked64, &mut *unpacked32, j, row);
+        put_line(&mut *unpacked64, &mut *unpacked32, j, row);
         j += 1;
     }
 }
@@ -146,9 +138,9 @@ pub fn refusal(
                     return 0;
                 }
             }
-            return 16;
+            return SYMCACHE_SCRATCH_TOO_SMALL;
         }
         return refused;
     }
-    19
+    CLOSED
 }
