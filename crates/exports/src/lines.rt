@@ -1,7 +1,7 @@
 // A tree whose line rows are one lent list of rows.
 ghost use mathlib.Core.Path.{_≡_};
 ghost use Rattle.memory.specs.Memory.{memory};
-ghost use Rattle.line_list.specs.Lines.{lineColumns};
+ghost use Rattle.line_rows.specs.Lines.{lineColumns};
 ghost use Rattle.c_words.specs.Record.{converterOf, kept};
 ghost use Rattle.c_words.specs.Writing.{left, linesLeft, linesCall};
 use c_words::record::load;

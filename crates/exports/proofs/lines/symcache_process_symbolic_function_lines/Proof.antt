@@ -49,10 +49,10 @@ use Rattle.writer.specs.Calls.{called}
 use Rattle.writer.specs.declared.calls.Answer.{Answer}
 use Rattle.writer.proofs.calls.Answer as TA
 use Rattle.writer.proofs.calls.Answer.Laws as TA′
-use Rattle.line_list.specs.Lines.{lineColumns}
+use Rattle.line_rows.specs.Lines.{lineColumns}
 use Rattle.line_rows.specs.Calls.{linesOf}
 use Rattle.line_rows.specs.Calls as lines-spec
-use Rattle.line_list.proofs.Again.{LentAgain, lends-again, comes-back}
+use Rattle.line_rows.proofs.Again.{LentAgain, lends-again, comes-back}
 use Rattle.line_rows.proofs.process_function_lines as process
 use Rattle.line_rows.proofs.process_function_lines.Symbol as process-def
 use Rattle.line_rows.proofs.process_function_lines.Symbol.{name as #line-rows·process-function-lines}

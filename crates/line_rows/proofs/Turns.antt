@@ -11,7 +11,7 @@ use Rattle.rows.specs.Refusals.{each, lineTexts?}
 use Rattle.rows.specs.declared.LineRow.{LineRow}
 use borrow.Author.Tests.{eq-eqb, ne-eqb}
 use Rattle.rows.proofs.Laws.{each-none, each-more, each-not, each-end}
-use Rattle.line_list.specs.Lines.{noLine, words64, words32, linesTexts?, putRow, putRows, unpackedTo}
+use Rattle.line_rows.specs.Lines.{noLine, words64, words32, linesTexts?, putRow, putRows, unpackedTo}
 
 -- ── The texts: those of the first j rows are in order ──
 

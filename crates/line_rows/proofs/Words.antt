@@ -9,7 +9,7 @@ use Rattle.slices.specs.Slices.{flagOf}
 use lib.Seq.{sets}
 use borrow.Author.Tests.{lt-ltb, le-ltb}
 use Rattle.rows.specs.declared.LineRow.{LineRow}
-use Rattle.line_list.specs.Lines.{words64, words32, putRow}
+use Rattle.line_rows.specs.Lines.{words64, words32, putRow}
 
 module _ (w : ℕ) (t : List ℕ) (j : ℕ) (vs : List ℕ) where
   row-in : j < length t / w → sets t (j * w) vs ≡ putRow w t j vs

@@ -50,17 +50,17 @@ use denote.Exit.{yes}
 use Rattle.rows.specs.declared.LineRow.{LineRow}
 use Rattle.rows.proofs.LineRow as T
 use Rattle.rows.proofs.LineRow.Laws as T′
-use Rattle.line_list.specs.Lines.{noLine, words64, words32, putRow, unpackedTo}
-use Rattle.line_list.proofs.Again.{LentAgain, lends-at, back-at}
-use Rattle.line_list.proofs.Turns.{Unpacked, unpack-begin, put-more, unpacked-all, unpacked-none}
-use Rattle.line_list.proofs.put_line as put-line
-use Rattle.line_list.proofs.put_line.Symbol as put-line-def
-use Rattle.line_list.proofs.put_line.Symbol.{name as #line-list·put-line}
-use Rattle.line_list.proofs.put_line.Met as put-line-thm
-use Rattle.line_list.proofs.unpack.Key.{name as #line-list·unpack}
-use Rattle.line_list.proofs.unpack as unpack
-use Rattle.line_list.proofs.unpack.Statement as stated
-use Rattle.line_list.proofs.unpack.Code as code
+use Rattle.line_rows.specs.Lines.{noLine, words64, words32, putRow, unpackedTo}
+use Rattle.line_rows.proofs.Again.{LentAgain, lends-at, back-at}
+use Rattle.line_rows.proofs.Turns.{Unpacked, unpack-begin, put-more, unpacked-all, unpacked-none}
+use Rattle.line_rows.proofs.put_line as put-line
+use Rattle.line_rows.proofs.put_line.Symbol as put-line-def
+use Rattle.line_rows.proofs.put_line.Symbol.{name as #line-rows·put-line}
+use Rattle.line_rows.proofs.put_line.Met as put-line-thm
+use Rattle.line_rows.proofs.unpack.Key.{name as #line-rows·unpack}
+use Rattle.line_rows.proofs.unpack as unpack
+use Rattle.line_rows.proofs.unpack.Statement as stated
+use Rattle.line_rows.proofs.unpack.Code as code
 
 abbrev stayed : Stays (unpack.ended .signature .params) (unpack.ended .kept)
 stayed = (stay-none (λ _. u32) yes, (stay-none-slice (0 ∷ []) tt (plain (λ _. T.the-row)) yes, (stay-slice (1 ∷ []) tt (plain (λ _. u64)), (stay-slice (2 ∷ []) tt (plain (λ _. u32)), tt))))
@@ -192,7 +192,7 @@ module _ {M : Type 1} (𝓤 : URA M) (H : Heap 𝓤) (A : Atoms 𝓤) (W : Given
   abbrev Put : St → List ℕ → List ℕ → Type 0
   Put t u v = (u ≡ putRow 3 (t .u) (t .j) (words64 (elem (t .j)))) × (v ≡ putRow 14 (t .v) (t .j) (words32 (elem (t .j))))
 
-  module _ (𝓣 : Tables 𝓤 H) (fm : FmC 𝓤 H (W .laws) (𝓣 .C)) (known : Triple 𝓤 (𝓣 .C #line-list·put-line) (PutLine 𝓤 H A mem run)) (l0 l1 l2 l3 l4 l5 l6 l7 l8 l9 l10 l11 l12 l13 l14 l15 l16 : ℕ) where
+  module _ (𝓣 : Tables 𝓤 H) (fm : FmC 𝓤 H (W .laws) (𝓣 .C)) (known : Triple 𝓤 (𝓣 .C #line-rows·put-line) (PutLine 𝓤 H A mem run)) (l0 l1 l2 l3 l4 l5 l6 l7 l8 l9 l10 l11 l12 l13 l14 l15 l16 : ℕ) where
     abbrev C : Calls 𝓤 H
     C = 𝓣 .C
 
@@ -330,7 +330,7 @@ module _ {M : Type 1} (𝓤 : URA M) (H : Heap 𝓤) (A : Atoms 𝓤) (W : Given
         (λ h. skips ! $ exec ! C Λ En code.Mir.t-3 (atRet En Post) $ forget ! 26 refl $ assigns ! (of-opd ! (lit ! tt)) (from ! (stop !)) (init ! 30 refl (tt, record { fits = lit< tt })) $
         first ! $ blocks ! $ loops ! 𝓣 Nearer Nearer-wf At (turns (is-taken refused h)) (unpack-begin ys u₀ v₀))
 
-  walk : (𝓣 : Tables 𝓤 H) → FmC 𝓤 H (W .laws) (𝓣 .C) → Triple 𝓤 (𝓣 .C #line-list·put-line) (PutLine 𝓤 H A mem run)
+  walk : (𝓣 : Tables 𝓤 H) → FmC 𝓤 H (W .laws) (𝓣 .C) → Triple 𝓤 (𝓣 .C #line-rows·put-line) (PutLine 𝓤 H A mem run)
       → ent 𝓤 (onEntry 𝓤 H A unpack.signature (κ₀, (κ₁, (κ₂, tt))) (q₀, (q₁, (q₂, tt))) a vals) (WpFn 𝓤 H (𝓣 .C) (𝓣 .Λ) code.function (vint w32 refused ∷ s₀ ∷ s64 ∷ s32 ∷ []) Post)
   walk 𝓣 fm known =
       qed W ((‵ (flft κ₀ q₀) ⊛ ‵ (flft κ₁ q₁) ⊛ ‵ (flft κ₂ q₂) ⊛ ‵ ftrue) ∷ ‵ (owns (u32 ∷ ShrSlice (named 0) κ₀ T.the-row ∷ MutSlice (named 1) κ₁ u64 ∷ MutSlice (named 2) κ₂ u32 ∷ []) a vals) ∷ []) ∵
@@ -343,7 +343,7 @@ module _ {M : Type 1} (𝓤 : URA M) (H : Heap 𝓤) (A : Atoms 𝓤) (W : Given
       keep ! (8 ∷ 3 ∷ 6 ∷ 2 ∷ 4 ∷ 0 ∷ 7 ∷ 9 ∷ 11 ∷ 12 ∷ 13 ∷ 14 ∷ 15 ∷ 16 ∷ 17 ∷ 18 ∷ 19 ∷ 20 ∷ 21 ∷ 22 ∷ 23 ∷ 24 ∷ 25 ∷ 26 ∷ 27 ∷ 28 ∷ 29 ∷ 30 ∷ 31 ∷ 32 ∷ 33 ∷ 34 ∷ 35 ∷ 36 ∷ 37 ∷ 38 ∷ 39 ∷ 40 ∷ 41 ∷ 42 ∷ 43 ∷ 44 ∷ []) $
       body 𝓣 fm known l0 l1 l2 l3 l4 l5 l6 l7 l8 l9 l10 l11 l12 l13 l14 l15 l16)))))))))))))))))
 
-module _ {M : Type 1} (𝓤 : URA M) (H : Heap 𝓤) (A : Atoms 𝓤) (W : Given 𝓤 H A) (mem : Memory → SProp 𝓤) (run : Routine → Fun 𝓤) (𝓣 : Tables 𝓤 H) (known : Triple 𝓤 (𝓣 .C #line-list·put-line) (PutLine 𝓤 H A mem run)) where
+module _ {M : Type 1} (𝓤 : URA M) (H : Heap 𝓤) (A : Atoms 𝓤) (W : Given 𝓤 H A) (mem : Memory → SProp 𝓤) (run : Routine → Fun 𝓤) (𝓣 : Tables 𝓤 H) (known : Triple 𝓤 (𝓣 .C #line-rows·put-line) (PutLine 𝓤 H A mem run)) where
   unpack-walks : Walks 𝓤 H A unpack.ended stayed (WpFn 𝓤 H (𝓣 .C) (𝓣 .Λ) code.function) (unpack.clauses 𝓤 H A mem run)
   unpack-walks = walked 𝓤 H A unpack.ended stayed (unpack.clauses 𝓤 H A mem run) (WpFn 𝓤 H (𝓣 .C) (𝓣 .Λ) code.function)
       (λ κs. (uint-vals w32, (slice-vals, (slice-vals, (slice-vals, tt)))))
@@ -364,6 +364,6 @@ pub unpack-spec : {M : Type 1} → stated.statement M
 unfolding code.routine tablesOf
 unpack-spec 𝓤 H 𝓜 𝓖 𝓡 =
     entered 𝓤 H (tripleOf 𝓤 H (𝓖 .A) unpack.signature (unpack.spec 𝓤 H (𝓖 .A) (𝓜 .mem) (𝓡 .run)))
-    (tables 𝓤 H 𝓜 𝓡 code.env .C) (tables 𝓤 H 𝓜 𝓡 code.env .Λ) #line-list·unpack code.function (code.unfolded 𝓤 H 𝓜 𝓡)
+    (tables 𝓤 H 𝓜 𝓡 code.env .C) (tables 𝓤 H 𝓜 𝓡 code.env .Λ) #line-rows·unpack code.function (code.unfolded 𝓤 H 𝓜 𝓡)
     (unpack-meets 𝓤 H (𝓖 .A) (givenOf 𝓤 H 𝓜 𝓖) (𝓜 .mem) (𝓡 .run) (tablesOf 𝓤 H 𝓜 (tables 𝓤 H 𝓜 𝓡 code.env))
-    (cited 𝓤 H (PutLine 𝓤 H (𝓖 .A) (𝓜 .mem) (𝓡 .run)) 𝓜 𝓡 code.env #line-list·put-line put-line-def.routine code.calls-line-list·put-line (put-line-thm.met 𝓤 H 𝓜 𝓖 𝓡)))
+    (cited 𝓤 H (PutLine 𝓤 H (𝓖 .A) (𝓜 .mem) (𝓡 .run)) 𝓜 𝓡 code.env #line-rows·put-line put-line-def.routine code.calls-line-rows·put-line (put-line-thm.met 𝓤 H 𝓜 𝓖 𝓡)))

@@ -50,16 +50,16 @@ use Rattle.rows.specs.Refusals.{lineTexts?}
 use Rattle.rows.specs.declared.LineRow.{LineRow}
 use Rattle.rows.proofs.LineRow as T
 use Rattle.rows.proofs.LineRow.Laws as T′
-use Rattle.line_list.specs.Lines.{noLine, linesTexts?}
-use Rattle.line_list.proofs.Turns.{Tested, tests-begin, tested-more, tested-bad, tested-all}
+use Rattle.line_rows.specs.Lines.{noLine, linesTexts?}
+use Rattle.line_rows.proofs.Turns.{Tested, tests-begin, tested-more, tested-bad, tested-all}
 use Rattle.rows.proofs.line_texts as line-texts
 use Rattle.rows.proofs.line_texts.Symbol as line-texts-def
 use Rattle.rows.proofs.line_texts.Symbol.{name as #rows·line-texts}
 use Rattle.rows.proofs.line_texts.Met as line-texts-thm
-use Rattle.line_list.proofs.lines_texts.Key.{name as #line-list·lines-texts}
-use Rattle.line_list.proofs.lines_texts as lines-texts
-use Rattle.line_list.proofs.lines_texts.Statement as stated
-use Rattle.line_list.proofs.lines_texts.Code as code
+use Rattle.line_rows.proofs.lines_texts.Key.{name as #line-rows·lines-texts}
+use Rattle.line_rows.proofs.lines_texts as lines-texts
+use Rattle.line_rows.proofs.lines_texts.Statement as stated
+use Rattle.line_rows.proofs.lines_texts.Code as code
 
 abbrev stayed : Stays (lines-texts.ended .signature .params) (lines-texts.ended .kept)
 stayed = (stay-none-slice (0 ∷ []) tt (plain (λ _. T.the-row)) yes, (stay-none-slice (1 ∷ []) tt (plain (λ _. u8)) yes, tt))
@@ -290,6 +290,6 @@ pub lines-texts-spec : {M : Type 1} → stated.statement M
 unfolding code.routine tablesOf
 lines-texts-spec 𝓤 H 𝓜 𝓖 𝓡 =
     entered 𝓤 H (tripleOf 𝓤 H (𝓖 .A) lines-texts.signature (lines-texts.spec 𝓤 H (𝓖 .A) (𝓜 .mem) (𝓡 .run)))
-    (tables 𝓤 H 𝓜 𝓡 code.env .C) (tables 𝓤 H 𝓜 𝓡 code.env .Λ) #line-list·lines-texts code.function (code.unfolded 𝓤 H 𝓜 𝓡)
+    (tables 𝓤 H 𝓜 𝓡 code.env .C) (tables 𝓤 H 𝓜 𝓡 code.env .Λ) #line-rows·lines-texts code.function (code.unfolded 𝓤 H 𝓜 𝓡)
     (lines-texts-meets 𝓤 H (𝓖 .A) (givenOf 𝓤 H 𝓜 𝓖) (𝓜 .mem) (𝓡 .run) (tablesOf 𝓤 H 𝓜 (tables 𝓤 H 𝓜 𝓡 code.env))
     (cited 𝓤 H (LineTexts 𝓤 H (𝓖 .A) (𝓜 .mem) (𝓡 .run)) 𝓜 𝓡 code.env #rows·line-texts line-texts-def.routine code.calls-rows·line-texts (line-texts-thm.met 𝓤 H 𝓜 𝓖 𝓡)))

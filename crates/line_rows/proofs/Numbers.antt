@@ -5,7 +5,7 @@ use mathlib.Core.Bool.{Bool, true, false}
 use mathlib.Core.List.{List}
 use borrow.Author.Tests.{eq-eqb, ne-eqb, le-leb, lt-leb}
 use Rattle.rows.specs.Refusals.{refusalWith}
-use Rattle.line_list.specs.Numbers.{numberOf}
+use Rattle.line_rows.specs.Numbers.{numberOf}
 
 module _ (usable : Bool) (s u v : ℕ) (f64 f32 : List ℕ) (n : ℕ) (b : Bool) (t : List ℕ) where
   pub number-19 : usable ≡ false → 19 ≡ numberOf usable s u v f64 f32 n b t

@@ -1,9 +1,9 @@
 -- `refusal` meets its contract: each number by the tests that led to it.
 use mathlib.Core.Path.{sym, _∙_}
 use borrow.Author.Needs.{needs}
-use Rattle.line_list.proofs.Numbers.{number-0, number-16-64, number-16-32, number-rows, number-19}
-use Rattle.line_list.proofs.refusal.Statement.{statement}
-use Rattle.line_list.proofs.refusal.Tie as tie
+use Rattle.line_rows.proofs.Numbers.{number-0, number-16-64, number-16-32, number-rows, number-19}
+use Rattle.line_rows.proofs.refusal.Statement.{statement}
+use Rattle.line_rows.proofs.refusal.Tie as tie
 
 returns : tie.Need-returns
 returns c =
