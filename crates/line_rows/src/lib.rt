@@ -4,9 +4,9 @@ ghost use mathlib.Core.Path.{_≡_};
 ghost use Rattle.line_rows.specs.Lines.{words64, words32, linesTexts?, putRow, unpackedTo};
 ghost use Rattle.line_rows.specs.Numbers.{numberOf};
 use memory::CLOSED;
-use rows::line_texts;
 use rows::LineRow;
 use rows::SYMCACHE_SCRATCH_TOO_SMALL;
+use rows::line_texts;
 use slices::flag;
 
 // 14: the texts of all line rows, up to the first row whose texts aren't in order.
