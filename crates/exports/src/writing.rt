@@ -35,7 +35,7 @@ pub extern "C" fn symcache_begin(
         ≡ beginCall (now («record» .entry)) (now («debug_id» .entry)) arch «undecorate_functions» «undecorate_symbols» before
         ) ⌝ }
 {
-    c_converter::begin(
+    c_begin::begin(
         record,
         debug_id,
         arch,
@@ -77,7 +77,7 @@ pub extern "C" fn symcache_process_symbolic_function(
         left r (now («record» .exit)) after (now (scratch .exit)) ≡ treeCall (now («record» .entry)) before (now (scratch .entry)) given
         ) ⌝ }
 {
-    c_converter::process_symbolic_function(
+    c_trees::process_symbolic_function(
         record,
         string_bytes,
         strings,

@@ -48,24 +48,24 @@ use Rattle.line_rows.specs.Numbers.{usableBy, numberOf}
 use Rattle.line_rows.proofs.Again.{LentAgain, lends-again, comes-back}
 use Rattle.c_words.specs.Record.{converterOf}
 use Rattle.c_words.specs.Writing.{left, linesLeft, linesCall}
-use Rattle.c_converter.specs.Unpacked.{unpackedCall}
-use Rattle.c_converter.proofs.LinesLaws.{lines-made}
+use Rattle.c_trees.specs.Unpacked.{unpackedCall}
+use Rattle.c_trees.proofs.LinesLaws.{lines-made}
 use Rattle.line_rows.proofs.lines_texts as lines-texts
 use Rattle.line_rows.proofs.lines_texts.Symbol as lines-texts-def
 use Rattle.line_rows.proofs.lines_texts.Symbol.{name as #line-rows·lines-texts}
 use Rattle.line_rows.proofs.lines_texts.Met as lines-texts-thm
-use Rattle.c_converter.proofs.lines_refusal as lines-refusal
-use Rattle.c_converter.proofs.lines_refusal.Symbol as lines-refusal-def
-use Rattle.c_converter.proofs.lines_refusal.Symbol.{name as #c-converter·lines-refusal}
-use Rattle.c_converter.proofs.lines_refusal.Met as lines-refusal-thm
+use Rattle.c_trees.proofs.lines_refusal as lines-refusal
+use Rattle.c_trees.proofs.lines_refusal.Symbol as lines-refusal-def
+use Rattle.c_trees.proofs.lines_refusal.Symbol.{name as #c-trees·lines-refusal}
+use Rattle.c_trees.proofs.lines_refusal.Met as lines-refusal-thm
 use Rattle.line_rows.proofs.unpack as unpack
 use Rattle.line_rows.proofs.unpack.Symbol as unpack-def
 use Rattle.line_rows.proofs.unpack.Symbol.{name as #line-rows·unpack}
 use Rattle.line_rows.proofs.unpack.Met as unpack-thm
-use Rattle.c_converter.proofs.process_unpacked as process-unpacked
-use Rattle.c_converter.proofs.process_unpacked.Symbol as process-unpacked-def
-use Rattle.c_converter.proofs.process_unpacked.Symbol.{name as #c-converter·process-unpacked}
-use Rattle.c_converter.proofs.process_unpacked.Met as process-unpacked-thm
+use Rattle.c_trees.proofs.process_unpacked as process-unpacked
+use Rattle.c_trees.proofs.process_unpacked.Symbol as process-unpacked-def
+use Rattle.c_trees.proofs.process_unpacked.Symbol.{name as #c-trees·process-unpacked}
+use Rattle.c_trees.proofs.process_unpacked.Met as process-unpacked-thm
 use Rattle.exports.proofs.lines.symcache_process_symbolic_function_lines.Key.{name as #exports·lines·symcache-process-symbolic-function-lines}
 use Rattle.exports.proofs.lines.symcache_process_symbolic_function_lines as exported
 use Rattle.exports.proofs.lines.symcache_process_symbolic_function_lines.Statement as stated
@@ -301,8 +301,8 @@ module _ {M : Type 1} (𝓤 : URA M) (H : Heap 𝓤) (A : Atoms 𝓤) (W : Given
         forget ! 0 refl $ free1 ! $ forget ! 0 refl $ free1 ! $ forget ! 0 refl $ free1 ! $ forget ! 0 refl $ free1 ! $ forget ! 0 refl $ free1 ! $ forget ! 0 refl $ free1 ! $
         free0 ! $ by ! (exits r w z0 z1 z2 z3 z4 z5 z6 z7 z8 z9 n0 n1 n2 n3 n4 n5 n6 n7 n8 n9 e)
 
-  module _ (C : Calls 𝓤 H) (Λ : Loops 𝓤 H) (fm : FmC 𝓤 H (W .laws) C) (known-texts : Triple 𝓤 (C #line-rows·lines-texts) (LinesTexts 𝓤 H A mem run)) (known-refusal : Triple 𝓤 (C #c-converter·lines-refusal) (LinesRefusal 𝓤 H A mem run))
-      (known-unpack : Triple 𝓤 (C #line-rows·unpack) (Unpack 𝓤 H A mem run)) (known-process : Triple 𝓤 (C #c-converter·process-unpacked) (ProcessUnpacked 𝓤 H A mem run)) where
+  module _ (C : Calls 𝓤 H) (Λ : Loops 𝓤 H) (fm : FmC 𝓤 H (W .laws) C) (known-texts : Triple 𝓤 (C #line-rows·lines-texts) (LinesTexts 𝓤 H A mem run)) (known-refusal : Triple 𝓤 (C #c-trees·lines-refusal) (LinesRefusal 𝓤 H A mem run))
+      (known-unpack : Triple 𝓤 (C #line-rows·unpack) (Unpack 𝓤 H A mem run)) (known-process : Triple 𝓤 (C #c-trees·process-unpacked) (ProcessUnpacked 𝓤 H A mem run)) where
     walk : ent 𝓤 (onEntry 𝓤 H A exported.signature κs qs a vals) (WpFn 𝓤 H C Λ code.function (s0 ∷ s1 ∷ s2 ∷ s3 ∷ s4 ∷ s5 ∷ s6 ∷ s7 ∷ s8 ∷ s9 ∷ s10 ∷ s11 ∷ s12 ∷ s13 ∷ []) Post)
     walk =
         qed W ((‵ (flft κ0 q0) ⊛ ‵ (flft κ1 q1) ⊛ ‵ (flft κ2 q2) ⊛ ‵ (flft κ3 q3) ⊛ ‵ (flft κ4 q4) ⊛ ‵ (flft κ5 q5) ⊛ ‵ (flft κ6 q6) ⊛ ‵ (flft κ7 q7) ⊛ ‵ (flft κ8 q8) ⊛ ‵ (flft κ9 q9) ⊛ ‵ (flft κ10 q10) ⊛ ‵ (flft κ11 q11) ⊛ ‵ (flft κ12 q12) ⊛ ‵ (flft κ13 q13) ⊛ ‵ ftrue)
@@ -445,8 +445,8 @@ module _ {M : Type 1} (𝓤 : URA M) (H : Heap 𝓤) (A : Atoms 𝓤) (W : Given
         tail C Λ l0 l1 l2 l3 l4 l5 l6 l7 l8 l9 l10 l11 l12 l13 l14 l15 l16 l17 l18 l19 l20 l21 l22 l23 l24 l25 l26 l27 l28 l29 l30 l31 l32 l33 l34 l35 l36 l37 l38 l39 l40 l41 l42 l43 l44 l45 l46 l47 l48 l49 l50 l51 l52 l53 c w₄ (ws .1 .1 .0) (ws .1 .1 .1 .0) (ws .1 .1 .1 .1 .0) (ws .1 .1 .1 .1 .1 .0) (ws .1 .1 .1 .1 .1 .1 .0) (ws .1 .1 .1 .1 .1 .1 .1 .0) (ws .1 .1 .1 .1 .1 .1 .1 .1 .0) (ws .1 .1 .1 .1 .1 .1 .1 .1 .1 .0) (ws .1 .1 .1 .1 .1 .1 .1 .1 .1 .1 .0) (ws .1 .1 .1 .1 .1 .1 .1 .1 .1 .1 .1 .0) (n0 ∙ m₀) n1 n2 n3 n4 n5 n6 n7 (n8 ∙ m₁) (n9 ∙ m₂) (lines-made w₀ (memory (t1 .now) (t2 .now) (t3 .now) (t4 .now) (t5 .now) (t6 .now)) (t7 .now) u₀ v₀ (t10 .now) (t11 .now) (t12 .now) (t13 .now) e₁ (e₂ .0) (e₂ .1) (e₃ .0) (e₃ .1) e₄))))))))))))))))))))))))))))))))))))))))))))))))))))))))))))))))))))))))))))))))))))))))))))))
 
 module _ {M : Type 1} (𝓤 : URA M) (H : Heap 𝓤) (A : Atoms 𝓤) (W : Given 𝓤 H A) (mem : Memory → SProp 𝓤) (run : Routine → Fun 𝓤) (𝓣 : Tables 𝓤 H)
-    (known-texts : Triple 𝓤 (𝓣 .C #line-rows·lines-texts) (LinesTexts 𝓤 H A mem run)) (known-refusal : Triple 𝓤 (𝓣 .C #c-converter·lines-refusal) (LinesRefusal 𝓤 H A mem run))
-    (known-unpack : Triple 𝓤 (𝓣 .C #line-rows·unpack) (Unpack 𝓤 H A mem run)) (known-process : Triple 𝓤 (𝓣 .C #c-converter·process-unpacked) (ProcessUnpacked 𝓤 H A mem run)) where
+    (known-texts : Triple 𝓤 (𝓣 .C #line-rows·lines-texts) (LinesTexts 𝓤 H A mem run)) (known-refusal : Triple 𝓤 (𝓣 .C #c-trees·lines-refusal) (LinesRefusal 𝓤 H A mem run))
+    (known-unpack : Triple 𝓤 (𝓣 .C #line-rows·unpack) (Unpack 𝓤 H A mem run)) (known-process : Triple 𝓤 (𝓣 .C #c-trees·process-unpacked) (ProcessUnpacked 𝓤 H A mem run)) where
   exported-walks : Walks 𝓤 H A exported.ended stayed (WpFn 𝓤 H (𝓣 .C) (𝓣 .Λ) code.function) (exported.clauses 𝓤 H A mem run)
   exported-walks = walked 𝓤 H A exported.ended stayed (exported.clauses 𝓤 H A mem run) (WpFn 𝓤 H (𝓣 .C) (𝓣 .Λ) code.function)
       (λ κs. (slice-vals, (slice-vals, (slice-vals, (slice-vals, (slice-vals, (slice-vals, (slice-vals, (slice-vals, (slice-vals, (slice-vals, (slice-vals, (slice-vals, (slice-vals, (slice-vals, tt)))))))))))))))
@@ -467,6 +467,6 @@ symcache-process-symbolic-function-lines-spec 𝓤 H 𝓜 𝓖 𝓡 =
     (tables 𝓤 H 𝓜 𝓡 code.env .C) (tables 𝓤 H 𝓜 𝓡 code.env .Λ) #exports·lines·symcache-process-symbolic-function-lines code.function (code.unfolded 𝓤 H 𝓜 𝓡)
     (exported-meets 𝓤 H (𝓖 .A) (givenOf 𝓤 H 𝓜 𝓖) (𝓜 .mem) (𝓡 .run) (tablesOf 𝓤 H 𝓜 (tables 𝓤 H 𝓜 𝓡 code.env))
     (cited 𝓤 H (LinesTexts 𝓤 H (𝓖 .A) (𝓜 .mem) (𝓡 .run)) 𝓜 𝓡 code.env #line-rows·lines-texts lines-texts-def.routine code.calls-line-rows·lines-texts (lines-texts-thm.met 𝓤 H 𝓜 𝓖 𝓡))
-    (cited 𝓤 H (LinesRefusal 𝓤 H (𝓖 .A) (𝓜 .mem) (𝓡 .run)) 𝓜 𝓡 code.env #c-converter·lines-refusal lines-refusal-def.routine code.calls-c-converter·lines-refusal (lines-refusal-thm.met 𝓤 H 𝓜 𝓖 𝓡))
+    (cited 𝓤 H (LinesRefusal 𝓤 H (𝓖 .A) (𝓜 .mem) (𝓡 .run)) 𝓜 𝓡 code.env #c-trees·lines-refusal lines-refusal-def.routine code.calls-c-trees·lines-refusal (lines-refusal-thm.met 𝓤 H 𝓜 𝓖 𝓡))
     (cited 𝓤 H (Unpack 𝓤 H (𝓖 .A) (𝓜 .mem) (𝓡 .run)) 𝓜 𝓡 code.env #line-rows·unpack unpack-def.routine code.calls-line-rows·unpack (unpack-thm.met 𝓤 H 𝓜 𝓖 𝓡))
-    (cited 𝓤 H (ProcessUnpacked 𝓤 H (𝓖 .A) (𝓜 .mem) (𝓡 .run)) 𝓜 𝓡 code.env #c-converter·process-unpacked process-unpacked-def.routine code.calls-c-converter·process-unpacked (process-unpacked-thm.met 𝓤 H 𝓜 𝓖 𝓡)))
+    (cited 𝓤 H (ProcessUnpacked 𝓤 H (𝓖 .A) (𝓜 .mem) (𝓡 .run)) 𝓜 𝓡 code.env #c-trees·process-unpacked process-unpacked-def.routine code.calls-c-trees·process-unpacked (process-unpacked-thm.met 𝓤 H 𝓜 𝓖 𝓡)))

@@ -3,10 +3,10 @@ use mathlib.Core.Path.{sym}
 use lib.Seq.{length-take-le}
 use Rattle.memory.specs.Memory.{memory}
 use Rattle.c_words.specs.Writing.{left}
-use Rattle.c_converter.proofs.LinesLaws.{unpacked-refused, unpacked-16-64, unpacked-16-32, unpacked-taken, fits64, fits32}
+use Rattle.c_trees.proofs.LinesLaws.{unpacked-refused, unpacked-16-64, unpacked-16-32, unpacked-taken, fits64, fits32}
 use borrow.Author.Needs.{needs}
-use Rattle.c_converter.proofs.process_unpacked.Statement.{statement}
-use Rattle.c_converter.proofs.process_unpacked.Tie as tie
+use Rattle.c_trees.proofs.process_unpacked.Statement.{statement}
+use Rattle.c_trees.proofs.process_unpacked.Tie as tie
 
 returns : tie.Need-returns
 returns c =

@@ -23,7 +23,7 @@ use Rattle.line_rows.proofs.Packed.{unpacked64-is, unpacked32-is, put-long}
 use Rattle.line_rows.proofs.Entry.{number, number-is, room-there}
 use Rattle.c_words.specs.Record.{converterOf, kept}
 use Rattle.c_words.specs.Writing.{Left, left, treeCall, LinesLeft, linesLeft, linesCall}
-use Rattle.c_converter.specs.Unpacked.{unpackedCall}
+use Rattle.c_trees.specs.Unpacked.{unpackedCall}
 
 -- ── `lines_refusal` ──
 

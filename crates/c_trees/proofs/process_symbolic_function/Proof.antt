@@ -1,10 +1,10 @@
 -- `process_symbolic_function` meets its contract.
 use Rattle.rows.specs.Columns.{columns}
 use Rattle.memory.specs.Memory.{memory}
-use Rattle.c_converter.proofs.CallLaws.{tree-law}
+use Rattle.c_trees.proofs.TreeLaws.{tree-law}
 use borrow.Author.Needs.{needs}
-use Rattle.c_converter.proofs.process_symbolic_function.Statement.{statement}
-use Rattle.c_converter.proofs.process_symbolic_function.Tie as tie
+use Rattle.c_trees.proofs.process_symbolic_function.Statement.{statement}
+use Rattle.c_trees.proofs.process_symbolic_function.Tie as tie
 
 returns : tie.Need-returns
 returns c =

@@ -1,4 +1,4 @@
--- The calls that begin and that bring a tree, of what the functions below give.
+-- A new converter, of what the functions below give.
 use Prim.Native.Nat.{ℕ, _<_, _≤_}
 use mathlib.Core.Bool.{Bool}
 use mathlib.Core.Path.{_≡_, ap, _∙_}
@@ -9,14 +9,12 @@ use Rattle.slices.specs.Bytes.{bytesAt}
 use Rattle.slices.specs.Slices.{yes}
 use Rattle.raw.specs.Rows.{headerAt}
 use Rattle.raw.specs.declared.Header.{Header}
-use Rattle.rows.specs.Columns.{Columns}
 use Rattle.memory.specs.Memory.{Memory}
 use Rattle.memory.specs.Record.{beginOf}
 use Rattle.memory.specs.declared.Converter.{Converter}
-use Rattle.writer.specs.Calls.{called, treeOf}
 use Rattle.c_words.specs.Stored.{stored}
-use Rattle.c_words.specs.Record.{converterOf, wordsOf, kept}
-use Rattle.c_words.specs.Writing.{left, leaves, beginCall, treeCall}
+use Rattle.c_words.specs.Record.{wordsOf}
+use Rattle.c_words.specs.Writing.{left, beginCall}
 
 pub id-bytes : (s : List ℕ) (h : Header) → h ≡ headerAt s 0 → h .«debug_id» ≡ bytesAt 32 s 0
 unfolding headerAt
@@ -33,8 +31,3 @@ unfolding beginCall
 begin-law r id arch f s m {i = i} {a = a} {b = b} h ei ea eb e er =
     rw (le-ltb (length r) 20 h)
     (rw er (ap (λ (p : Converter × Memory). left 0 (stored (wordsOf (p .0)) r) (p .1) []) (e ∙ rw (ei, ea, eb))))
-
-pub tree-law : (r : List ℕ) (m : Memory) (s : List ℕ) (k : Columns) (n : ℕ) (c : Converter) (m₁ : Memory) (s₁ : List ℕ) {w : Converter} {r₁ : List ℕ}
-    → w ≡ converterOf r → called n c m₁ s₁ ≡ treeOf w m s k → r₁ ≡ kept n c r → left n r₁ m₁ s₁ ≡ treeCall r m s k
-unfolding treeCall
-tree-law r m s k n c m₁ s₁ ew e er = rw er (ap (leaves r) (e ∙ ap (λ (x : Converter). treeOf x m s k) ew))

@@ -1,2 +1,2 @@
-pub mod CallLaws
+pub mod TreeLaws
 pub mod LinesLaws

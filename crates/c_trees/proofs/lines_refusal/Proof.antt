@@ -1,9 +1,9 @@
 -- `lines_refusal` meets its contract.
 use mathlib.Core.Path.{refl}
-use Rattle.c_converter.proofs.LinesLaws.{decided}
+use Rattle.c_trees.proofs.LinesLaws.{decided}
 use borrow.Author.Needs.{needs}
-use Rattle.c_converter.proofs.lines_refusal.Statement.{statement}
-use Rattle.c_converter.proofs.lines_refusal.Tie as tie
+use Rattle.c_trees.proofs.lines_refusal.Statement.{statement}
+use Rattle.c_trees.proofs.lines_refusal.Tie as tie
 
 returns : tie.Need-returns
 returns c =

@@ -1,8 +1,8 @@
 -- `debug_id_of` meets its contract: a header row begins with its debug id.
-use Rattle.c_converter.proofs.CallLaws.{id-bytes}
+use Rattle.c_begin.proofs.BeginLaws.{id-bytes}
 use borrow.Author.Needs.{needs}
-use Rattle.c_converter.proofs.debug_id_of.Statement.{statement}
-use Rattle.c_converter.proofs.debug_id_of.Tie as tie
+use Rattle.c_begin.proofs.debug_id_of.Statement.{statement}
+use Rattle.c_begin.proofs.debug_id_of.Tie as tie
 
 returns : tie.Need-returns
 returns c = id-bytes (c .before .before .before .args .bytes .now) (c .before .header-at .result) (c .before .header-at .ensures)

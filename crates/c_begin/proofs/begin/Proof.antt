@@ -1,9 +1,9 @@
 -- `begin` meets its contract.
 use Rattle.memory.specs.Memory.{memory}
-use Rattle.c_converter.proofs.CallLaws.{begin-closed, begin-law}
+use Rattle.c_begin.proofs.BeginLaws.{begin-closed, begin-law}
 use borrow.Author.Needs.{needs}
-use Rattle.c_converter.proofs.begin.Statement.{statement}
-use Rattle.c_converter.proofs.begin.Tie as tie
+use Rattle.c_begin.proofs.begin.Statement.{statement}
+use Rattle.c_begin.proofs.begin.Tie as tie
 
 returns : tie.Need-returns
 returns c =
