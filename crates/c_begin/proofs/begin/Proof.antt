@@ -18,7 +18,8 @@ returns-2 c =
     let begun = tables-back .before .before .before .before .before .before .before .before in
     let switched = begun .before .before .before .before .before .before .before in
     let tested = switched .before .before .before in
-    let a = tested .before .before .before .before .before .before .before .before .before .args in
+    let lent = tested .before .before .before .before .before in
+    let a = lent .before .before .before .before .args in
     let w = begun .begin in
     begin-law (a .«record» .now) (a .debug-id .now) (a .arch) (a .undecorate-functions) (a .undecorate-symbols)
     (memory (a .string-bytes .now) (a .strings .now) (a .files .now) (a .functions .now) (a .call-locations .now) (a .ranges .now))

@@ -7,8 +7,9 @@ use Rattle.exports.proofs.writing.symcache_process_symbolic_symbol.Tie 
 
 returns : tie.Need-returns
 returns c =
-    let tables-back = c .before .before .before .before .before .before .before .before in
-    let answered = tables-back .before .before .before .before .before .before .before .before .before in
+    let stored = c .before .before .before .before .before in
+    let tables-back = stored .before .before .before .before .before .before in
+    let answered = tables-back .before .before .before .before .before .before in
     let named = answered .before in
     let loaded = named .before .before .before .before .before .before .before in
     let lent = loaded .before .before .before .before .before .before .before .before in
