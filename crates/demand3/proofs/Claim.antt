@@ -36,7 +36,7 @@ use Rattle.read_back.proofs.Written.{file-shows, file-opened, file-demand}
 use Rattle.writer.specs.Calls.{setup, treeOf, symbolOf}
 use Rattle.memory.specs.Record.{usableIn, usable?, beginOf}
 use Rattle.steps.specs.Symbols.{symbolRow}
-use Rattle.line_list.specs.Lines.{lineColumns}
+use Rattle.line_rows.specs.Lines.{lineColumns}
 use Rattle.demand3.specs.Lists.{Call, tree, lines-tree, symbol, write, givenTree, Standing, next, run, by-value, beginning}
 use Rattle.demand3.specs.Demand3.{Nested, asked, Reopened, file-written, Demand3}
 use Rattle.demand3.proofs.Encoding.{capacities, capacities-lent}

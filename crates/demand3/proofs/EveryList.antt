@@ -34,7 +34,7 @@ use Rattle.writer.specs.Calls.{Called, called, setup, finished, rows-converted,
 use Rattle.slices.specs.Slices.{zeros}
 use Rattle.memory.specs.Record.{usableIn, with-state, words-of, usable?, beginOf, unused}
 use Rattle.steps.specs.Symbols.{symbolRow}
-use Rattle.line_list.specs.Lines.{lineColumns}
+use Rattle.line_rows.specs.Lines.{lineColumns}
 use Rattle.line_rows.specs.Calls.{linesOf}
 use Rattle.line_rows.proofs.AsTree.{scratch-had, kept, lines-tree as lines-tree-is}
 use Rattle.demand3.specs.Lists.{Call, tree, lines-tree, symbol, write, with-accepted, givenTree, Standing, next, run, by-value, beginning, due, Typed}

@@ -20,7 +20,7 @@ use Rattle.memory.specs.declared.Converter.{Converter}
 use Rattle.writer.specs.Calls.{Called, treeOf, symbolOf}
 use Rattle.memory.specs.Record.{beginOf}
 use Rattle.steps.specs.Symbols.{symbolRow}
-use Rattle.line_list.specs.Lines.{lineColumns}
+use Rattle.line_rows.specs.Lines.{lineColumns}
 use Rattle.line_rows.specs.Calls.{linesOf}
 use Rattle.serialize.specs.File.{serializeOf}
 

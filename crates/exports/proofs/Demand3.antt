@@ -12,7 +12,7 @@ use Rattle.memory.specs.Memory.{Memory}
 use Rattle.memory.specs.declared.Converter.{Converter}
 use Rattle.memory.specs.Record.{beginOf}
 use Rattle.writer.specs.Calls.{treeOf, symbolOf}
-use Rattle.line_list.specs.Lines.{lineColumns}
+use Rattle.line_rows.specs.Lines.{lineColumns}
 use Rattle.line_rows.specs.Calls.{linesOf}
 use Rattle.serialize.specs.File.{serializeOf}
 use Rattle.demand3.specs.Lists.{Call, tree, lines-tree, symbol, write, outcome, Standing, none-counted, run, by-value, beginning}

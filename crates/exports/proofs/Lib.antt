@@ -1,5 +1,4 @@
 pub mod WriteLaws
-pub mod LinesLaws
 pub mod Carried
 pub mod Names
 pub mod Worked

@@ -7,7 +7,7 @@ use lib.ListN.{length, take, getD}
 use Rattle.model.specs.Basics.{_∈_}
 use Rattle.model.specs.Rows.{MAX}
 use Rattle.memory.specs.Memory.{Memory}
-use Rattle.line_list.specs.Lines.{lineColumns}
+use Rattle.line_rows.specs.Lines.{lineColumns}
 use Rattle.demand3.specs.Lists.{Call, tree, lines-tree, symbol, write, Outcome, outcome, Standing, none-counted, run, Typed}
 use Rattle.demand3.specs.Demand3.{Reopened}
 use Rattle.slices.specs.Slices.{yes}

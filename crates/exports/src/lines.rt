@@ -1,30 +1,13 @@
 // A tree whose line rows are one lent list of rows.
 ghost use mathlib.Core.Path.{_≡_};
 ghost use Rattle.memory.specs.Memory.{memory};
-ghost use Rattle.line_list.specs.Lines.{lineColumns};
-ghost use Rattle.c_words.specs.Record.{converterOf, kept};
+ghost use Rattle.line_rows.specs.Lines.{lineColumns};
 ghost use Rattle.c_words.specs.Writing.{left, linesLeft, linesCall};
-use c_words::record::load;
-use c_words::record::store_answer;
-use memory::Converter;
+use c_trees::lines_refusal;
+use c_trees::process_unpacked;
+use line_rows::lines_texts;
+use line_rows::unpack;
 use rows::LineRow;
-use writer::calls::Answer;
-
-// The record as a converter; its words stay.
-fn read_record(record: &mut [u32]) -> Converter
-    ensures { λ r. ⌜ (r ≡ converterOf (now («record» .entry))) × (now («record» .exit) ≡ now («record» .entry)) ⌝ }
-{
-    load(record)
-}
-
-// The number of an answer; its record is stored where the call was accepted or closed.
-fn keep_answer(record: &mut [u32], answer: Answer) -> u32
-    ensures { λ r. ⌜ (r ≡ answer .code) × (now («record» .exit) ≡ kept (answer .code) (answer .converter) (now («record» .entry))) ⌝ }
-{
-    let c = answer.converter;
-    store_answer(record, answer.code, c);
-    answer.code
-}
 
 // 0, or 19, 13, 14, 15, 16, 17. The memory that the line rows are unpacked into (three 64-bit words and fourteen 32-bit words a row) counts as scratch.
 #[no_mangle]
@@ -54,9 +37,29 @@ pub extern "C" fn symcache_process_symbolic_function_lines(
         ≡ linesCall (now («record» .entry)) before (now (scratch .entry)) (now (unpacked64 .entry)) (now (unpacked32 .entry)) given
         ) ⌝ }
 {
-    let converter = read_record(&mut *record);
-    let answer = line_rows::process_function_lines(
-        converter,
+    let texts = lines_texts(lines, text);
+    let refused = lines_refusal(
+        &mut *record,
+        string_bytes.len(),
+        strings.len(),
+        files.len(),
+        functions.len(),
+        call_locations.len(),
+        ranges.len(),
+        scratch.len(),
+        unpacked64.len(),
+        unpacked32.len(),
+        functions64,
+        functions32,
+        lines.len(),
+        texts,
+        text,
+    );
+    unpack(refused, lines, &mut *unpacked64, &mut *unpacked32);
+    process_unpacked(
+        refused,
+        lines.len(),
+        record,
         string_bytes,
         strings,
         files,
@@ -68,8 +71,6 @@ pub extern "C" fn symcache_process_symbolic_function_lines(
         unpacked32,
         functions64,
         functions32,
-        lines,
         text,
-    );
-    keep_answer(record, answer)
+    )
 }

@@ -1,25 +1,15 @@
 // The converter and the writer. Between calls the converter is a record of twenty words; the six tables are lent at each call.
 ghost use mathlib.Core.Path.{_≡_};
 ghost use mathlib.Core.List.{[]};
-ghost use Rattle.slices.specs.Bytes.{bytesAt};
 ghost use Rattle.rows.specs.Columns.{columns};
 ghost use Rattle.memory.specs.Memory.{memory};
 ghost use Rattle.c_words.specs.Writing.{left, beginCall, treeCall, nameAt, symbolCall, leftFile, serializeCall};
 use c_words::file::put_len;
 use c_words::record::load;
-use c_words::record::store;
 use c_words::record::store_answer;
 use rows::OptionalPart;
 use rows::TextPart;
 use slices::is_set;
-
-// The first 32 bytes, zeros past the end: a header row begins with its debug id.
-fn debug_id_of(bytes: &[u8]) -> [u8; 32]
-    ensures { λ r. ⌜ r ≡ bytesAt 32 (now (bytes .entry)) 0 ⌝ }
-{
-    let header = raw::header_at(bytes, 0);
-    header.debug_id
-}
 
 // A new converter. 0, or 19 where the record has fewer than twenty words.
 #[no_mangle]
@@ -45,23 +35,19 @@ pub extern "C" fn symcache_begin(
         ≡ beginCall (now («record» .entry)) (now («debug_id» .entry)) arch «undecorate_functions» «undecorate_symbols» before
         ) ⌝ }
 {
-    if record.len() < 20 {
-        return 19;
-    }
-    let c = memory::begin(
-        debug_id_of(debug_id),
+    c_begin::begin(
+        record,
+        debug_id,
         arch,
-        is_set(undecorate_functions),
-        is_set(undecorate_symbols),
+        undecorate_functions,
+        undecorate_symbols,
         string_bytes,
         strings,
         files,
         functions,
         call_locations,
         ranges,
-    );
-    store(record, c);
-    0
+    )
 }
 
 // A tree: 0, or 19, 13, 14, 15, 16, 17.
@@ -91,8 +77,8 @@ pub extern "C" fn symcache_process_symbolic_function(
         left r (now («record» .exit)) after (now (scratch .exit)) ≡ treeCall (now («record» .entry)) before (now (scratch .entry)) given
         ) ⌝ }
 {
-    let answer = writer::calls::process_symbolic_function(
-        load(record),
+    c_trees::process_symbolic_function(
+        record,
         string_bytes,
         strings,
         files,
@@ -105,10 +91,7 @@ pub extern "C" fn symcache_process_symbolic_function(
         lines64,
         lines32,
         text,
-    );
-    let c = answer.converter;
-    store_answer(record, answer.code, c);
-    answer.code
+    )
 }
 
 // A symbol: 0, or 19, 14, 17.

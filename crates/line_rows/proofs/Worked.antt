@@ -8,7 +8,7 @@ use Rattle.model.proofs.Worked.{root-row, inlinee-row}
 use Rattle.rows.specs.Columns.{Columns, columns, functionInColumns, lineInColumns, partOf, lineAt, linesFrom, functionAt, rowsFrom, treeRows}
 use Rattle.rows.specs.declared.LineRow.{LineRow}
 use Rattle.rows.specs.declared.OptionalPart.{OptionalPart}
-use Rattle.line_list.specs.Lines.{packed, lineColumns}
+use Rattle.line_rows.specs.Lines.{packed, lineColumns}
 use Rattle.line_rows.specs.Calls.{unpackRoom?}
 
 -- trk, /b, a.rs, src, pos, p.rs

@@ -1,10 +1,10 @@
 -- A tree call whose line rows are one lent list of rows, for every input: what the call over number slices gives for the columns that the rows stand for.
-use mathlib.Core.Bool.{Bool, true, false, cond, _&&_}
+use mathlib.Core.Bool.{Bool, cond, _&&_}
 use mathlib.Core.List.{List}
-use Prim.Native.Nat.{ℕ, _*_}
+use Prim.Native.Nat.{ℕ}
 use lib.Dec.{eqb, leb}
-use lib.ListN.{length, take}
-use Rattle.rows.specs.Columns.{Columns, columns}
+use lib.ListN.{length}
+use Rattle.rows.specs.Columns.{Columns}
 use Rattle.rows.specs.Refusals.{refusalOf}
 use Rattle.memory.specs.Memory.{Memory}
 use Rattle.memory.specs.declared.Converter.{Converter}
@@ -33,10 +33,3 @@ linesOf c m s u v k =
     cond (usable? c m && eqb (refusalOf k (length s)) 0)
     (cond (unpackRoom? k u v) (leaves (treeOf c m s k) (zeros u) (zeros v)) (leaves (called 16 c m s) u v))
     (leaves (treeOf c m s k) u v)
-
--- ── What the private functions say of each other ──
-
--- the call over the first n rows of the columns that were unpacked, if it isn't refused
-unfoldable pub unpackedOf : ℕ → ℕ → Converter → Memory → List ℕ → List ℕ → List ℕ → List ℕ → List ℕ → List ℕ → LinesCalled
-unpackedOf refused n c m s u v f64 f32 t =
-    cond (eqb refused 0) (leaves (treeOf c m s (columns f64 f32 (take (n * 3) u) (take (n * 14) v) t)) (zeros u) (zeros v)) (leaves (called refused c m s) u v)

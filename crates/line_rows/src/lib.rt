@@ -1,141 +1,119 @@
-// A tree call that takes the line rows as one lent list of rows.
+// A tree call whose line rows are one lent list: their texts, the words that they are unpacked to, and the number that the call is refused with before
+// a word is unpacked. What the whole call leaves is said in specs/Calls.antt.
 ghost use mathlib.Core.Path.{_≡_};
-ghost use Prim.Native.Nat.{_*_, _≤_};
-ghost use lib.ListN.{length};
-ghost use Rattle.memory.specs.Memory.{memory};
-ghost use Rattle.writer.specs.Calls.{called};
-ghost use Rattle.line_list.specs.Lines.{lineColumns};
-ghost use Rattle.line_rows.specs.Calls.{leaves, linesOf, unpackedOf};
-use line_list::is_usable;
-use line_list::lines_texts;
-use line_list::refusal;
-use line_list::unpack;
-use memory::Converter;
+ghost use Rattle.line_rows.specs.Lines.{words64, words32, linesTexts?, putRow, unpackedTo};
+ghost use Rattle.line_rows.specs.Numbers.{numberOf};
+use memory::CLOSED;
 use rows::LineRow;
-use slices::zero;
-use slices::zero64;
-use writer::calls::Answer;
+use rows::SYMCACHE_SCRATCH_TOO_SMALL;
+use rows::line_texts;
+use slices::flag;
 
-// The call over number slices, if it isn't refused; what was unpacked is zeroed.
-fn process_unpacked(
-    refused: u32,
-    lines: usize,
-    converter: Converter,
-    string_bytes: &mut [u8],
-    strings: &mut [u32],
-    files: &mut [u32],
-    functions: &mut [u32],
-    call_locations: &mut [u32],
-    ranges: &mut [u32],
-    scratch: &mut [u32],
-    unpacked64: &mut [u64],
-    unpacked32: &mut [u32],
-    functions64: &[u64],
-    functions32: &[u32],
-    text: &[u8],
-) -> Answer
-    requires { ⌜ (refused ≡ 0 → (lines * 3 ≤ length (now unpacked64)) × (lines * 14 ≤ length (now unpacked32))) ⌝ }
-    ensures { λ r. ⌜ (
-        let before = memory (now («string_bytes» .entry)) (now (strings .entry)) (now (files .entry)) (now (functions .entry))
-        (now («call_locations» .entry)) (now (ranges .entry)) in
-        let after = memory (now («string_bytes» .exit)) (now (strings .exit)) (now (files .exit)) (now (functions .exit))
-        (now («call_locations» .exit)) (now (ranges .exit)) in
-        leaves (called (r .code) (r .converter) after (now (scratch .exit))) (now (unpacked64 .exit)) (now (unpacked32 .exit))
-        ≡ unpackedOf refused lines converter before (now (scratch .entry)) (now (unpacked64 .entry)) (now (unpacked32 .entry))
-        (now (functions64 .entry)) (now (functions32 .entry)) (now (text .entry))
-        ) ⌝ }
+// 14: the texts of all line rows, up to the first row whose texts aren't in order.
+pub fn lines_texts(lines: &[LineRow], text: &[u8]) -> bool
+    ensures { λ r. ⌜ r ≡ linesTexts? (now (text .entry)) (now (lines .entry)) ⌝ }
 {
-    if refused == 0 {
-        let answer = writer::calls::process_symbolic_function(
-            converter,
-            string_bytes,
-            strings,
-            files,
-            functions,
-            call_locations,
-            ranges,
-            scratch,
-            functions64,
-            functions32,
-            &unpacked64[..lines * 3],
-            &unpacked32[..lines * 14],
-            text,
-        );
-        zero64(unpacked64);
-        zero(unpacked32);
-        return answer;
+    let mut j: usize = 0;
+    while j < lines.len() {
+        let row = lines[j];
+        let good = line_texts(text, row);
+        if !good {
+            return false;
+        }
+        j += 1;
     }
-    Answer {
-        code: refused,
-        converter,
+    true
+}
+
+// The three 64-bit words of row j, where there is room.
+fn put_words64(unpacked64: &mut [u64], j: usize, row: LineRow)
+    ensures { λ _. ⌜ now (unpacked64 .exit) ≡ putRow 3 (now (unpacked64 .entry)) j (words64 row) ⌝ }
+{
+    if j < unpacked64.len() / 3 {
+        let k = j * 3;
+        unpacked64[k] = row.address;
+        unpacked64[k + 1] = row.size;
+        unpacked64[k + 2] = row.number;
     }
 }
 
-// A tree: function rows in preorder in columns of numbers, their line rows as one lent list, and one lent text. The line rows are unpacked into
-// memory that is lent for them.
-pub fn process_function_lines(
-    converter: Converter,
-    string_bytes: &mut [u8],
-    strings: &mut [u32],
-    files: &mut [u32],
-    functions: &mut [u32],
-    call_locations: &mut [u32],
-    ranges: &mut [u32],
-    scratch: &mut [u32],
-    unpacked64: &mut [u64],
-    unpacked32: &mut [u32],
+// Its fourteen 32-bit words.
+fn put_words32(unpacked32: &mut [u32], j: usize, row: LineRow)
+    ensures { λ _. ⌜ now (unpacked32 .exit) ≡ putRow 14 (now (unpacked32 .entry)) j (words32 row) ⌝ }
+{
+    if j < unpacked32.len() / 14 {
+        let has_size = flag(row.has_size);
+        let srcsrv_name = flag(row.srcsrv_name.present);
+        let srcsrv_dir = flag(row.srcsrv_dir.present);
+        let revision = flag(row.revision.present);
+        let k = j * 14;
+        unpacked32[k] = has_size;
+        unpacked32[k + 1] = row.name.start;
+        unpacked32[k + 2] = row.name.len;
+        unpacked32[k + 3] = row.directory.start;
+        unpacked32[k + 4] = row.directory.len;
+        unpacked32[k + 5] = srcsrv_name;
+        unpacked32[k + 6] = row.srcsrv_name.part.start;
+        unpacked32[k + 7] = row.srcsrv_name.part.len;
+        unpacked32[k + 8] = srcsrv_dir;
+        unpacked32[k + 9] = row.srcsrv_dir.part.start;
+        unpacked32[k + 10] = row.srcsrv_dir.part.len;
+        unpacked32[k + 11] = revision;
+        unpacked32[k + 12] = row.revision.part.start;
+        unpacked32[k + 13] = row.revision.part.len;
+    }
+}
+
+// Row j into both columns.
+fn put_line(unpacked64: &mut [u64], unpacked32: &mut [u32], j: usize, row: LineRow)
+    ensures { λ _. ⌜ (now (unpacked64 .exit) ≡ putRow 3 (now (unpacked64 .entry)) j (words64 row))
+        × (now (unpacked32 .exit) ≡ putRow 14 (now (unpacked32 .entry)) j (words32 row)) ⌝ }
+{
+    put_words64(unpacked64, j, row);
+    put_words32(unpacked32, j, row);
+}
+
+// All rows into the memory that is lent for them; nothing where the call is refused.
+pub fn unpack(refused: u32, lines: &[LineRow], unpacked64: &mut [u64], unpacked32: &mut [u32])
+    ensures { λ _. ⌜ (now (unpacked64 .exit) ≡ unpackedTo refused 3 words64 (now (lines .entry)) (now (unpacked64 .entry)))
+        × (now (unpacked32 .exit) ≡ unpackedTo refused 14 words32 (now (lines .entry)) (now (unpacked32 .entry))) ⌝ }
+{
+    if refused != 0 {
+        return;
+    }
+    let mut j: usize = 0;
+    while j < lines.len() {
+        let row = lines[j];
+        put_line(&mut *unpacked64, &mut *unpacked32, j, row);
+        j += 1;
+    }
+}
+
+// The number that the call is refused with before a word is unpacked: 19, 13, 14, 15 or 16, in that order; 0 where it isn't.
+pub fn refusal(
+    usable: bool,
+    scratch: usize,
+    unpacked64: usize,
+    unpacked32: usize,
     functions64: &[u64],
     functions32: &[u32],
-    lines: &[LineRow],
+    lines: usize,
+    texts: bool,
     text: &[u8],
-) -> Answer
-    ensures { λ r. ⌜ (
-        let given = lineColumns (now (functions64 .entry)) (now (functions32 .entry)) (now (lines .entry)) (now (text .entry)) in
-        let before = memory (now («string_bytes» .entry)) (now (strings .entry)) (now (files .entry)) (now (functions .entry))
-        (now («call_locations» .entry)) (now (ranges .entry)) in
-        let after = memory (now («string_bytes» .exit)) (now (strings .exit)) (now (files .exit)) (now (functions .exit))
-        (now («call_locations» .exit)) (now (ranges .exit)) in
-        leaves (called (r .code) (r .converter) after (now (scratch .exit))) (now (unpacked64 .exit)) (now (unpacked32 .exit))
-        ≡ linesOf converter before (now (scratch .entry)) (now (unpacked64 .entry)) (now (unpacked32 .entry)) given
-        ) ⌝ }
+) -> u32
+    ensures { λ r. ⌜ r ≡ numberOf usable scratch unpacked64 unpacked32 (now (functions64 .entry)) (now (functions32 .entry)) lines texts (now (text .entry)) ⌝ }
 {
-    let texts = lines_texts(lines, text);
-    let usable = is_usable(
-        converter,
-        string_bytes.len(),
-        strings.len(),
-        files.len(),
-        functions.len(),
-        call_locations.len(),
-        ranges.len(),
-    );
-    let refused = refusal(
-        usable,
-        scratch.len(),
-        unpacked64.len(),
-        unpacked32.len(),
-        functions64,
-        functions32,
-        lines.len(),
-        texts,
-        text,
-    );
-    unpack(refused, lines, &mut *unpacked64, &mut *unpacked32);
-    process_unpacked(
-        refused,
-        lines.len(),
-        converter,
-        string_bytes,
-        strings,
-        files,
-        functions,
-        call_locations,
-        ranges,
-        scratch,
-        unpacked64,
-        unpacked32,
-        functions64,
-        functions32,
-        text,
-    )
+    if usable {
+        let refused = rows::refusal_with(functions64, functions32, lines, texts, text, scratch);
+        if refused == 0 {
+            if lines <= unpacked64 / 3 {
+                if lines <= unpacked32 / 14 {
+                    return 0;
+                }
+            }
+            return SYMCACHE_SCRATCH_TOO_SMALL;
+        }
+        return refused;
+    }
+    CLOSED
 }

@@ -6,10 +6,19 @@ use Rattle.exports.proofs.writing.symcache_process_symbolic_symbol.Stat
 use Rattle.exports.proofs.writing.symcache_process_symbolic_symbol.Tie as tie
 
 returns : tie.Need-returns
-returns c = let a = c .before .before .before .before .before .before .before .before .before .before .before .before .before .before .before .before .before .before .before .before .before .before .before .before .before .before .before .before .before .before .before .before .before .before .before .args in
-    let w = c .before .before .before .before .before .before .before .before .before .before .before .before .before .before .before .before .before .process-symbolic-symbol in
-    symbol-law (a .«record» .now) (memory (a .string-bytes .now) (a .strings .now) (a .files .now) (a .functions .now) (a .call-locations .now) (a .ranges .now)) (a .text .now) (a .address) (a .size) (a .named) (a .name-start) (a .name-len)
-    (w .result .code) (w .result .converter) (memory (w .last .1 .0) (w .last .1 .1 .0) (w .last .1 .1 .1 .0) (w .last .1 .1 .1 .1 .0) (w .last .1 .1 .1 .1 .1 .0) (w .last .1 .1 .1 .1 .1 .1 .0)) (c .before .before .before .before .before .before .before .before .before .before .before .before .before .before .before .before .before .before .before .before .before .before .before .before .before .load .ensures) (c .before .before .before .before .before .before .before .before .before .before .before .before .before .before .before .before .before .before .is-set .ensures) (w .ensures) (c .before .before .store-answer .ensures)
+returns c =
+    let stored = c .before .before .before .before .before in
+    let tables-back = stored .before .before .before .before .before .before in
+    let answered = tables-back .before .before .before .before .before .before in
+    let named = answered .before in
+    let loaded = named .before .before .before .before .before .before .before in
+    let lent = loaded .before .before .before .before .before .before .before .before in
+    let a = lent .before .before .args in
+    let w = answered .process-symbolic-symbol in
+    symbol-law (a .«record» .now) (memory (a .string-bytes .now) (a .strings .now) (a .files .now) (a .functions .now) (a .call-locations .now) (a .ranges .now)) (a .text .now) (a .address) (a .size)
+    (a .named) (a .name-start) (a .name-len) (w .result .code) (w .result .converter)
+    (memory (w .last .1 .0) (w .last .1 .1 .0) (w .last .1 .1 .1 .0) (w .last .1 .1 .1 .1 .0) (w .last .1 .1 .1 .1 .1 .0) (w .last .1 .1 .1 .1 .1 .1 .0))
+    (loaded .load .ensures) (named .is-set .ensures) (w .ensures) (c .before .before .store-answer .ensures)
 
 pub symcache-process-symbolic-symbol-spec : {M : Type 1} → statement M
 symcache-process-symbolic-symbol-spec =

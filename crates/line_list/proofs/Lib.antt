@@ -1,4 +1,0 @@
-pub mod Words
-pub mod Turns
-pub mod Again
-pub mod Numbers
