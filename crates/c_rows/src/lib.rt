@@ -112,7 +112,7 @@ fn index_of(cursor: &[u32]) -> u32
     ensures { λ r. ⌜ r ≡ indexOf (now (cursor .entry)) ⌝ }
 {
     if cursor.len() == 0 {
-        return 4294967295;
+        return u32::MAX;
     }
     word(cursor, 0)
 }
