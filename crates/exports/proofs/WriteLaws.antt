@@ -15,7 +15,7 @@ use Rattle.memory.specs.declared.Converter.{Converter}
 use Rattle.writer.specs.Calls.{called, treeOf, symbolOf}
 use Rattle.memory.specs.Record.{beginOf}
 use Rattle.serialize.specs.File.{Wrote, wrote, serializeOf}
-use Rattle.c_words.specs.Stored.{stored}
+use Rattle.c_reading.specs.Stored.{stored}
 use Rattle.slices.specs.Slices.{yes}
 use Rattle.c_words.specs.Record.{converterOf, wordsOf, kept, lenWords}
 use Rattle.c_words.specs.Writing.{left, leaves, beginCall, treeCall, nameAt, symbolCall, leftFile, serializeCall}

@@ -165,18 +165,18 @@ header-made h {r₄ = r₄} s at d z e₁ e₂ e₃ e₄ e =
     let v = le 2 (h .«variable_header») in
     let n : length zeros ≡ 72 = length-replicate {A = ℕ} 72 0 in
     let made : r₄ ≡ sets zeros 0 (i ++ (w ++ (v ++ h .reserved))) =
-      rw (
-        e₄,
-        e₃,
-        e₂,
-        e₁,
-        sets-join v (h .reserved) (sets (sets zeros 0 i) 32 w) 56 58 (omega (arith, length-le 2 (h .«variable_header»))),
-        sets-join w (v ++ h .reserved) (sets zeros 0 i) 32 56 (omega (arith, length-words (headerWords h))),
-        sets-join i (w ++ (v ++ h .reserved)) zeros 0 32 (omega (arith, d)),
-      )
+    rw (
+      e₄,
+      e₃,
+      e₂,
+      e₁,
+      sets-join v (h .reserved) (sets (sets zeros 0 i) 32 w) 56 58 (omega (arith, length-le 2 (h .«variable_header»))),
+      sets-join w (v ++ h .reserved) (sets zeros 0 i) 32 56 (omega (arith, length-words (headerWords h))),
+      sets-join i (w ++ (v ++ h .reserved)) zeros 0 32 (omega (arith, d)),
+    )
     in
     let all : take 72 (sets zeros 0 (headerBytes h)) ≡ sets zeros 0 (headerBytes h) =
-      take-all 72 (sets zeros 0 (headerBytes h)) (omega (arith, length-sets zeros 0 (headerBytes h)))
+    take-all 72 (sets zeros 0 (headerBytes h)) (omega (arith, length-sets zeros 0 (headerBytes h)))
     in
     e ∙ ap (λ (t : List ℕ). sets s at t) (made ∙ (sym all ∙ take-sets (headerBytes h) zeros 72 (length-header h d z) (omega arith)))
 

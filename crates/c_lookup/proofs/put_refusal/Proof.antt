@@ -10,8 +10,8 @@ use Rattle.symcache.specs.Answers.{refusalOf}
 use Rattle.symcache.specs.declared.ErrorKind.{ErrorKind}
 use Rattle.symcache.specs.declared.ErrorKind.the-variants as kind
 use Rattle.symcache.proofs.ErrorKind.{the-type}
-use Rattle.c_words.specs.Reading.{filled, refused}
-use Rattle.c_words.proofs.ReadLaws.{refused-else, refused-ten}
+use Rattle.c_reading.specs.Reading.{filled, refused}
+use Rattle.c_reading.proofs.ReadLaws.{refused-else, refused-ten}
 use borrow.Author.Needs.{needs}
 use Rattle.c_lookup.proofs.put_refusal.Statement.{statement}
 use Rattle.c_lookup.proofs.put_refusal.Tie as tie

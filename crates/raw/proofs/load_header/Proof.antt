@@ -23,8 +23,8 @@ returns c =
     let id = reserved .before in
     let a = id .before .before .args in
     loaded (a .s .now) (a .at) _ (id .load-debug-id .ensures) (reserved .load-reserved .ensures)
-      (counts .load-u32 .ensures) (c .before .before .before .before .before .load-u322 .ensures) (c .before .before .before .before .load-u323 .ensures)
-      (c .before .before .before .load-u324 .ensures) (c .before .before .load-u325 .ensures) (c .before .load-u326 .ensures) (c .load-u16 .ensures)
+    (counts .load-u32 .ensures) (c .before .before .before .before .before .load-u322 .ensures) (c .before .before .before .before .load-u323 .ensures)
+    (c .before .before .before .load-u324 .ensures) (c .before .before .load-u325 .ensures) (c .before .load-u326 .ensures) (c .load-u16 .ensures)
 
 pub load-header-spec : {M : Type 1} → statement M
 load-header-spec =

@@ -17,8 +17,8 @@ use Rattle.symcache.specs.declared.lookup.FrameFile.the-variants as frame-file
 use Rattle.symcache.specs.Answers.{Answer, gives, refuses, Refusal, andThen, Framed, NextFunction, NextFile}
 use Rattle.symcache.specs.Reader.{parsed, opened}
 use Rattle.symcache.specs.Lookup.{foundAt, walkFrom, walkAt, lookedUp, stepped, gotFile, gotFunction, functionsNext, filesNext}
-use Rattle.symcache.specs.Strings.{Part, gotString}
-use Rattle.c_words.specs.Stored.{stored}
+use Rattle.file_texts.specs.Strings.{Part, gotString}
+use Rattle.c_reading.specs.Stored.{stored}
 
 -- ── What a call leaves ─────────────────────────────────────────────────────────────────────────────────────────────────
 

@@ -1,4 +1,4 @@
-// Rows of a file as words.
+// Rows of a file as words. The definitions of the C calls of the reader stand in specs/: Reading.
 ghost use mathlib.Core.Path.{_≡_};
 ghost use lib.Seq.{sets};
 ghost use Rattle.raw.specs.Rows.{fileWords, functionWords};

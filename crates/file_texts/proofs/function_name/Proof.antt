@@ -2,14 +2,14 @@
 use native.Mathlib.Omega.{arith}
 use mathlib.Core.Path.{_≡_, ap, sym, _∙_}
 use lib.ListN.{length}
 use Rattle.symcache.specs.declared.SymCache.{SymCache}
 use Rattle.symcache.specs.Answers.{gives, parseAnswer}
 use Rattle.symcache.specs.Reader.{parsed, Within}
 use Rattle.symcache.proofs.ReaderLaws.{parsed-within}
-use Rattle.symcache.proofs.StringLaws.{name-refused, name-given, name-missing}
+use Rattle.file_texts.proofs.StringLaws.{name-refused, name-given, name-missing}
 use borrow.Author.Needs.{needs}
-use Rattle.symcache.proofs.strings.function_name.Statement.{statement}
-use Rattle.symcache.proofs.strings.function_name.Tie as tie
+use Rattle.file_texts.proofs.function_name.Statement.{statement}
+use Rattle.file_texts.proofs.function_name.Tie as tie
 
 returns : tie.Need-returns
 returns c = name-refused (c .before .before .before .before .before .args .s .now) _ (sym (c .before .before .parse .ensures) ∙ ap parseAnswer (c .enum-told .given .1)) (c .before .before .before .before .before .args .stand-in .now) (c .before .before .before .before .before .args .function-idx)

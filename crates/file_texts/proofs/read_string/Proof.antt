@@ -2,14 +2,14 @@
 use native.Mathlib.Omega.{arith}
 use mathlib.Core.Path.{_≡_, ap, sym, _∙_}
 use lib.ListN.{length}
 use Rattle.symcache.specs.declared.SymCache.{SymCache}
 use Rattle.symcache.specs.Answers.{gives, parseAnswer}
 use Rattle.symcache.specs.Reader.{parsed, Within}
 use Rattle.symcache.proofs.ReaderLaws.{parsed-within}
-use Rattle.symcache.proofs.StringLaws.{string-inside, string-there, string-absent, string-refused}
+use Rattle.file_texts.proofs.StringLaws.{string-inside, string-there, string-absent, string-refused}
 use borrow.Author.Needs.{needs}
-use Rattle.symcache.proofs.strings.read_string.Statement.{statement}
-use Rattle.symcache.proofs.strings.read_string.Tie as tie
+use Rattle.file_texts.proofs.read_string.Statement.{statement}
+use Rattle.file_texts.proofs.read_string.Tie as tie
 
 -- where the file was read
 abbrev start : tie.After-parsed → tie.Start

@@ -6,12 +6,12 @@ use lib.ListN.{take, drop}
 use Rattle.text.specs.declared.strings.Text.{Text}
 use Rattle.text.specs.declared.strings.Text.the-variants as text
 use Rattle.text.specs.Texts.{read-text, text-part}
 use Rattle.symcache.specs.declared.SymCache.{SymCache}
-use Rattle.symcache.specs.declared.strings.GotString.{GotString}
-use Rattle.symcache.specs.declared.strings.GotString.the-variants as got
+use Rattle.file_texts.specs.declared.GotString.{GotString}
+use Rattle.file_texts.specs.declared.GotString.the-variants as got
 use Rattle.symcache.specs.Answers.{refusalOf, Answer, gives, refuses, andThen}
 use Rattle.symcache.specs.Reader.{parsed}
 use Rattle.symcache.specs.Lookup.{functionIn}
 
 -- the string section
 unfoldable pub sectionOf : List ℕ → SymCache → List ℕ

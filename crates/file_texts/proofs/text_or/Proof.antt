@@ -2,10 +2,10 @@
 use native.Mathlib.Omega.{arith}
 use mathlib.Core.Path.{sym, _∙_}
 use Rattle.text.proofs.TextLaws.{text-within}
-use Rattle.symcache.proofs.StringLaws.{text-or-absent, text-or-there}
+use Rattle.file_texts.proofs.StringLaws.{text-or-absent, text-or-there}
 use borrow.Author.Needs.{needs}
-use Rattle.symcache.proofs.strings.text_or.Statement.{statement}
-use Rattle.symcache.proofs.strings.text_or.Tie as tie
+use Rattle.file_texts.proofs.text_or.Statement.{statement}
+use Rattle.file_texts.proofs.text_or.Tie as tie
 
 returns : tie.Need-returns
 returns c = text-or-absent (c .before .before .before .before .before .args .stand-in .now) (c .before .before .before .before .before .args .section .now) _ (sym (c .before .before .read-text .ensures) ∙ c .enum-told .given .1)

@@ -17,9 +17,9 @@ use Rattle.symcache.specs.declared.lookup.FrameFile.{FrameFile}
 use Rattle.symcache.specs.declared.lookup.FrameFile.the-variants as frame-file
 use Rattle.symcache.specs.Answers.{Answer, gives, refuses, Refusal, andThen}
 use Rattle.symcache.specs.Lookup.{walkFrom, walkAt, gotFunction}
-use Rattle.symcache.specs.Strings.{Part, gotString}
-use Rattle.c_words.specs.Stored.{stored}
-use Rattle.c_words.specs.Reading.{Filled, filled, moved, answered, stepsTo, cacheWords, countAt, cacheOf, refused, cached, walkWords, walkOf, walkCall, headWords, withFile, nameAfter, gotName, indexOf}
+use Rattle.file_texts.specs.Strings.{Part, gotString}
+use Rattle.c_reading.specs.Stored.{stored}
+use Rattle.c_reading.specs.Reading.{Filled, filled, moved, answered, stepsTo, cacheWords, countAt, cacheOf, refused, cached, walkWords, walkOf, walkCall, headWords, withFile, nameAfter, gotName, indexOf}
 
 -- ── One slice ──────────────────────────────────────────────────────────────────────────────────────────────────────────
 

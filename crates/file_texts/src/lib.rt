@@ -1,9 +1,9 @@
 // Texts of a file: `get_string` of v9/mod.rs, and the names of functions.
 ghost use mathlib.Core.Path.{_≡_};
 ghost use Rattle.text.specs.Texts.{read-text};
-ghost use Rattle.symcache.specs.Strings.{stringAnswer, gotString, stringOf, textOr, nameOf};
-use super::ErrorKind;
-use super::Parsed;
+ghost use Rattle.file_texts.specs.Strings.{stringAnswer, gotString, stringOf, textOr, nameOf};
+use symcache::ErrorKind;
+use symcache::Parsed;
 use text::strings::Text;
 
 // Where a text lies in the file.
@@ -17,7 +17,7 @@ pub enum GotString {
 pub fn read_string(s: &[u8], offset: u32) -> GotString
     ensures { λ r. ⌜ stringAnswer r ≡ gotString (now (s .entry)) offset ⌝ }
 {
-    let parsed = super::parse(s);
+    let parsed = symcache::parse(s);
     match parsed {
         Parsed::Cache(c) => {
             let from = c.strings;
@@ -39,7 +39,7 @@ pub fn read_string(s: &[u8], offset: u32) -> GotString
 pub fn get_string<'a>(s: &'a [u8], offset: u32) -> &'a [u8]
     ensures { λ r. ⌜ now r ≡ stringOf (now (s .entry)) offset ⌝ }
 {
-    let Parsed::Cache(c) = super::parse(s) else {
+    let Parsed::Cache(c) = symcache::parse(s) else {
         return &s[0..0];
     };
     let from = c.strings;
@@ -62,7 +62,7 @@ fn text_or<'a>(section: &'a [u8], stand_in: &'a [u8], offset: u32) -> &'a [u8]
 pub fn function_name<'a>(s: &'a [u8], stand_in: &'a [u8], function_idx: u32) -> &'a [u8]
     ensures { λ r. ⌜ now r ≡ nameOf (now (s .entry)) (now («stand_in» .entry)) «function_idx» ⌝ }
 {
-    let Parsed::Cache(c) = super::parse(s) else {
+    let Parsed::Cache(c) = symcache::parse(s) else {
         return stand_in;
     };
     if function_idx < c.num_functions {

@@ -12,12 +12,12 @@ use Rattle.text.specs.declared.strings.Text.{Text}
 use Rattle.text.specs.declared.strings.Text.the-variants.{Absent, At}
 use Rattle.text.specs.Texts.{read-text, text-part}
 use Rattle.text.proofs.TextLaws.{text-within}
 use Rattle.symcache.specs.declared.SymCache.{SymCache}
 use Rattle.symcache.specs.Answers.{Refusal, gives, refuses, andThen}
 use Rattle.symcache.specs.Reader.{parsed}
 use Rattle.symcache.specs.Lookup.{functionIn}
-use Rattle.symcache.specs.Strings.{sectionOf, placed, gotString, orElse, stringOf, textOr, nameIn, nameOf}
+use Rattle.file_texts.specs.Strings.{sectionOf, placed, gotString, orElse, stringOf, textOr, nameIn, nameOf}
 use Rattle.symcache.proofs.ReaderLaws.{parsed-within}
 
 -- the section as the code lends it
 abbrev lent : List ℕ → SymCache → List ℕ

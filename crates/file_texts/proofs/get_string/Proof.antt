@@ -1,12 +1,12 @@
 -- `get_string` meets its contract.
 use native.Mathlib.Omega.{arith}
 use mathlib.Core.Path.{ap, sym, _∙_}
 use Rattle.symcache.specs.Answers.{parseAnswer}
 use Rattle.symcache.proofs.ReaderLaws.{parsed-within}
-use Rattle.symcache.proofs.StringLaws.{bytes-refused, bytes-given}
+use Rattle.file_texts.proofs.StringLaws.{bytes-refused, bytes-given}
 use borrow.Author.Needs.{needs}
-use Rattle.symcache.proofs.strings.get_string.Statement.{statement}
-use Rattle.symcache.proofs.strings.get_string.Tie as tie
+use Rattle.file_texts.proofs.get_string.Statement.{statement}
+use Rattle.file_texts.proofs.get_string.Tie as tie
 
 returns : tie.Need-returns
 returns c = bytes-refused (c .before .before .before .before .before .args .s .now) _ (sym (c .before .before .before .parse .ensures) ∙ ap parseAnswer (c .before .enum-told .given .1)) (c .before .before .before .before .before .args .offset)
