@@ -12,7 +12,7 @@ use Rattle.raw.specs.declared.Header.{Header}
 use Rattle.memory.specs.Memory.{Memory}
 use Rattle.memory.specs.Record.{beginOf}
 use Rattle.memory.specs.declared.Converter.{Converter}
-use Rattle.c_words.specs.Stored.{stored}
+use Rattle.c_reading.specs.Stored.{stored}
 use Rattle.c_words.specs.Record.{wordsOf}
 use Rattle.c_words.specs.Writing.{left, beginCall}
 

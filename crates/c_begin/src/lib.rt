@@ -6,7 +6,7 @@ ghost use Rattle.slices.specs.Bytes.{bytesAt};
 ghost use Rattle.memory.specs.Memory.{memory};
 ghost use Rattle.c_words.specs.Writing.{left, beginCall};
 use c_words::record::store;
-use memory::CLOSED;
+use memory::SYMCACHE_CLOSED;
 use slices::is_set;
 
 // The first 32 bytes, zeros past the end: a header row begins with its debug id.
@@ -41,7 +41,7 @@ pub fn begin(
         ) ⌝ }
 {
     if record.len() < 20 {
-        return CLOSED;
+        return SYMCACHE_CLOSED;
     }
     let c = memory::begin(
         debug_id_of(debug_id),

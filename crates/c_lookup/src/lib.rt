@@ -6,10 +6,10 @@ ghost use mathlib.Core.List.{[], _∷_};
 ghost use lib.ListN.{getD};
 ghost use lib.Seq.{sets};
 ghost use Rattle.symcache.specs.Answers.{refusalOf, parseAnswer, lookupAnswer, stepAnswer};
-ghost use Rattle.c_words.specs.Stored.{stored};
-ghost use Rattle.c_words.specs.Reading.{filled, moved, answered, stepsTo, cacheWords, countAt, cacheOf, refused, cached, parseCall, openCall};
-ghost use Rattle.c_words.specs.Reading.{findCall, walkWords, walkOf, walkCall, lookupCall, headWords, frameWords, framedWords, framedNext, nextCall};
-use c_words::file_rows::put_file;
+ghost use Rattle.c_reading.specs.Stored.{stored};
+ghost use Rattle.c_reading.specs.Reading.{filled, moved, answered, stepsTo, cacheWords, countAt, cacheOf, refused, cached, parseCall, openCall};
+ghost use Rattle.c_reading.specs.Reading.{findCall, walkWords, walkOf, walkCall, lookupCall, headWords, frameWords, framedWords, framedNext, nextCall};
+use c_reading::put_file;
 use slices::put;
 use slices::put64;
 use slices::word;
@@ -44,55 +44,18 @@ fn put_cache(cache: &mut [u64], c: SymCache)
     put_table(cache, 8, c.strings, c.string_bytes);
 }
 
-// The expected and the found count of number 10; for the other numbers they are 0.
-struct Counts {
-    expected: u64,
-    found: u64,
-}
-
-fn no_counts() -> Counts
-    ensures { λ r. ⌜ (r .expected ≡ 0) × (r .found ≡ 0) ⌝ }
-{
-    Counts {
-        expected: 0,
-        found: 0,
-    }
-}
-
-fn counts_of(kind: ErrorKind) -> Counts
-    ensures { λ r. ⌜ (r .expected ≡ refusalOf kind .expected) × (r .found ≡ refusalOf kind .found) ⌝ }
-{
-    match kind {
-        ErrorKind::TooShort => no_counts(),
-        ErrorKind::WrongEndianness => no_counts(),
-        ErrorKind::WrongFormat => no_counts(),
-        ErrorKind::WrongVersion => no_counts(),
-        ErrorKind::InvalidHeader => no_counts(),
-        ErrorKind::InvalidFiles => no_counts(),
-        ErrorKind::InvalidFunctions => no_counts(),
-        ErrorKind::InvalidSourceLocations => no_counts(),
-        ErrorKind::InvalidRanges => no_counts(),
-        ErrorKind::UnexpectedStringBytes { expected, found } => Counts {
-            expected: expected as u64,
-            found: found as u64,
-        },
-        ErrorKind::InvalidVariableHeader => no_counts(),
-        ErrorKind::UnorderedRanges => no_counts(),
-    }
-}
-
-// The number of a refusal; 10 stores its counts.
+// The number of a refusal; 10 stores its expected and its found count.
 fn put_refusal(cache: &mut [u64], kind: ErrorKind) -> u32
     ensures { λ r. ⌜ filled r (now (cache .exit)) ≡ refused (refusalOf kind) (now (cache .entry)) ⌝ }
 {
-    let number = kind.number();
-    if number != 10 {
-        return number;
+    match kind {
+        ErrorKind::UnexpectedStringBytes { expected, found } => {
+            put64(cache, 0, expected as u64);
+            put64(cache, 1, found as u64);
+            10
+        }
+        _ => kind.number(),
     }
-    let counts = counts_of(kind);
-    put64(cache, 0, counts.expected);
-    put64(cache, 1, counts.found);
-    number
 }
 
 fn put_parsed(cache: &mut [u64], parsed: Parsed) -> u32
@@ -173,8 +136,8 @@ fn walk_of(cursor: &[u32]) -> SourceLocations
 {
     if cursor.len() < 3 {
         return SourceLocations {
-            first: 4294967295,
-            current: 4294967295,
+            first: u32::MAX,
+            current: u32::MAX,
             steps: 0,
         };
     }

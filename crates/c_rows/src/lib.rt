@@ -1,12 +1,12 @@
 // Texts, names, rows and the two iterators of the reader over words. The exported functions of these names pass on what these answer.
 ghost use mathlib.Core.Path.{_≡_};
 ghost use Rattle.symcache.specs.Answers.{fileAnswer, functionAnswer, functionsAnswer, filesAnswer};
-ghost use Rattle.symcache.specs.Strings.{stringAnswer};
-ghost use Rattle.c_words.specs.Reading.{filled, moved, answered, stepsTo, partWords, stringCall, gotName, nameCall, functionRow, fileRow};
-ghost use Rattle.c_words.specs.Reading.{functionCall, fileCall, indexOf, nextFunctionWords, functionNext, functionsCall, nextFileWords, fileNext};
-ghost use Rattle.c_words.specs.Reading.{filesCall};
-use c_words::file_rows::put_file;
-use c_words::file_rows::put_function;
+ghost use Rattle.file_texts.specs.Strings.{stringAnswer};
+ghost use Rattle.c_reading.specs.Reading.{filled, moved, answered, stepsTo, partWords, stringCall, gotName, nameCall, functionRow, fileRow};
+ghost use Rattle.c_reading.specs.Reading.{functionCall, fileCall, indexOf, nextFunctionWords, functionNext, functionsCall, nextFileWords, fileNext};
+ghost use Rattle.c_reading.specs.Reading.{filesCall};
+use c_reading::put_file;
+use c_reading::put_function;
 use slices::put;
 use slices::put64;
 use slices::word;
@@ -16,7 +16,7 @@ use symcache::lookup::FunctionStep;
 use symcache::lookup::Functions;
 use symcache::lookup::GotFile;
 use symcache::lookup::GotFunction;
-use symcache::strings::GotString;
+use file_texts::GotString;
 
 fn put_string(part: &mut [u64], string: GotString) -> u32
     ensures { λ r. ⌜ filled r (now (part .exit)) ≡ answered partWords (stringAnswer string) (now (part .entry)) ⌝ }
@@ -40,7 +40,7 @@ fn put_string(part: &mut [u64], string: GotString) -> u32
 pub fn read_string(bytes: &[u8], offset: u32, part: &mut [u64]) -> u32
     ensures { λ r. ⌜ filled r (now (part .exit)) ≡ stringCall (now (bytes .entry)) offset (now (part .entry)) ⌝ }
 {
-    put_string(part, symcache::strings::read_string(bytes, offset))
+    put_string(part, file_texts::read_string(bytes, offset))
 }
 
 fn name_of(bytes: &[u8], function_idx: u32) -> GotString
@@ -48,7 +48,7 @@ fn name_of(bytes: &[u8], function_idx: u32) -> GotString
 {
     let function = symcache::lookup::get_function(bytes, function_idx);
     match function {
-        GotFunction::Function(f) => symcache::strings::read_string(bytes, f.name_offset),
+        GotFunction::Function(f) => file_texts::read_string(bytes, f.name_offset),
         GotFunction::Nothing => GotString::Absent,
         GotFunction::Refused(kind) => GotString::Refused(kind),
     }
@@ -112,7 +112,7 @@ fn index_of(cursor: &[u32]) -> u32
     ensures { λ r. ⌜ r ≡ indexOf (now (cursor .entry)) ⌝ }
 {
     if cursor.len() == 0 {
-        return 4294967295;
+        return u32::MAX;
     }
     word(cursor, 0)
 }

@@ -1,3 +1,1 @@
-pub mod StoreLaws
 pub mod RecordLaws
-pub mod ReadLaws

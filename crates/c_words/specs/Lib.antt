@@ -1,4 +1,2 @@
-pub mod Stored
 pub mod Record
-pub mod Reading
 pub mod Writing

@@ -14,7 +14,7 @@ use Rattle.writer.specs.Calls.{Called, treeOf, symbolOf}
 use Rattle.memory.specs.Record.{beginOf}
 use Rattle.line_rows.specs.Calls.{LinesCalled, linesOf}
 use Rattle.serialize.specs.File.{serializeOf}
-use Rattle.c_words.specs.Stored.{stored}
+use Rattle.c_reading.specs.Stored.{stored}
 use Rattle.slices.specs.Slices.{yes}
 use Rattle.c_words.specs.Record.{converterOf, wordsOf, kept, lenWords}
 

@@ -1,4 +1,3 @@
-// Words at the C boundary: the converter's record, rows of a file and its length. The definitions of all C calls stand in specs/: Reading, Writing.
+// Words at the C boundary: the record of the converter and the length of a file. The definitions of its C calls stand in specs/: Record, Writing.
 pub mod file;
-pub mod file_rows;
 pub mod record;

@@ -5,7 +5,7 @@ ghost use Prim.Native.Nat.{_*_};
 ghost use lib.ListN.{getD, set};
 ghost use lib.Seq.{sets};
 ghost use Rattle.slices.specs.Bytes.{le, leAt};
-ghost use Rattle.c_words.specs.Stored.{stored};
+ghost use Rattle.c_reading.specs.Stored.{stored};
 ghost use Rattle.c_words.specs.Record.{lastOf, idOf, stateOf, converterOf, lastWords, idWords, countWords, switchWords, wordsOf, kept};
 use memory::Converter;
 use memory::LastAddr;

@@ -29,8 +29,8 @@ use Rattle.writer.specs.Calls.{Called, called, setup, finished, rows-converted,
 use Rattle.memory.specs.Record.{words-of, usable?, beginOf}
 use Rattle.steps.specs.Symbols.{symbolRow}
 use Rattle.line_rows.specs.Calls.{LinesCalled, unpackRoom?, linesOf}
-use Rattle.c_words.proofs.StoreLaws.{sets-at}
-use Rattle.c_words.specs.Stored.{stored}
+use Rattle.c_reading.proofs.StoreLaws.{sets-at}
+use Rattle.c_reading.specs.Stored.{stored}
 use Rattle.slices.specs.Slices.{yes, flagOf}
 use Rattle.c_words.specs.Record.{lastOf, idOf, stateOf, converterOf, lastWords, idWords, countWords, switchWords, wordsOf, Bytes, IdFits}
 use Rattle.c_words.specs.Writing.{leaves, beginCall, treeCall, linesCall, symbolCall}

@@ -22,12 +22,12 @@ use Rattle.symcache.specs.Lookup.{foundAt, walkAt, lookedUp, stepped}
 use Rattle.symcache.proofs.ReaderLaws.{parsed-within}
 use Rattle.read_back.specs.Shown.{Shown, ends, goes}
 use Rattle.read_back.specs.Shown.{Walked, Found}
-use Rattle.c_words.specs.Stored.{stored}
+use Rattle.c_reading.specs.Stored.{stored}
 use Rattle.c_words.specs.Record.{Bytes}
-use Rattle.c_words.specs.Reading.{filled, answered, stepsTo, cacheWords, cacheOf, cached, openCall, findCall, walkWords, walkOf, walkCall, lookupCall, frameWords, nextCall, indexOf}
+use Rattle.c_reading.specs.Reading.{filled, answered, stepsTo, cacheWords, cacheOf, cached, openCall, findCall, walkWords, walkOf, walkCall, lookupCall, frameWords, nextCall, indexOf}
 use Rattle.exports.specs.Walks.{WalkedByCalls, FoundByCalls}
 use Rattle.exports.specs.Walks as words
-use Rattle.c_words.proofs.StoreLaws.{sets-at}
+use Rattle.c_reading.proofs.StoreLaws.{sets-at}
 use Rattle.exports.proofs.Carried.{byte-below}
 
 -- ── Cursors ────────────────────────────────────────────────────────────────────────────────────────────────────────────

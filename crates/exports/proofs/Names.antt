@@ -16,9 +16,9 @@ use Rattle.symcache.specs.declared.SymCache.{SymCache}
 use Rattle.symcache.specs.Answers.{Answer, gives, refuses, Refusal, refuseIf, andThen}
 use Rattle.symcache.specs.Reader.{tested, parsed}
 use Rattle.symcache.specs.Lookup.{functionIn, gotFunction}
-use Rattle.symcache.specs.Strings.{Part, sectionOf, placed, gotString, orElse, textOr, nameIn, nameOf}
-use Rattle.c_words.specs.Reading.{answered, partWords, nameAfter, gotName, nameCall, nameBytes}
-use Rattle.c_words.proofs.StoreLaws.{sets-at}
+use Rattle.file_texts.specs.Strings.{Part, sectionOf, placed, gotString, orElse, textOr, nameIn, nameOf}
+use Rattle.c_reading.specs.Reading.{answered, partWords, nameAfter, gotName, nameCall, nameBytes}
+use Rattle.c_reading.proofs.StoreLaws.{sets-at}
 
 -- ── No refusal has number 0 ────────────────────────────────────────────────────────────────────────────────────────────
 

@@ -13,7 +13,7 @@ use Rattle.memory.specs.Memory.{memory}
 use Rattle.memory.specs.Record.{beginOf}
 use Rattle.c_words.specs.Record.{wordsOf}
 use Rattle.c_words.specs.Writing.{left, beginCall}
-use Rattle.c_words.specs.Reading.{filled, moved, answered, stepsTo, refused, cached, parseCall, openCall, walkOf, lookupCall, nextCall}
+use Rattle.c_reading.specs.Reading.{filled, moved, answered, stepsTo, refused, cached, parseCall, openCall, walkOf, lookupCall, nextCall}
 
 -- a beginning: the debug id 01 02, arch 5, names of functions undecorated; the record's words after it
 pub worked-begun : beginCall (replicate 21 7) (1 ∷ 2 ∷ []) 5 3 0 (memory (7 ∷ []) [] [] [] [] (7 ∷ 7 ∷ []))

@@ -5,8 +5,8 @@ use mathlib.Core.Path.{_≡_}
 use mathlib.Core.List.{List, [], _∷_, map}
 use Rattle.symcache.specs.declared.lookup.Frame.{Frame}
 use Rattle.read_back.specs.Shown.{Shown, shown}
-use Rattle.c_words.specs.Stored.{stored}
-use Rattle.c_words.specs.Reading.{filled, moved, frameWords, lookupCall, nextCall}
+use Rattle.c_reading.specs.Stored.{stored}
+use Rattle.c_reading.specs.Reading.{filled, moved, frameWords, lookupCall, nextCall}
 
 -- `symcache_next` from the cursor k on stores these frames one by one, and then the end; every call answers 0
 pub data WalkedByCalls (s : List ℕ) : List ℕ → List ℕ → List Frame → Type 0 where

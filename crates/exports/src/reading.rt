@@ -1,7 +1,7 @@
 // The reader and the lookup. The bytes are lent at each call; between calls there are words.
 ghost use mathlib.Core.Path.{_≡_};
-ghost use Rattle.c_words.specs.Reading.{filled, moved, parseCall, openCall, findCall, walkCall, lookupCall, nextCall, stringCall, nameCall};
-ghost use Rattle.c_words.specs.Reading.{functionCall, fileCall, functionsCall, filesCall};
+ghost use Rattle.c_reading.specs.Reading.{filled, moved, parseCall, openCall, findCall, walkCall, lookupCall, nextCall, stringCall, nameCall};
+ghost use Rattle.c_reading.specs.Reading.{functionCall, fileCall, functionsCall, filesCall};
 
 // Reads a file: 1 to 11, or 0 and the words of the cache. 10 stores the expected and the found count.
 #[no_mangle]

@@ -3,7 +3,7 @@
 ghost use mathlib.Core.Path.{_≡_};
 ghost use Rattle.line_rows.specs.Lines.{words64, words32, linesTexts?, putRow, unpackedTo};
 ghost use Rattle.line_rows.specs.Numbers.{numberOf};
-use memory::CLOSED;
+use memory::SYMCACHE_CLOSED;
 use rows::LineRow;
 use rows::SYMCACHE_SCRATCH_TOO_SMALL;
 use rows::line_texts;
@@ -115,5 +115,5 @@ pub fn refusal(
         }
         return refused;
     }
-    CLOSED
+    SYMCACHE_CLOSED
 }

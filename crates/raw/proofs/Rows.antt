@@ -1,10 +1,11 @@
 -- Each row is read back where it stands, and a row cut out with zeros past the end reads as the row itself.
-use Prim.Native.Nat.{ℕ, _+_, _≤_}
-use mathlib.Core.Path.{_≡_, refl, _∙_}
-use mathlib.Core.List.{List, [], _∷_, _++_}
+use Prim.Native.Nat.{ℕ, zero, suc, _+_, _*_, _<_, _≤_}
+use mathlib.Core.Path.{_≡_, refl, sym, ap, _∙_}
+use mathlib.Core.List.{List, [], _∷_, _++_, append-assoc, append-nil}
 use native.Mathlib.Omega.{arith}
-use lib.ListN.{length, take, length-append}
-use lib.Seq.{sets, take-all}
+use native.Mathlib.Numerals.{add-one}
+use lib.ListN.{length, getD, take, replicate, length-append, length-replicate}
+use lib.Seq.{sets, take-all, length-take-le, length-sets}
 use Rattle.slices.specs.Bytes.{le, leAt, bytesAt, wordBytes, Words32, Stands}
 use Rattle.raw.specs.Rows.{versionInfoWords, versionInfoBytes, versionInfoAt, headerWords, headerBytes, headerAt, HeaderFits, fileWords, fileBytes, fileAt, functionWords, functionBytes, functionAt, locationWords, locationBytes, locationAt, rangeBytes, rangeAt}
 use Rattle.raw.specs.declared.VersionInfo.{VersionInfo}
@@ -13,7 +14,7 @@ use Rattle.raw.specs.declared.File.{File}
 use Rattle.raw.specs.declared.Function.{Function}
 use Rattle.raw.specs.declared.SourceLocation.{SourceLocation}
 use Rattle.raw.specs.declared.Range.{Range}
-use Rattle.slices.proofs.Bytes.{length-le, length-words, stands-left, stands-right, le-back, bytes-back, word-back, leAt-cut, bytesAt-cut, sets-join}
+use Rattle.slices.proofs.Bytes.{length-le, length-words, stands-left, stands-right, le-back, bytes-back, word-back, leAt-cut, bytesAt-cut, sets-join, take-sets}
 
 -- Numbers stored one after the other
 
@@ -25,6 +26,20 @@ pub stored : {s r : List ℕ} {at : ℕ} {vs : List ℕ} → Stored s at vs r �
 unfolding wordBytes
 stored all = refl
 stored {s = s} {at = at} {vs = v ∷ vs} (next n e h t) = stored t ∙ rw h (sets-join (le 4 v) (wordBytes vs) s at n (rw length-le e))
+
+words-more : (vs : List ℕ) (i : ℕ) → i < length vs → wordBytes (take (suc i) vs) ≡ wordBytes (take i vs) ++ le 4 (getD vs i 0)
+unfolding wordBytes
+words-more [] i h = absurd (omega arith)
+words-more (v ∷ vs) zero h = append-nil (le 4 v)
+words-more (v ∷ vs) (suc i) h = rw (words-more vs i (omega arith), append-assoc)
+
+-- one turn of a loop that stores them
+pub word-stored : (s vs : List ℕ) (at i : ℕ) {s₁ s₂ : List ℕ} → i < length vs → s₁ ≡ sets s at (wordBytes (take i vs))
+    → s₂ ≡ sets s₁ (at + 4 * i) (le 4 (getD vs i 0)) → s₂ ≡ sets s at (wordBytes (take (i + 1) vs))
+word-stored s vs at i h e₁ e₂ =
+    let l : i ≤ length vs = omega arith in
+    rw (add-one i, words-more vs i h, e₂, e₁)
+    (sets-join (wordBytes (take i vs)) (le 4 (getD vs i 0)) s at (at + 4 * i) (rw (length-words, length-take-le i vs l)))
 
 -- A number of a row cut out
 
@@ -138,27 +153,32 @@ pub length-header : (h : Header) → length (h .«debug_id») ≡ 32 → length 
 unfolding headerBytes
 length-header h d r = simp (length-append, length-words, length-le, d, r)
 
--- the four parts of a header stored one after the other
-pub header-stored : (h : Header) {s₁ s₂ s₃ r : List ℕ} (s : List ℕ) (at : ℕ) → length (h .«debug_id») ≡ 32 → length (h .reserved) ≡ 14
-    → s₁ ≡ sets s at (take 32 (h .«debug_id»)) → s₂ ≡ sets s₁ (at + 32) (wordBytes (headerWords h))
-    → s₃ ≡ sets s₂ (at + 56) (le 2 (h .«variable_header»)) → r ≡ sets s₃ (at + 58) (take 14 (h .reserved))
-    → r ≡ sets s at (headerBytes h)
+-- the four parts of a header stored one after the other among zeros, and these copied
+pub header-made : (h : Header) {r₁ r₂ r₃ r₄ r : List ℕ} (s : List ℕ) (at : ℕ) → length (h .«debug_id») ≡ 32 → length (h .reserved) ≡ 14
+    → r₁ ≡ sets (replicate 72 0) 0 (h .«debug_id») → r₂ ≡ sets r₁ 32 (wordBytes (headerWords h)) → r₃ ≡ sets r₂ 56 (le 2 (h .«variable_header»))
+    → r₄ ≡ sets r₃ 58 (h .reserved) → r ≡ sets s at r₄ → r ≡ sets s at (headerBytes h)
 unfolding headerBytes
-header-stored h s at d z e₁ e₂ e₃ e₄ =
+header-made h {r₄ = r₄} s at d z e₁ e₂ e₃ e₄ e =
+    let zeros : List ℕ = replicate 72 0 in
     let i = h .«debug_id» in
     let w = wordBytes (headerWords h) in
     let v = le 2 (h .«variable_header») in
+    let n : length zeros ≡ 72 = length-replicate {A = ℕ} 72 0 in
+    let made : r₄ ≡ sets zeros 0 (i ++ (w ++ (v ++ h .reserved))) =
     rw (
       e₄,
       e₃,
       e₂,
       e₁,
-      take-all 32 i (omega (arith, d)),
-      take-all 14 (h .reserved) (omega (arith, z)),
-      sets-join v (h .reserved) (sets (sets s at i) (at + 32) w) (at + 56) (at + 58) (omega (arith, length-le 2 (h .«variable_header»))),
-      sets-join w (v ++ h .reserved) (sets s at i) (at + 32) (at + 56) (omega (arith, length-words (headerWords h))),
-      sets-join i (w ++ (v ++ h .reserved)) s at (at + 32) (omega (arith, d)),
+      sets-join v (h .reserved) (sets (sets zeros 0 i) 32 w) 56 58 (omega (arith, length-le 2 (h .«variable_header»))),
+      sets-join w (v ++ h .reserved) (sets zeros 0 i) 32 56 (omega (arith, length-words (headerWords h))),
+      sets-join i (w ++ (v ++ h .reserved)) zeros 0 32 (omega (arith, d)),
     )
+    in
+    let all : take 72 (sets zeros 0 (headerBytes h)) ≡ sets zeros 0 (headerBytes h) =
+    take-all 72 (sets zeros 0 (headerBytes h)) (omega (arith, length-sets zeros 0 (headerBytes h)))
+    in
+    e ∙ ap (λ (t : List ℕ). sets s at t) (made ∙ (sym all ∙ take-sets (headerBytes h) zeros 72 (length-header h d z) (omega arith)))
 
 pub header-cut : (s : List ℕ) (at : ℕ) → headerAt (bytesAt 72 s at) 0 ≡ headerAt s at
 unfolding headerAt

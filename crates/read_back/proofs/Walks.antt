@@ -23,7 +23,7 @@ use Rattle.symcache.specs.declared.lookup.Frame.{Frame}
 use Rattle.symcache.specs.Answers.{gives, andThen}
 use Rattle.symcache.specs.Reader.{layoutOf, parsed, opened}
 use Rattle.symcache.specs.Lookup.{foundAt, locationIn, functionIn, fileIn, walkFrom, walkAt, lookedUp, met, entryOf, languageOf, fileOf, frameIn, ended, stepIn, stepped}
-use Rattle.symcache.specs.Strings.{placed, gotString, orElse, stringOf, textOr, nameIn, nameOf}
+use Rattle.file_texts.specs.Strings.{placed, gotString, orElse, stringOf, textOr, nameIn, nameOf}
 use Rattle.search.proofs.SearchLaws.{found-far}
 use Rattle.read_back.proofs.Found.{find-greatest, find-none}
 use Rattle.symcache.proofs.LookupLaws.{then-gives, walk-nowhere, walk-empty, walk-begins}

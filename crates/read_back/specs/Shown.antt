@@ -11,7 +11,7 @@ use Rattle.symcache.specs.declared.lookup.FrameFile.{FrameFile}
 use Rattle.symcache.specs.declared.lookup.FrameFile.the-variants as frame-file
 use Rattle.symcache.specs.Answers.{Answer, gives, refuses}
 use Rattle.symcache.specs.Lookup.{lookedUp, stepped}
-use Rattle.symcache.specs.Strings.{Part, gotString, nameOf}
+use Rattle.file_texts.specs.Strings.{Part, gotString, nameOf}
 use Rattle.model.specs.Rows.{Text}
 use Rattle.model.specs.Converter.{Six}
 use Rattle.model.specs.Frames as plain

@@ -167,12 +167,6 @@ sets-join (v ∷ vs) ws s at n e = sets-join vs ws (set s at v) (suc at) n (omeg
 pub take-sets : (bs z : List ℕ) (n : ℕ) → length bs ≡ n → n ≤ length z → take n (sets z 0 bs) ≡ bs
 take-sets bs z n e h = rw (sets-eq bs z 0 (omega arith)) (take-at bs (drop (0 + length bs) z) n e)
 
--- four bytes stored one by one
-pub four-puts : (s : List ℕ) (at v : ℕ) {a b c d : List ℕ} → a ≡ set s (at + 0) (v % 256) → b ≡ set a (at + 1) (v / 256 % 256) → c ≡ set b (at + 2) (v / 256 / 256 % 256)
-    → d ≡ set c (at + 3) (v / 256 / 256 / 256 % 256) → d ≡ sets s at (le 4 v)
-unfolding le
-four-puts s at v ea eb ec ed = rw (ed, ec, eb, ea) (simp towards-suc)
-
 -- what lies past the end is not stored
 pub sets-beyond : (vs s : List ℕ) (at : ℕ) → length s ≤ at → sets s at vs ≡ s
 sets-beyond [] s at h = refl

@@ -1,4 +1,3 @@
 pub mod Answers
 pub mod Reader
 pub mod Lookup
-pub mod Strings

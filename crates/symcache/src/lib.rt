@@ -6,7 +6,6 @@ ghost use Rattle.symcache.specs.Reader.{aligned, layoutOf, tested, Low, 
 use raw::Header;
 
 pub mod lookup;
-pub mod strings;
 
 // Why a file is refused.
 pub enum ErrorKind {

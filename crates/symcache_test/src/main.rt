@@ -24,7 +24,7 @@ use symcache::lookup::GotFunction;
 use symcache::lookup::LookedUp;
 use symcache::lookup::SourceLocations;
 use symcache::lookup::Step;
-use symcache::strings::GotString;
+use file_texts::GotString;
 
 // Words
 
@@ -50,10 +50,10 @@ fn add_one(n: u32) -> u32 {
 
 // A text that may be absent.
 fn add_optional(sum: u32, s: &[u8], offset: u32) -> u32 {
-    let GotString::At { start: _, len: _ } = symcache::strings::read_string(s, offset) else {
+    let GotString::At { start: _, len: _ } = file_texts::read_string(s, offset) else {
         return add(sum, 0);
     };
-    add_text(sum, symcache::strings::get_string(s, offset))
+    add_text(sum, file_texts::get_string(s, offset))
 }
 
 // What `parse` says, and every row
@@ -189,7 +189,7 @@ fn functions_number(s: &[u8]) -> u32 {
 }
 
 fn add_name(sum: u32, s: &[u8], function_idx: u32) -> u32 {
-    add_text(sum, symcache::strings::function_name(s, b"?", function_idx))
+    add_text(sum, file_texts::function_name(s, b"?", function_idx))
 }
 
 fn add_function(sum: u32, s: &[u8], function_idx: u32, f: Function) -> u32 {
@@ -238,7 +238,7 @@ fn files_number(s: &[u8]) -> u32 {
 
 // The texts of a file; an absent name is empty.
 fn add_file_texts(sum: u32, s: &[u8], f: File) -> u32 {
-    let sum = add_text(sum, symcache::strings::get_string(s, f.name_offset));
+    let sum = add_text(sum, file_texts::get_string(s, f.name_offset));
     let sum = add_optional(sum, s, f.directory_offset);
     let sum = add_optional(sum, s, f.comp_dir_offset);
     let sum = add_optional(sum, s, f.srcsrv_name_offset);

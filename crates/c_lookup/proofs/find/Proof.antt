@@ -2,7 +2,7 @@
 use mathlib.Core.Path.{ap, _∙_}
 use Rattle.symcache.specs.declared.SymCache.{SymCache}
 use Rattle.symcache.specs.Lookup.{foundAt}
-use Rattle.c_words.specs.Reading.{findCall}
+use Rattle.c_reading.specs.Reading.{findCall}
 use borrow.Author.Needs.{needs}
 use Rattle.c_lookup.proofs.find.Statement.{statement}
 use Rattle.c_lookup.proofs.find.Tie as tie

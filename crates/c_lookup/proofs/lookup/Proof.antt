@@ -2,7 +2,7 @@
 use mathlib.Core.Path.{ap, _∙_}
 use Rattle.symcache.specs.declared.lookup.SourceLocations.{SourceLocations}
 use Rattle.symcache.specs.Answers.{Answer}
-use Rattle.c_words.specs.Reading.{answered, walkWords, lookupCall}
+use Rattle.c_reading.specs.Reading.{answered, walkWords, lookupCall}
 use borrow.Author.Needs.{needs}
 use Rattle.c_lookup.proofs.lookup.Statement.{statement}
 use Rattle.c_lookup.proofs.lookup.Tie as tie

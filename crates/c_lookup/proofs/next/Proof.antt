@@ -5,15 +5,20 @@ use Prim.Native.Nat.{ℕ}
 use Rattle.symcache.specs.declared.lookup.SourceLocations.{SourceLocations}
 use Rattle.symcache.specs.Answers.{Answer, Framed}
 use Rattle.symcache.specs.Lookup.{stepped}
-use Rattle.c_words.specs.Reading.{stepsTo, framedNext, framedWords, nextCall}
+use Rattle.c_reading.specs.Reading.{stepsTo, framedNext, framedWords, nextCall}
 use borrow.Author.Needs.{needs}
 use Rattle.c_lookup.proofs.next.Statement.{statement}
 use Rattle.c_lookup.proofs.next.Tie as tie
 
 returns : tie.Need-returns
 unfolding nextCall
-returns c = let a = c .before .before .before .before .before .before .before .before .before .before .before .before .before .args in
-    (c .before .before .before .before .put-step .ensures) ∙ ap (λ (o : Answer (Option Framed)). stepsTo framedNext framedWords o (a .cursor .now) (a .frame .now)) ((c .before .before .before .before .before .next .ensures) ∙ ap (λ (k : SourceLocations). stepped (a .bytes .now) k) (c .before .before .before .before .before .before .before .before .walk-of .ensures))
+returns c =
+    let after-put-step = c .before .before .before .before in
+    let after-next = after-put-step .before in
+    let after-walk-of = after-next .before .before .before in
+    let start = after-walk-of .before .before .before .before .before in
+    let a = start .args in
+    (after-put-step .put-step .ensures) ∙ ap (λ (o : Answer (Option Framed)). stepsTo framedNext framedWords o (a .cursor .now) (a .frame .now)) ((after-next .next .ensures) ∙ ap (λ (k : SourceLocations). stepped (a .bytes .now) k) (after-walk-of .walk-of .ensures))
 
 pub next-spec : {M : Type 1} → statement M
 next-spec =

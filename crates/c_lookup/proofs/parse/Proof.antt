@@ -2,7 +2,7 @@
 use mathlib.Core.Path.{ap, _∙_}
 use Rattle.symcache.specs.declared.SymCache.{SymCache}
 use Rattle.symcache.specs.Answers.{Answer}
-use Rattle.c_words.specs.Reading.{cached, parseCall}
+use Rattle.c_reading.specs.Reading.{cached, parseCall}
 use borrow.Author.Needs.{needs}
 use Rattle.c_lookup.proofs.parse.Statement.{statement}
 use Rattle.c_lookup.proofs.parse.Tie as tie

@@ -1,8 +1,8 @@
 -- `put_looked_up` meets its contract: by what the lookup gave.
 use mathlib.Core.Path.{ap}
 use Rattle.symcache.specs.Answers.{refusalOf, lookupAnswer}
-use Rattle.c_words.specs.Reading.{walkWords}
-use Rattle.c_words.proofs.ReadLaws.{given, declined}
+use Rattle.c_reading.specs.Reading.{walkWords}
+use Rattle.c_reading.proofs.ReadLaws.{given, declined}
 use borrow.Author.Needs.{needs}
 use Rattle.c_lookup.proofs.put_looked_up.Statement.{statement}
 use Rattle.c_lookup.proofs.put_looked_up.Tie as tie

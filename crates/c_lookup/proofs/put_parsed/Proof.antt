@@ -1,7 +1,7 @@
 -- `put_parsed` meets its contract: by what reading gave.
 use mathlib.Core.Path.{ap}
 use Rattle.symcache.specs.Answers.{refusalOf, parseAnswer}
-use Rattle.c_words.proofs.ReadLaws.{cached-given, cached-refused}
+use Rattle.c_reading.proofs.ReadLaws.{cached-given, cached-refused}
 use borrow.Author.Needs.{needs}
 use Rattle.c_lookup.proofs.put_parsed.Statement.{statement}
 use Rattle.c_lookup.proofs.put_parsed.Tie as tie

@@ -1,15 +1,20 @@
 -- `put_step` meets its contract: by what the step gave.
 use mathlib.Core.Path.{ap}
 use Rattle.symcache.specs.Answers.{refusalOf, stepAnswer}
-use Rattle.c_words.specs.Reading.{framedNext, framedWords}
-use Rattle.c_words.proofs.ReadLaws.{moves, ends, stays}
+use Rattle.c_reading.specs.Reading.{framedNext, framedWords}
+use Rattle.c_reading.proofs.ReadLaws.{moves, ends, stays}
 use borrow.Author.Needs.{needs}
 use Rattle.c_lookup.proofs.put_step.Statement.{statement}
 use Rattle.c_lookup.proofs.put_step.Tie as tie
 
 returns : tie.Need-returns
-returns c = let a = c .before .before .before .before .before .before .before .before .before .before .before .before .before .args in
-    moves framedNext framedWords (stepAnswer (a .step)) (record { frame = c .before .before .before .before .before .before .before .before .before .step .given .0 .0; next = c .before .before .before .before .before .before .before .before .before .step .given .0 .1 .0 }) (a .cursor .now) (a .frame .now) (ap stepAnswer (c .before .before .before .before .before .before .before .before .before .step .given .1)) (c .before .before .before .before .before .before .put-walk .ensures) (c .before .before .put-frame .ensures)
+returns c =
+    let after-put-frame = c .before .before in
+    let after-put-walk = after-put-frame .before .before .before .before in
+    let after-step = after-put-walk .before .before .before in
+    let start = after-step .before .before .before .before in
+    let a = start .args in
+    moves framedNext framedWords (stepAnswer (a .step)) (record { frame = after-step .step .given .0 .0; next = after-step .step .given .0 .1 .0 }) (a .cursor .now) (a .frame .now) (ap stepAnswer (after-step .step .given .1)) (after-put-walk .put-walk .ensures) (after-put-frame .put-frame .ensures)
 
 returns-2 : tie.Need-returns-2
 returns-2 c = let a = c .before .before .before .before .before .before .before .before .args in

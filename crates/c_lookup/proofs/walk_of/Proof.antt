@@ -1,5 +1,5 @@
 -- `walk_of` meets its contract: by its length.
-use Rattle.c_words.proofs.ReadLaws.{walk-ended, walk-read}
+use Rattle.c_reading.proofs.ReadLaws.{walk-ended, walk-read}
 use borrow.Author.Needs.{needs}
 use Rattle.c_lookup.proofs.walk_of.Statement.{statement}
 use Rattle.c_lookup.proofs.walk_of.Tie as tie

@@ -5,15 +5,20 @@ use Prim.Native.Nat.{ℕ}
 use Rattle.symcache.specs.declared.lookup.SourceLocations.{SourceLocations}
 use Rattle.symcache.specs.Answers.{Answer, NextFunction}
 use Rattle.symcache.specs.Lookup.{functionsNext}
-use Rattle.c_words.specs.Reading.{stepsTo, functionNext, nextFunctionWords, functionsCall}
+use Rattle.c_reading.specs.Reading.{stepsTo, functionNext, nextFunctionWords, functionsCall}
 use borrow.Author.Needs.{needs}
 use Rattle.c_rows.proofs.functions_next.Statement.{statement}
 use Rattle.c_rows.proofs.functions_next.Tie as tie
 
 returns : tie.Need-returns
 unfolding functionsCall
-returns c = let a = c .before .before .before .before .before .before .before .before .before .before .before .before .before .args in
-    (c .before .before .before .before .put-function-step .ensures) ∙ ap (λ (o : Answer (Option NextFunction)). stepsTo functionNext nextFunctionWords o (a .cursor .now) (a .row .now)) ((c .before .before .before .before .before .next .ensures) ∙ ap (λ (i : ℕ). functionsNext (a .bytes .now) (record { «function_idx» = i })) (c .before .before .before .before .before .before .before .before .index-of .ensures))
+returns c =
+    let after-put-function-step = c .before .before .before .before in
+    let after-next = after-put-function-step .before in
+    let after-index-of = after-next .before .before .before in
+    let start = after-index-of .before .before .before .before .before in
+    let a = start .args in
+    (after-put-function-step .put-function-step .ensures) ∙ ap (λ (o : Answer (Option NextFunction)). stepsTo functionNext nextFunctionWords o (a .cursor .now) (a .row .now)) ((after-next .next .ensures) ∙ ap (λ (i : ℕ). functionsNext (a .bytes .now) (record { «function_idx» = i })) (after-index-of .index-of .ensures))
 
 pub functions-next-spec : {M : Type 1} → statement M
 functions-next-spec =

@@ -3,7 +3,7 @@ use mathlib.Core.Path.{ap, _∙_}
 use mathlib.Core.Option.{Option}
 use Rattle.symcache.specs.Answers.{Answer}
 use Rattle.raw.specs.declared.File.{File}
-use Rattle.c_words.specs.Reading.{answered, fileRow, fileCall}
+use Rattle.c_reading.specs.Reading.{answered, fileRow, fileCall}
 use borrow.Author.Needs.{needs}
 use Rattle.c_rows.proofs.get_file.Statement.{statement}
 use Rattle.c_rows.proofs.get_file.Tie as tie

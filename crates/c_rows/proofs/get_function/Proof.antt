@@ -3,7 +3,7 @@ use mathlib.Core.Path.{ap, _∙_}
 use mathlib.Core.Option.{Option}
 use Rattle.symcache.specs.Answers.{Answer}
 use Rattle.raw.specs.declared.Function.{Function}
-use Rattle.c_words.specs.Reading.{answered, functionRow, functionCall}
+use Rattle.c_reading.specs.Reading.{answered, functionRow, functionCall}
 use borrow.Author.Needs.{needs}
 use Rattle.c_rows.proofs.get_function.Statement.{statement}
 use Rattle.c_rows.proofs.get_function.Tie as tie

@@ -1,5 +1,5 @@
 -- `index_of` meets its contract: by its length.
-use Rattle.c_words.proofs.ReadLaws.{index-none, index-read}
+use Rattle.c_reading.proofs.ReadLaws.{index-none, index-read}
 use borrow.Author.Needs.{needs}
 use Rattle.c_rows.proofs.index_of.Statement.{statement}
 use Rattle.c_rows.proofs.index_of.Tie as tie

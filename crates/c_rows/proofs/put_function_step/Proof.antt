@@ -6,15 +6,22 @@ use lib.ListN.{set}
 use lib.Seq.{sets}
 use Rattle.raw.specs.Rows.{functionWords}
 use Rattle.symcache.specs.Answers.{refusalOf, functionsAnswer}
-use Rattle.c_words.specs.Reading.{functionNext, nextFunctionWords}
-use Rattle.c_words.proofs.ReadLaws.{moves, ends, stays}
+use Rattle.c_reading.specs.Reading.{functionNext, nextFunctionWords}
+use Rattle.c_reading.proofs.ReadLaws.{moves, ends, stays}
 use borrow.Author.Needs.{needs}
 use Rattle.c_rows.proofs.put_function_step.Statement.{statement}
 use Rattle.c_rows.proofs.put_function_step.Tie as tie
 
 returns : tie.Need-returns
-returns c = let a = c .before .before .before .before .before .before .before .before .before .before .before .before .before .before .before .before .before .before .before .before .before .args in
-    moves functionNext nextFunctionWords (functionsAnswer (a .step)) (record { index = c .before .before .before .before .before .before .before .before .before .before .before .before .before .before .before .before .before .step .given .0 .0; function = c .before .before .before .before .before .before .before .before .before .before .before .before .before .before .before .before .before .step .given .0 .1 .0; next = c .before .before .before .before .before .before .before .before .before .before .before .before .before .before .before .before .before .step .given .0 .1 .1 .0 }) (a .cursor .now) (a .row .now) (ap functionsAnswer (c .before .before .before .before .before .before .before .before .before .before .before .before .before .before .before .before .before .step .given .1)) (c .before .before .before .before .before .before .before .before .before .before .before .before .before .before .put .ensures) ((c .before .before .put-function .ensures) ∙ ap (λ (t : List ℕ). sets t 2 (functionWords (c .before .before .before .before .before .before .before .before .before .before .before .before .before .before .before .before .before .step .given .0 .1 .0))) ((c .before .before .before .before .before .before .put3 .ensures) ∙ ap (λ (t : List ℕ). set t 1 (c .before .before .before .before .before .before .before .before .before .before .before .before .before .before .before .before .before .step .given .0 .0)) (c .before .before .before .before .before .before .before .before .before .before .put2 .ensures)))
+returns c =
+    let after-put-function = c .before .before in
+    let third = after-put-function .before .before .before .before in
+    let second = third .before .before .before .before in
+    let first = second .before .before .before .before in
+    let after-step = first .before .before .before in
+    let start = after-step .before .before .before .before in
+    let a = start .args in
+    moves functionNext nextFunctionWords (functionsAnswer (a .step)) (record { index = after-step .step .given .0 .0; function = after-step .step .given .0 .1 .0; next = after-step .step .given .0 .1 .1 .0 }) (a .cursor .now) (a .row .now) (ap functionsAnswer (after-step .step .given .1)) (first .put .ensures) ((after-put-function .put-function .ensures) ∙ ap (λ (t : List ℕ). sets t 2 (functionWords (after-step .step .given .0 .1 .0))) ((third .put3 .ensures) ∙ ap (λ (t : List ℕ). set t 1 (after-step .step .given .0 .0)) (second .put2 .ensures)))
 
 returns-2 : tie.Need-returns-2
 returns-2 c = let a = c .before .before .before .before .before .before .before .before .args in

@@ -6,15 +6,20 @@ use Prim.Native.Nat.{ℕ}
 use lib.Seq.{sets}
 use Rattle.raw.specs.Rows.{fileWords}
 use Rattle.symcache.specs.Answers.{refusalOf, fileAnswer}
-use Rattle.c_words.specs.Reading.{fileRow}
-use Rattle.c_words.proofs.ReadLaws.{given, declined}
+use Rattle.c_reading.specs.Reading.{fileRow}
+use Rattle.c_reading.proofs.ReadLaws.{given, declined}
 use borrow.Author.Needs.{needs}
 use Rattle.c_rows.proofs.put_got_file.Statement.{statement}
 use Rattle.c_rows.proofs.put_got_file.Tie as tie
 
 returns : tie.Need-returns
-returns c = let a = c .before .before .before .before .before .before .before .before .before .before .before .before .args in
-    given fileRow (fileAnswer (a .file)) (some (c .before .before .before .before .before .before .before .before .before .file .given .0 .0)) (a .row .now) (ap fileAnswer (c .before .before .before .before .before .before .before .before .before .file .given .1)) ((c .before .before .put-file .ensures) ∙ ap (λ (t : List ℕ). sets t 1 (fileWords (c .before .before .before .before .before .before .before .before .before .file .given .0 .0))) (c .before .before .before .before .before .before .put .ensures))
+returns c =
+    let after-put-file = c .before .before in
+    let after-put = after-put-file .before .before .before .before in
+    let after-file = after-put .before .before .before in
+    let start = after-file .before .before .before in
+    let a = start .args in
+    given fileRow (fileAnswer (a .file)) (some (after-file .file .given .0 .0)) (a .row .now) (ap fileAnswer (after-file .file .given .1)) ((after-put-file .put-file .ensures) ∙ ap (λ (t : List ℕ). sets t 1 (fileWords (after-file .file .given .0 .0))) (after-put .put .ensures))
 
 returns-2 : tie.Need-returns-2
 returns-2 c = let a = c .before .before .before .before .before .before .before .args in

@@ -6,15 +6,20 @@ use Prim.Native.Nat.{ℕ}
 use lib.Seq.{sets}
 use Rattle.raw.specs.Rows.{functionWords}
 use Rattle.symcache.specs.Answers.{refusalOf, functionAnswer}
-use Rattle.c_words.specs.Reading.{functionRow}
-use Rattle.c_words.proofs.ReadLaws.{given, declined}
+use Rattle.c_reading.specs.Reading.{functionRow}
+use Rattle.c_reading.proofs.ReadLaws.{given, declined}
 use borrow.Author.Needs.{needs}
 use Rattle.c_rows.proofs.put_got_function.Statement.{statement}
 use Rattle.c_rows.proofs.put_got_function.Tie as tie
 
 returns : tie.Need-returns
-returns c = let a = c .before .before .before .before .before .before .before .before .before .before .before .before .args in
-    given functionRow (functionAnswer (a .function)) (some (c .before .before .before .before .before .before .before .before .before .function .given .0 .0)) (a .row .now) (ap functionAnswer (c .before .before .before .before .before .before .before .before .before .function .given .1)) ((c .before .before .put-function .ensures) ∙ ap (λ (t : List ℕ). sets t 1 (functionWords (c .before .before .before .before .before .before .before .before .before .function .given .0 .0))) (c .before .before .before .before .before .before .put .ensures))
+returns c =
+    let after-put-function = c .before .before in
+    let after-put = after-put-function .before .before .before .before in
+    let after-function = after-put .before .before .before in
+    let start = after-function .before .before .before in
+    let a = start .args in
+    given functionRow (functionAnswer (a .function)) (some (after-function .function .given .0 .0)) (a .row .now) (ap functionAnswer (after-function .function .given .1)) ((after-put-function .put-function .ensures) ∙ ap (λ (t : List ℕ). sets t 1 (functionWords (after-function .function .given .0 .0))) (after-put .put .ensures))
 
 returns-2 : tie.Need-returns-2
 returns-2 c = let a = c .before .before .before .before .before .before .before .args in

@@ -2,8 +2,8 @@
 use mathlib.Core.Path.{ap, _∙_}
 use mathlib.Core.Option.{Option}
 use Rattle.symcache.specs.Answers.{Answer}
-use Rattle.symcache.specs.Strings.{Part}
-use Rattle.c_words.specs.Reading.{answered, partWords, stringCall}
+use Rattle.file_texts.specs.Strings.{Part}
+use Rattle.c_reading.specs.Reading.{answered, partWords, stringCall}
 use borrow.Author.Needs.{needs}
 use Rattle.c_rows.proofs.read_string.Statement.{statement}
 use Rattle.c_rows.proofs.read_string.Tie as tie

@@ -1,12 +1,23 @@
--- `load_location` meets its contract.
+-- `load_location` meets its contract: four numbers.
+use Prim.Native.Nat.{ℕ, _+_}
+use mathlib.Core.Path.{_≡_}
+use mathlib.Core.List.{List}
+use Rattle.slices.specs.Bytes.{leAt}
 use Rattle.raw.specs.Rows.{locationAt}
+use Rattle.raw.specs.declared.SourceLocation.{SourceLocation}
 use borrow.Author.Needs.{needs}
 use Rattle.raw.proofs.load_location.Statement.{statement}
 use Rattle.raw.proofs.load_location.Tie as tie
 
-returns : tie.Need-returns
+loaded : (s : List ℕ) (at : ℕ) {a b c d : ℕ} → a ≡ leAt 4 s at → b ≡ leAt 4 s (at + 4) → c ≡ leAt 4 s (at + 8) → d ≡ leAt 4 s (at + 12)
+    → record { «file_idx» = a; line = b; «function_idx» = c; «inlined_into_idx» = d } ≡ locationAt s at
 unfolding locationAt
-returns c = cc
+loaded s at e₁ e₂ e₃ e₄ = rw (e₁, e₂, e₃, e₄)
+
+returns : tie.Need-returns
+returns c =
+    let a = c .before .before .before .before .before .args in
+    loaded (a .s .now) (a .at) (c .before .before .before .load-u32 .ensures) (c .before .before .load-u322 .ensures) (c .before .load-u323 .ensures) (c .load-u324 .ensures)
 
 pub load-location-spec : {M : Type 1} → statement M
 load-location-spec =

@@ -1,31 +1,31 @@
--- `write_header` meets its contract: where the row has no room it is made apart, and its bytes are stored one by one.
-use mathlib.Core.Path.{_≡_, sym, _∙_}
-use lib.ListN.{length, replicate}
-use native.Mathlib.Omega.{arith}
-use borrow.Author.Tests.{leb-true}
-use Rattle.slices.proofs.Bytes.{take-sets}
-use Rattle.raw.proofs.Rows.{length-header}
-use Rattle.raw.specs.Rows.{headerBytes}
+-- `write_header` meets its contract: the four parts make the row, and the row is copied.
+use mathlib.Core.Path.{_≡_, refl}
+use lib.ListN.{length}
+use Rattle.slices.specs.Bytes.{le}
+use Rattle.raw.proofs.Rows.{header-made}
 use borrow.Author.Needs.{needs}
 use Rattle.raw.proofs.write_header.Statement.{statement}
 use Rattle.raw.proofs.write_header.Tie as tie
 
-store-header-requires : tie.Need-store-header-requires
-store-header-requires c κs = leb-true _ _ (sym (c .before .before .inside .ensures) ∙ c .before .if1 .taken)
+lengths : (start : tie.Start) → (length (start .args .h .«debug_id») ≡ 32) × (length (start .args .h .reserved) ≡ 14)
+lengths start = (search needs, search needs)
 
-returns-2 : tie.Need-returns-2
-returns-2 c =
-    let a = c .before .before .before .before .before .before .before .before .before .before .before .before .args in
-    let d : length (a .h .«debug_id») ≡ 32 = search needs in
-    let z : length (a .h .reserved) ≡ 14 = search needs in
-    c .before .before .paste .ensures ∙ rw (c .before .before .before .before .before .before .store-header2 .ensures, take-sets (headerBytes (a .h)) (replicate 72 0) 72 (length-header (a .h) d z) (omega arith))
+returns : tie.Need-returns
+unfolding le
+returns c =
+    let whole = c .before .before in
+    let with-reserved = whole .before .before .before .before in
+    let with-counts = with-reserved .before .before .before .before .before .before in
+    let with-id = with-counts .before .before .before in
+    let start = with-id .before .before .before .before .before .before in
+    let a = start .args in
+    header-made (a .h) (a .s .now) (a .at) (lengths start .0) (lengths start .1) (with-id .copy .ensures) (with-counts .store-words .ensures) refl (with-reserved .copy2 .ensures) (whole .copy3 .ensures)
 
 pub write-header-spec : {M : Type 1} → statement M
 write-header-spec =
     tie.close
     (tie.spec
-    (λ c κs. search needs)
-    store-header-requires
-    (λ c. search needs) (λ c. search needs) (λ c. search needs) (λ c κs. search needs) (λ c. search needs)
-    (λ c κs. search needs) (λ c. search needs)
-    returns-2)
+    (λ c. search needs) (λ c. search needs) (λ c κs. search needs) (λ c. search needs) (λ c κs. search needs)
+    (λ c. search needs) (λ c. search needs) (λ c. search needs) (λ c. search needs) (λ c. search needs)
+    (λ c. search needs) (λ c κs. search needs) (λ c. search needs) (λ c κs. search needs) (λ c. search needs)
+    returns)

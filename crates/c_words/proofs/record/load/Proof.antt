@@ -5,7 +5,17 @@ use Rattle.c_words.proofs.record.load.Statement.{statement}
 use Rattle.c_words.proofs.record.load.Tie as tie
 
 returns : tie.Need-returns
-returns c = converter-read (c .before .before .before .before .before .before .before .before .before .before .args .«record» .now) (c .before .before .before .before .before .before .before .before .debug-id .ensures) (c .before .before .before .before .before .before .before .state .ensures) (c .before .before .before .before .before .before .word .ensures) (c .before .before .before .before .before .word2 .ensures) (c .before .before .before .before .is-set .ensures) (c .before .before .before .word3 .ensures) (c .before .before .is-set2 .ensures) (c .before .word4 .ensures) (c .is-set3 .ensures)
+returns c =
+    let fourth-word = c .before in
+    let second-is-set = fourth-word .before in
+    let third-word = second-is-set .before in
+    let first-is-set = third-word .before in
+    let second-word = first-is-set .before in
+    let first-word = second-word .before in
+    let after-state = first-word .before in
+    let after-debug-id = after-state .before in
+    let start = after-debug-id .before .before in
+    converter-read (start .args .«record» .now) (after-debug-id .debug-id .ensures) (after-state .state .ensures) (first-word .word .ensures) (second-word .word2 .ensures) (first-is-set .is-set .ensures) (third-word .word3 .ensures) (second-is-set .is-set2 .ensures) (fourth-word .word4 .ensures) (c .is-set3 .ensures)
 
 pub load-spec : {M : Type 1} → statement M
 load-spec =

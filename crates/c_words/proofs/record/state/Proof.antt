@@ -5,7 +5,17 @@ use Rattle.c_words.proofs.record.state.Statement.{statement}
 use Rattle.c_words.proofs.record.state.Tie as tie
 
 returns : tie.Need-returns
-returns c = state-read (c .before .before .before .before .before .before .before .before .before .before .args .«record» .now) (c .before .before .before .before .before .before .before .before .word .ensures) (c .before .before .before .before .before .before .before .word2 .ensures) (c .before .before .before .before .before .before .word3 .ensures) (c .before .before .before .before .before .word4 .ensures) (c .before .before .before .before .word5 .ensures) (c .before .before .before .word6 .ensures) (c .before .before .word7 .ensures) (c .before .word8 .ensures) (c .last-addr .ensures)
+returns c =
+    let eighth = c .before in
+    let seventh = eighth .before in
+    let sixth = seventh .before in
+    let fifth = sixth .before in
+    let fourth = fifth .before in
+    let third = fourth .before in
+    let second = third .before in
+    let first = second .before in
+    let start = first .before .before in
+    state-read (start .args .«record» .now) (first .word .ensures) (second .word2 .ensures) (third .word3 .ensures) (fourth .word4 .ensures) (fifth .word5 .ensures) (sixth .word6 .ensures) (seventh .word7 .ensures) (eighth .word8 .ensures) (c .last-addr .ensures)
 
 pub state-spec : {M : Type 1} → statement M
 state-spec =

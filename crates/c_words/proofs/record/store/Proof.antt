@@ -5,8 +5,16 @@ use Rattle.c_words.proofs.record.store.Statement.{statement}
 use Rattle.c_words.proofs.record.store.Tie as tie
 
 returns : tie.Need-returns
-returns c = let a = c .before .before .before .before .before .before .before .before .before .before .before .before .before .before .before .before .before .before .before .before .before .before .before .before .before .args in
-    record-stored (a .«record» .now) (a .c) (c .before .before .before .before .before .before .before .before .before .before .before .before .before .before .before .before .before .before .before .put-id .ensures) (c .before .before .before .before .before .before .before .before .before .before .before .before .before .before .before .put-switches .ensures) (c .before .before .before .before .before .before .before .before .before .before .before .put-counts .ensures) (c .before .before .before .before .before .before .before .put-last-addr .ensures) (c .before .before .before .flag .ensures) (c .before .before .put .ensures)
+returns c =
+    let after-put = c .before .before in
+    let after-flag = after-put .before in
+    let after-put-last-addr = after-flag .before .before .before .before in
+    let after-put-counts = after-put-last-addr .before .before .before .before in
+    let after-put-switches = after-put-counts .before .before .before .before in
+    let after-put-id = after-put-switches .before .before .before .before in
+    let start = after-put-id .before .before .before .before .before .before in
+    let a = start .args in
+    record-stored (a .«record» .now) (a .c) (after-put-id .put-id .ensures) (after-put-switches .put-switches .ensures) (after-put-counts .put-counts .ensures) (after-put-last-addr .put-last-addr .ensures) (after-flag .flag .ensures) (after-put .put .ensures)
 
 pub store-spec : {M : Type 1} → statement M
 store-spec =
