@@ -5,11 +5,17 @@ ghost use mathlib.Core.Path.{_≡_};
 ghost use mathlib.Core.List.{[], _∷_};
 ghost use lib.ListN.{getD};
 ghost use lib.Seq.{sets};
-ghost use Rattle.symcache.specs.Answers.{refusalOf, parseAnswer, lookupAnswer, stepAnswer};
+ghost use Rattle.symcache.specs.Answers.{refusalOf, parseAnswer};
+ghost use Rattle.lookup.specs.Answers.{lookupAnswer, stepAnswer};
 ghost use Rattle.c_reading.specs.Stored.{stored};
 ghost use Rattle.c_reading.specs.Reading.{filled, moved, answered, stepsTo, cacheWords, countAt, cacheOf, refused, cached, parseCall, openCall};
 ghost use Rattle.c_reading.specs.Reading.{findCall, walkWords, walkOf, walkCall, lookupCall, headWords, frameWords, framedWords, framedNext, nextCall};
 use c_reading::put_file;
+use lookup::Frame;
+use lookup::FrameFile;
+use lookup::LookedUp;
+use lookup::SourceLocations;
+use lookup::Step;
 use slices::put;
 use slices::put64;
 use slices::word;
@@ -17,11 +23,6 @@ use slices::word64;
 use symcache::ErrorKind;
 use symcache::Parsed;
 use symcache::SymCache;
-use symcache::lookup::Frame;
-use symcache::lookup::FrameFile;
-use symcache::lookup::LookedUp;
-use symcache::lookup::SourceLocations;
-use symcache::lookup::Step;
 
 // Where a table lies and how many rows it has: words k and k + 1.
 fn put_table(cache: &mut [u64], k: u32, at: usize, n: u32)
@@ -118,7 +119,7 @@ fn cache_of(cache: &[u64]) -> SymCache
 pub fn find(bytes: &[u8], cache: &[u64], addr: u64) -> u32
     ensures { λ r. ⌜ r ≡ findCall (now (bytes .entry)) (now (cache .entry)) addr ⌝ }
 {
-    symcache::lookup::find(bytes, cache_of(cache), addr)
+    lookup::find(bytes, cache_of(cache), addr)
 }
 
 // The words of a walk.
@@ -152,7 +153,7 @@ fn walk_of(cursor: &[u32]) -> SourceLocations
 pub fn walk(bytes: &[u8], cache: &[u64], addr: u64, cursor: &mut [u32]) -> u32
     ensures { λ r. ⌜ filled r (now (cursor .exit)) ≡ walkCall (now (bytes .entry)) (now (cache .entry)) addr (now (cursor .entry)) ⌝ }
 {
-    let walk = symcache::lookup::walk(bytes, cache_of(cache), addr);
+    let walk = lookup::walk(bytes, cache_of(cache), addr);
     put_walk(cursor, walk);
     walk.current
 }
@@ -173,7 +174,7 @@ fn put_looked_up(cursor: &mut [u32], found: LookedUp) -> u32
 pub fn lookup(bytes: &[u8], addr: u64, cursor: &mut [u32]) -> u32
     ensures { λ r. ⌜ filled r (now (cursor .exit)) ≡ lookupCall (now (bytes .entry)) addr (now (cursor .entry)) ⌝ }
 {
-    put_looked_up(cursor, symcache::lookup::lookup(bytes, addr))
+    put_looked_up(cursor, lookup::lookup(bytes, addr))
 }
 
 // Words 0 to 6 of a frame.

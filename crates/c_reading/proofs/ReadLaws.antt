@@ -11,12 +11,12 @@ use Rattle.raw.specs.Rows.{max32, fileWords}
 use Rattle.raw.specs.declared.File.{File}
 use Rattle.raw.specs.declared.Function.{Function}
 use Rattle.symcache.specs.declared.SymCache.{SymCache}
-use Rattle.symcache.specs.declared.lookup.SourceLocations.{SourceLocations}
-use Rattle.symcache.specs.declared.lookup.Frame.{Frame}
-use Rattle.symcache.specs.declared.lookup.FrameFile.{FrameFile}
-use Rattle.symcache.specs.declared.lookup.FrameFile.the-variants as frame-file
+use Rattle.lookup.specs.declared.SourceLocations.{SourceLocations}
+use Rattle.lookup.specs.declared.Frame.{Frame}
+use Rattle.lookup.specs.declared.FrameFile.{FrameFile}
+use Rattle.lookup.specs.declared.FrameFile.the-variants as frame-file
 use Rattle.symcache.specs.Answers.{Answer, gives, refuses, Refusal, andThen}
-use Rattle.symcache.specs.Lookup.{walkFrom, walkAt, gotFunction}
+use Rattle.lookup.specs.Lookup.{walkFrom, walkAt, gotFunction}
 use Rattle.file_texts.specs.Strings.{Part, gotString}
 use Rattle.c_reading.specs.Stored.{stored}
 use Rattle.c_reading.specs.Reading.{Filled, filled, moved, answered, stepsTo, cacheWords, countAt, cacheOf, refused, cached, walkWords, walkOf, walkCall, headWords, withFile, nameAfter, gotName, indexOf}

@@ -10,13 +10,14 @@ use Rattle.raw.specs.declared.File.{File}
 use Rattle.raw.specs.declared.Function.{Function}
 use Rattle.raw.specs.Rows.{max32, fileWords, functionWords}
 use Rattle.symcache.specs.declared.SymCache.{SymCache}
-use Rattle.symcache.specs.declared.lookup.SourceLocations.{SourceLocations}
-use Rattle.symcache.specs.declared.lookup.Frame.{Frame}
-use Rattle.symcache.specs.declared.lookup.FrameFile.{FrameFile}
-use Rattle.symcache.specs.declared.lookup.FrameFile.the-variants as frame-file
-use Rattle.symcache.specs.Answers.{Answer, gives, refuses, Refusal, andThen, Framed, NextFunction, NextFile}
+use Rattle.lookup.specs.declared.SourceLocations.{SourceLocations}
+use Rattle.lookup.specs.declared.Frame.{Frame}
+use Rattle.lookup.specs.declared.FrameFile.{FrameFile}
+use Rattle.lookup.specs.declared.FrameFile.the-variants as frame-file
+use Rattle.symcache.specs.Answers.{Answer, gives, refuses, Refusal, andThen}
+use Rattle.lookup.specs.Answers.{Framed, NextFunction, NextFile}
 use Rattle.symcache.specs.Reader.{parsed, opened}
-use Rattle.symcache.specs.Lookup.{foundAt, walkFrom, walkAt, lookedUp, stepped, gotFile, gotFunction, functionsNext, filesNext}
+use Rattle.lookup.specs.Lookup.{foundAt, walkFrom, walkAt, lookedUp, stepped, gotFile, gotFunction, functionsNext, filesNext}
 use Rattle.file_texts.specs.Strings.{Part, gotString}
 use Rattle.c_reading.specs.Stored.{stored}
 

@@ -1,22 +1,22 @@
 // Texts, names, rows and the two iterators of the reader over words. The exported functions of these names pass on what these answer.
 ghost use mathlib.Core.Path.{_≡_};
-ghost use Rattle.symcache.specs.Answers.{fileAnswer, functionAnswer, functionsAnswer, filesAnswer};
+ghost use Rattle.lookup.specs.Answers.{fileAnswer, functionAnswer, functionsAnswer, filesAnswer};
 ghost use Rattle.file_texts.specs.Strings.{stringAnswer};
 ghost use Rattle.c_reading.specs.Reading.{filled, moved, answered, stepsTo, partWords, stringCall, gotName, nameCall, functionRow, fileRow};
 ghost use Rattle.c_reading.specs.Reading.{functionCall, fileCall, indexOf, nextFunctionWords, functionNext, functionsCall, nextFileWords, fileNext};
 ghost use Rattle.c_reading.specs.Reading.{filesCall};
 use c_reading::put_file;
 use c_reading::put_function;
+use file_texts::GotString;
+use lookup::FileStep;
+use lookup::Files;
+use lookup::FunctionStep;
+use lookup::Functions;
+use lookup::GotFile;
+use lookup::GotFunction;
 use slices::put;
 use slices::put64;
 use slices::word;
-use symcache::lookup::FileStep;
-use symcache::lookup::Files;
-use symcache::lookup::FunctionStep;
-use symcache::lookup::Functions;
-use symcache::lookup::GotFile;
-use symcache::lookup::GotFunction;
-use file_texts::GotString;
 
 fn put_string(part: &mut [u64], string: GotString) -> u32
     ensures { λ r. ⌜ filled r (now (part .exit)) ≡ answered partWords (stringAnswer string) (now (part .entry)) ⌝ }
@@ -46,7 +46,7 @@ pub fn read_string(bytes: &[u8], offset: u32, part: &mut [u64]) -> u32
 fn name_of(bytes: &[u8], function_idx: u32) -> GotString
     ensures { λ r. ⌜ stringAnswer r ≡ gotName (now (bytes .entry)) «function_idx» ⌝ }
 {
-    let function = symcache::lookup::get_function(bytes, function_idx);
+    let function = lookup::get_function(bytes, function_idx);
     match function {
         GotFunction::Function(f) => file_texts::read_string(bytes, f.name_offset),
         GotFunction::Nothing => GotString::Absent,
@@ -81,7 +81,7 @@ fn put_got_function(row: &mut [u32], function: GotFunction) -> u32
 pub fn get_function(bytes: &[u8], function_idx: u32, row: &mut [u32]) -> u32
     ensures { λ r. ⌜ filled r (now (row .exit)) ≡ functionCall (now (bytes .entry)) «function_idx» (now (row .entry)) ⌝ }
 {
-    put_got_function(row, symcache::lookup::get_function(bytes, function_idx))
+    put_got_function(row, lookup::get_function(bytes, function_idx))
 }
 
 fn put_got_file(row: &mut [u32], file: GotFile) -> u32
@@ -104,7 +104,7 @@ fn put_got_file(row: &mut [u32], file: GotFile) -> u32
 pub fn get_file(bytes: &[u8], file_idx: u32, row: &mut [u32]) -> u32
     ensures { λ r. ⌜ filled r (now (row .exit)) ≡ fileCall (now (bytes .entry)) «file_idx» (now (row .entry)) ⌝ }
 {
-    put_got_file(row, symcache::lookup::get_file(bytes, file_idx))
+    put_got_file(row, lookup::get_file(bytes, file_idx))
 }
 
 // The index from which on to look; a cursor of no words is at the end.

@@ -11,7 +11,7 @@ use Rattle.names.specs.Marked as names
 use Rattle.model.specs.Rows.{MAX}
 use Rattle.rows.specs.Columns.{boundariesOf}
 use Rattle.rows.specs.Marked as boundaries
-use Rattle.symcache.specs.Lookup.{walkAt, framesIn}
+use Rattle.lookup.specs.Lookup.{walkAt, framesIn}
 use Rattle.read_back.proofs.WorkedBytes.{worked, tables, Listed, listed, m1, m2, m3}
 
 -- the worked file's frames at an address

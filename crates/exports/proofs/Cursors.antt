@@ -14,11 +14,11 @@ use Rattle.raw.specs.Rows.{headerAt}
 use Rattle.raw.specs.declared.Header.{Header}
 use Rattle.slices.proofs.Bytes.{leAt-four}
 use Rattle.symcache.specs.declared.SymCache.{SymCache}
-use Rattle.symcache.specs.declared.lookup.SourceLocations.{SourceLocations}
-use Rattle.symcache.specs.declared.lookup.Frame.{Frame}
+use Rattle.lookup.specs.declared.SourceLocations.{SourceLocations}
+use Rattle.lookup.specs.declared.Frame.{Frame}
 use Rattle.symcache.specs.Answers.{Answer, gives, refuses, only, refuseIf, andThen}
 use Rattle.symcache.specs.Reader.{layoutOf, parsed, startAt, ascending, opened}
-use Rattle.symcache.specs.Lookup.{foundAt, walkAt, lookedUp, stepped}
+use Rattle.lookup.specs.Lookup.{foundAt, walkAt, lookedUp, stepped}
 use Rattle.symcache.proofs.ReaderLaws.{parsed-within}
 use Rattle.read_back.specs.Shown.{Shown, ends, goes}
 use Rattle.read_back.specs.Shown.{Walked, Found}

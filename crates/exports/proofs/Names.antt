@@ -15,7 +15,8 @@ use Rattle.text.proofs.TextLaws.{text-within}
 use Rattle.symcache.specs.declared.SymCache.{SymCache}
 use Rattle.symcache.specs.Answers.{Answer, gives, refuses, Refusal, refuseIf, andThen}
 use Rattle.symcache.specs.Reader.{tested, parsed}
-use Rattle.symcache.specs.Lookup.{functionIn, gotFunction}
+use Rattle.lookup.specs.Lookup.{gotFunction}
+use Rattle.symcache.specs.Reader.{functionIn}
 use Rattle.file_texts.specs.Strings.{Part, sectionOf, placed, gotString, orElse, textOr, nameIn, nameOf}
 use Rattle.c_reading.specs.Reading.{answered, partWords, nameAfter, gotName, nameCall, nameBytes}
 use Rattle.c_reading.proofs.StoreLaws.{sets-at}

@@ -7,7 +7,8 @@ use Rattle.slices.specs.Bytes.{leAt, bytesAt}
 use Rattle.raw.specs.Rows.{max32, versionInfoAt, headerAt, fileAt, functionAt, locationAt, isNoSourceLocation, rangeAt}
 use Rattle.symcache.specs.Answers.{refuseIf, andThen}
 use Rattle.symcache.specs.Reader.{aligned, layoutOf, tested, parsed, ascendingFrom, ascending, opened}
-use Rattle.symcache.specs.Lookup.{countIn, searchIn, foundAmong, usable, foundIn, locationIn, functionIn, fileIn, walkAt, lookedUp, met, frameIn, ended, stepIn, stepped}
+use Rattle.lookup.specs.Lookup.{countIn, searchIn, foundAmong, usable, foundIn, walkAt, lookedUp, met, frameIn, ended, stepIn, stepped}
+use Rattle.symcache.specs.Reader.{locationIn, functionIn, fileIn}
 use Rattle.read_back.proofs.WorkedBytes.{worked}
 use Rattle.memory.specs.Memory.{memory}
 use Rattle.memory.specs.Record.{beginOf}

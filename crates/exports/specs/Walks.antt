@@ -3,7 +3,7 @@
 use Prim.Native.Nat.{ℕ}
 use mathlib.Core.Path.{_≡_}
 use mathlib.Core.List.{List, [], _∷_, map}
-use Rattle.symcache.specs.declared.lookup.Frame.{Frame}
+use Rattle.lookup.specs.declared.Frame.{Frame}
 use Rattle.read_back.specs.Shown.{Shown, shown}
 use Rattle.c_reading.specs.Stored.{stored}
 use Rattle.c_reading.specs.Reading.{filled, moved, frameWords, lookupCall, nextCall}

@@ -15,7 +15,7 @@ use Rattle.text.proofs.TextLaws.{text-within}
 use Rattle.symcache.specs.declared.SymCache.{SymCache}
 use Rattle.symcache.specs.Answers.{Refusal, gives, refuses, andThen}
 use Rattle.symcache.specs.Reader.{parsed}
-use Rattle.symcache.specs.Lookup.{functionIn}
+use Rattle.symcache.specs.Reader.{functionIn}
 use Rattle.file_texts.specs.Strings.{sectionOf, placed, gotString, orElse, stringOf, textOr, nameIn, nameOf}
 use Rattle.symcache.proofs.ReaderLaws.{parsed-within}
 

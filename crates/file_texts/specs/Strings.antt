@@ -11,7 +11,7 @@ use Rattle.file_texts.specs.declared.GotString.{GotString}
 use Rattle.file_texts.specs.declared.GotString.the-variants as got
 use Rattle.symcache.specs.Answers.{refusalOf, Answer, gives, refuses, andThen}
 use Rattle.symcache.specs.Reader.{parsed}
-use Rattle.symcache.specs.Lookup.{functionIn}
+use Rattle.symcache.specs.Reader.{functionIn}
 
 -- the string section
 unfoldable pub sectionOf : List ℕ → SymCache → List ℕ

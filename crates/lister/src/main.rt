@@ -3,11 +3,11 @@ use libc::STDIN_FILENO;
 use libc::STDOUT_FILENO;
 use listing::LineRead;
 use listing::LineState;
+use lookup::Frame;
+use lookup::SourceLocations;
+use lookup::Step;
 use symcache::Parsed;
 use symcache::SymCache;
-use symcache::lookup::Frame;
-use symcache::lookup::SourceLocations;
-use symcache::lookup::Step;
 
 // The line that is being read, and its number from 1 modulo 2^32.
 struct Input {
@@ -73,7 +73,7 @@ fn print_frames(file: &[u8], address: u64, walk: SourceLocations) -> u32 {
 
 // What a good line prints.
 fn print_address(file: &[u8], cache: SymCache, address: u64) {
-    let walk = symcache::lookup::walk(file, cache, address);
+    let walk = lookup::walk(file, cache, address);
     if print_frames(file, address, walk) == 0 {
         print_no_frame(address);
     }

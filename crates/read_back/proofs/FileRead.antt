@@ -18,7 +18,7 @@ use Rattle.raw.proofs.Rows.{length-version-info, length-header, version-info-ba
 use Rattle.symcache.specs.declared.SymCache.{SymCache}
 use Rattle.symcache.specs.Answers.{gives, refuseIf}
 use Rattle.symcache.specs.Reader.{aligned, layoutOf, tested, parsed, opened, startAt, ascendingFrom, ascending, Within}
-use Rattle.symcache.specs.Lookup.{locationIn, functionIn, fileIn}
+use Rattle.symcache.specs.Reader.{locationIn, functionIn, fileIn}
 use Rattle.file_texts.specs.Strings.{sectionOf}
 use Rattle.symcache.proofs.ReaderLaws.{then-tables, opened-accepted}
 use Rattle.model.proofs.FileRows.{ascending-next}

@@ -11,7 +11,7 @@ use Rattle.search.proofs.Greatest.{found-greatest, found-none}
 use Rattle.symcache.specs.declared.SymCache.{SymCache}
 use Rattle.symcache.specs.Answers.{gives}
 use Rattle.symcache.specs.Reader.{opened, Within}
-use Rattle.symcache.specs.Lookup.{foundAt}
+use Rattle.lookup.specs.Lookup.{foundAt}
 use Rattle.symcache.proofs.ReaderLaws.{opened-has}
 
 -- the tables of a file that was opened are usable

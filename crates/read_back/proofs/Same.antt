@@ -6,11 +6,12 @@ use mathlib.Core.List.{List, _∷_, map}
 use native.Mathlib.Omega.{arith}
 use lib.ListN.{length}
 use Rattle.symcache.specs.declared.SymCache.{SymCache}
-use Rattle.symcache.specs.declared.lookup.SourceLocations.{SourceLocations}
-use Rattle.symcache.specs.declared.lookup.Frame.{Frame}
-use Rattle.symcache.specs.Answers.{gives, Framed}
+use Rattle.lookup.specs.declared.SourceLocations.{SourceLocations}
+use Rattle.lookup.specs.declared.Frame.{Frame}
+use Rattle.symcache.specs.Answers.{gives}
+use Rattle.lookup.specs.Answers.{Framed}
 use Rattle.symcache.specs.Reader.{parsed}
-use Rattle.symcache.specs.Lookup.{stepIn, framesIn}
+use Rattle.lookup.specs.Lookup.{stepIn, framesIn}
 use Rattle.read_back.specs.Shown.{Shown, shown, Walked, ends, goes, Found}
 use Rattle.read_back.proofs.Walks.{step-is}
 

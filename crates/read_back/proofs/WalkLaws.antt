@@ -11,10 +11,10 @@ use lib.ListN.{length}
 use borrow.Author.Tests.{le-leb}
 use Rattle.raw.specs.Rows.{max32}
 use Rattle.symcache.specs.declared.SymCache.{SymCache}
-use Rattle.symcache.specs.declared.lookup.SourceLocations.{SourceLocations}
-use Rattle.symcache.specs.declared.lookup.Frame.{Frame}
-use Rattle.symcache.specs.Answers.{Framed}
-use Rattle.symcache.specs.Lookup.{met, framed, ended, stepIn, framesIn}
+use Rattle.lookup.specs.declared.SourceLocations.{SourceLocations}
+use Rattle.lookup.specs.declared.Frame.{Frame}
+use Rattle.lookup.specs.Answers.{Framed}
+use Rattle.lookup.specs.Lookup.{met, framed, ended, stepIn, framesIn}
 
 ends-there : (a b d : Bool) → (a || (b || (true || d))) ≡ true
 ends-there true b d = refl

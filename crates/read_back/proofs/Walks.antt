@@ -18,15 +18,16 @@ use Rattle.text.specs.declared.strings.Text.the-variants as text
 use Rattle.text.proofs.Leb128Laws.{decoded-past}
 use Rattle.text.proofs.TextLaws.{absent-prefix, text-within}
 use Rattle.symcache.specs.declared.SymCache.{SymCache}
-use Rattle.symcache.specs.declared.lookup.SourceLocations.{SourceLocations}
-use Rattle.symcache.specs.declared.lookup.Frame.{Frame}
+use Rattle.lookup.specs.declared.SourceLocations.{SourceLocations}
+use Rattle.lookup.specs.declared.Frame.{Frame}
 use Rattle.symcache.specs.Answers.{gives, andThen}
 use Rattle.symcache.specs.Reader.{layoutOf, parsed, opened}
-use Rattle.symcache.specs.Lookup.{foundAt, locationIn, functionIn, fileIn, walkFrom, walkAt, lookedUp, met, entryOf, languageOf, fileOf, frameIn, ended, stepIn, stepped}
+use Rattle.lookup.specs.Lookup.{foundAt, walkFrom, walkAt, lookedUp, met, entryOf, languageOf, fileOf, frameIn, ended, stepIn, stepped}
+use Rattle.symcache.specs.Reader.{locationIn, functionIn, fileIn}
 use Rattle.file_texts.specs.Strings.{placed, gotString, orElse, stringOf, textOr, nameIn, nameOf}
 use Rattle.search.proofs.SearchLaws.{found-far}
 use Rattle.read_back.proofs.Found.{find-greatest, find-none}
-use Rattle.symcache.proofs.LookupLaws.{then-gives, walk-nowhere, walk-empty, walk-begins}
+use Rattle.lookup.proofs.LookupLaws.{then-gives, walk-nowhere, walk-empty, walk-begins}
 use Rattle.model.specs.Rows.{MAX}
 use Rattle.model.specs.Written.{met?}
 use Rattle.model.proofs.Maps.{lt-or-ge}

@@ -7,10 +7,11 @@ use lib.Seq.{sets}
 use Rattle.slices.specs.Bytes.{leAt, bytesAt}
 use Rattle.raw.specs.Rows.{max32, versionInfoAt, headerAt, fileAt, functionAt, locationAt, isNoSourceLocation, rangeAt}
 use Rattle.symcache.specs.declared.SymCache.{SymCache}
-use Rattle.symcache.specs.declared.lookup.Frame.{Frame}
+use Rattle.lookup.specs.declared.Frame.{Frame}
 use Rattle.symcache.specs.Answers.{gives, refuses, refuseIf, andThen}
 use Rattle.symcache.specs.Reader.{aligned, layoutOf, tested, parsed, ascendingFrom, ascending, opened}
-use Rattle.symcache.specs.Lookup.{countIn, searchIn, foundAmong, usable, foundIn, locationIn, functionIn, fileIn, walkAt, met, frameIn, ended, stepIn, framesIn}
+use Rattle.lookup.specs.Lookup.{countIn, searchIn, foundAmong, usable, foundIn, walkAt, met, frameIn, ended, stepIn, framesIn}
+use Rattle.symcache.specs.Reader.{locationIn, functionIn, fileIn}
 
 -- the 305 bytes
 unfoldable pub worked : List ℕ

@@ -5,12 +5,12 @@ use mathlib.Core.Path.{_≡_}
 use mathlib.Core.Option.{Option, none, some}
 use mathlib.Core.List.{List, [], _∷_, map}
 use lib.ListN.{take, drop}
-use Rattle.symcache.specs.declared.lookup.SourceLocations.{SourceLocations}
-use Rattle.symcache.specs.declared.lookup.Frame.{Frame}
-use Rattle.symcache.specs.declared.lookup.FrameFile.{FrameFile}
-use Rattle.symcache.specs.declared.lookup.FrameFile.the-variants as frame-file
+use Rattle.lookup.specs.declared.SourceLocations.{SourceLocations}
+use Rattle.lookup.specs.declared.Frame.{Frame}
+use Rattle.lookup.specs.declared.FrameFile.{FrameFile}
+use Rattle.lookup.specs.declared.FrameFile.the-variants as frame-file
 use Rattle.symcache.specs.Answers.{Answer, gives, refuses}
-use Rattle.symcache.specs.Lookup.{lookedUp, stepped}
+use Rattle.lookup.specs.Lookup.{lookedUp, stepped}
 use Rattle.file_texts.specs.Strings.{Part, gotString, nameOf}
 use Rattle.model.specs.Rows.{Text}
 use Rattle.model.specs.Converter.{Six}

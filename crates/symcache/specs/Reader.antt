@@ -1,11 +1,15 @@
 -- The reader: document 01 "Reader" and numbers 1 to 12; `SymCache::parse` of v9/mod.rs over what follows the first eight bytes.
 use Prim.Native.Nat.{ℕ, _+_, _*_, _/_, _-_, _≤_, _<_, _^_}
 use mathlib.Core.List.{List}
-use mathlib.Core.Bool.{not}
+use mathlib.Core.Option.{Option, none, some}
+use mathlib.Core.Bool.{cond, not}
 use lib.Dec.{eqb, ltb}
 use lib.ListN.{length}
 use Rattle.raw.specs.declared.Header.{Header}
-use Rattle.raw.specs.Rows.{versionInfoAt, headerAt}
+use Rattle.raw.specs.declared.File.{File}
+use Rattle.raw.specs.declared.Function.{Function}
+use Rattle.raw.specs.declared.SourceLocation.{SourceLocation}
+use Rattle.raw.specs.Rows.{versionInfoAt, headerAt, fileAt, functionAt, locationAt}
 use Rattle.symcache.specs.declared.ErrorKind.the-variants as kind
 use Rattle.symcache.specs.declared.SymCache.{SymCache}
 use Rattle.symcache.specs.Answers.{Answer, gives, refusalOf, refuseIf, andThen}
@@ -93,3 +97,14 @@ pub record Within (n : ℕ) (c : SymCache) : Type 0 where
 unfoldable pub opened : List ℕ → Answer SymCache
 opened s =
     andThen (parsed s) (λ c. refuseIf (not (ascending (startAt s (c .ranges)) (c .«num_ranges»))) (refusalOf kind.UnorderedRanges) (gives c))
+
+-- ── The rows of a file that was read ──
+
+unfoldable pub locationIn : List ℕ → SymCache → ℕ → SourceLocation
+locationIn s c i = locationAt s (c .«source_locations» + 16 * i)
+
+unfoldable pub functionIn : List ℕ → SymCache → ℕ → Option Function
+functionIn s c i = cond (ltb i (c .«num_functions»)) (some (functionAt s (c .functions + 16 * i))) none
+
+unfoldable pub fileIn : List ℕ → SymCache → ℕ → Option File
+fileIn s c i = cond (ltb i (c .«num_files»)) (some (fileAt s (c .files + 24 * i))) none

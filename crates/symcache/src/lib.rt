@@ -5,8 +5,6 @@ ghost use Rattle.symcache.specs.Answers.{refusalOf, parseAnswer};
 ghost use Rattle.symcache.specs.Reader.{aligned, layoutOf, tested, Low, parsed, opened};
 use raw::Header;
 
-pub mod lookup;
-
 // Why a file is refused.
 pub enum ErrorKind {
     // Under 8 bytes.

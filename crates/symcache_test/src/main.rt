@@ -1,5 +1,17 @@
 // Replays what the original answered on written, damaged and random files: oracle/FORMAT.md, "Reader". A line is printed for each case, its checksum.
+use file_texts::GotString;
 use libc::STDOUT_FILENO;
+use lookup::FileStep;
+use lookup::Files;
+use lookup::Frame;
+use lookup::FrameFile;
+use lookup::FunctionStep;
+use lookup::Functions;
+use lookup::GotFile;
+use lookup::GotFunction;
+use lookup::LookedUp;
+use lookup::SourceLocations;
+use lookup::Step;
 use raw::File;
 use raw::Function;
 use raw::Header;
@@ -13,18 +25,6 @@ use replay::word;
 use symcache::ErrorKind;
 use symcache::Parsed;
 use symcache::SymCache;
-use symcache::lookup::FileStep;
-use symcache::lookup::Files;
-use symcache::lookup::Frame;
-use symcache::lookup::FrameFile;
-use symcache::lookup::FunctionStep;
-use symcache::lookup::Functions;
-use symcache::lookup::GotFile;
-use symcache::lookup::GotFunction;
-use symcache::lookup::LookedUp;
-use symcache::lookup::SourceLocations;
-use symcache::lookup::Step;
-use file_texts::GotString;
 
 // Words
 
@@ -98,7 +98,7 @@ fn add_file_rows(sum: u32, s: &[u8], n: u32) -> u32 {
     let mut now = sum;
     let mut i: u32 = 0;
     while i < n {
-        now = add_got_file(now, symcache::lookup::get_file(s, i));
+        now = add_got_file(now, lookup::get_file(s, i));
         i += 1;
     }
     now
@@ -115,7 +115,7 @@ fn add_function_rows(sum: u32, s: &[u8], n: u32) -> u32 {
     let mut now = sum;
     let mut i: u32 = 0;
     while i < n {
-        now = add_got_function(now, symcache::lookup::get_function(s, i));
+        now = add_got_function(now, lookup::get_function(s, i));
         i += 1;
     }
     now
@@ -327,7 +327,7 @@ fn add_walk(sum: u32, s: &[u8], walk: SourceLocations) -> u32 {
 }
 
 fn add_lookup(sum: u32, s: &[u8], address: u64) -> u32 {
-    let looked_up = symcache::lookup::lookup(s, address);
+    let looked_up = lookup::lookup(s, address);
     match looked_up {
         LookedUp::Walk(walk) => add_walk(sum, s, walk),
         LookedUp::Refused(kind) => add(sum, kind.number()),

@@ -1,7 +1,7 @@
 -- `find` meets its contract.
 use mathlib.Core.Path.{ap, _∙_}
 use Rattle.symcache.specs.declared.SymCache.{SymCache}
-use Rattle.symcache.specs.Lookup.{foundAt}
+use Rattle.lookup.specs.Lookup.{foundAt}
 use Rattle.c_reading.specs.Reading.{findCall}
 use borrow.Author.Needs.{needs}
 use Rattle.c_lookup.proofs.find.Statement.{statement}

@@ -1,6 +1,6 @@
 -- `lookup` meets its contract: what `lookup` gives, as words.
 use mathlib.Core.Path.{ap, _∙_}
-use Rattle.symcache.specs.declared.lookup.SourceLocations.{SourceLocations}
+use Rattle.lookup.specs.declared.SourceLocations.{SourceLocations}
 use Rattle.symcache.specs.Answers.{Answer}
 use Rattle.c_reading.specs.Reading.{answered, walkWords, lookupCall}
 use borrow.Author.Needs.{needs}

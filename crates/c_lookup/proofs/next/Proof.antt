@@ -2,9 +2,10 @@
 use mathlib.Core.Path.{ap, _∙_}
 use mathlib.Core.Option.{Option}
 use Prim.Native.Nat.{ℕ}
-use Rattle.symcache.specs.declared.lookup.SourceLocations.{SourceLocations}
-use Rattle.symcache.specs.Answers.{Answer, Framed}
-use Rattle.symcache.specs.Lookup.{stepped}
+use Rattle.lookup.specs.declared.SourceLocations.{SourceLocations}
+use Rattle.symcache.specs.Answers.{Answer}
+use Rattle.lookup.specs.Answers.{Framed}
+use Rattle.lookup.specs.Lookup.{stepped}
 use Rattle.c_reading.specs.Reading.{stepsTo, framedNext, framedWords, nextCall}
 use borrow.Author.Needs.{needs}
 use Rattle.c_lookup.proofs.next.Statement.{statement}

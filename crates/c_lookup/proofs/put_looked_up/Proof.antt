@@ -1,6 +1,7 @@
 -- `put_looked_up` meets its contract: by what the lookup gave.
 use mathlib.Core.Path.{ap}
-use Rattle.symcache.specs.Answers.{refusalOf, lookupAnswer}
+use Rattle.symcache.specs.Answers.{refusalOf}
+use Rattle.lookup.specs.Answers.{lookupAnswer}
 use Rattle.c_reading.specs.Reading.{walkWords}
 use Rattle.c_reading.proofs.ReadLaws.{given, declined}
 use borrow.Author.Needs.{needs}

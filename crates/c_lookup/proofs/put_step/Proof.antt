@@ -1,6 +1,7 @@
 -- `put_step` meets its contract: by what the step gave.
 use mathlib.Core.Path.{ap}
-use Rattle.symcache.specs.Answers.{refusalOf, stepAnswer}
+use Rattle.symcache.specs.Answers.{refusalOf}
+use Rattle.lookup.specs.Answers.{stepAnswer}
 use Rattle.c_reading.specs.Reading.{framedNext, framedWords}
 use Rattle.c_reading.proofs.ReadLaws.{moves, ends, stays}
 use borrow.Author.Needs.{needs}

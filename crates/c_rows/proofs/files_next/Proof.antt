@@ -2,9 +2,10 @@
 use mathlib.Core.Path.{ap, _∙_}
 use mathlib.Core.Option.{Option}
 use Prim.Native.Nat.{ℕ}
-use Rattle.symcache.specs.declared.lookup.SourceLocations.{SourceLocations}
-use Rattle.symcache.specs.Answers.{Answer, NextFile}
-use Rattle.symcache.specs.Lookup.{filesNext}
+use Rattle.lookup.specs.declared.SourceLocations.{SourceLocations}
+use Rattle.symcache.specs.Answers.{Answer}
+use Rattle.lookup.specs.Answers.{NextFile}
+use Rattle.lookup.specs.Lookup.{filesNext}
 use Rattle.c_reading.specs.Reading.{stepsTo, fileNext, nextFileWords, filesCall}
 use borrow.Author.Needs.{needs}
 use Rattle.c_rows.proofs.files_next.Statement.{statement}

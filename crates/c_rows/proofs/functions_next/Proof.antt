@@ -2,9 +2,10 @@
 use mathlib.Core.Path.{ap, _∙_}
 use mathlib.Core.Option.{Option}
 use Prim.Native.Nat.{ℕ}
-use Rattle.symcache.specs.declared.lookup.SourceLocations.{SourceLocations}
-use Rattle.symcache.specs.Answers.{Answer, NextFunction}
-use Rattle.symcache.specs.Lookup.{functionsNext}
+use Rattle.lookup.specs.declared.SourceLocations.{SourceLocations}
+use Rattle.symcache.specs.Answers.{Answer}
+use Rattle.lookup.specs.Answers.{NextFunction}
+use Rattle.lookup.specs.Lookup.{functionsNext}
 use Rattle.c_reading.specs.Reading.{stepsTo, functionNext, nextFunctionWords, functionsCall}
 use borrow.Author.Needs.{needs}
 use Rattle.c_rows.proofs.functions_next.Statement.{statement}

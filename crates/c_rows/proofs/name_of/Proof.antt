@@ -1,6 +1,7 @@
 -- `name_of` meets its contract: by whether there is the function.
 use mathlib.Core.Path.{ap, sym, _∙_}
-use Rattle.symcache.specs.Answers.{refusalOf, functionAnswer}
+use Rattle.symcache.specs.Answers.{refusalOf}
+use Rattle.lookup.specs.Answers.{functionAnswer}
 use Rattle.c_reading.proofs.ReadLaws.{name-found, name-nowhere, name-declined}
 use borrow.Author.Needs.{needs}
 use Rattle.c_rows.proofs.name_of.Statement.{statement}

@@ -5,7 +5,8 @@ use Prim.Native.Nat.{ℕ}
 use lib.ListN.{set}
 use lib.Seq.{sets}
 use Rattle.raw.specs.Rows.{fileWords}
-use Rattle.symcache.specs.Answers.{refusalOf, filesAnswer}
+use Rattle.symcache.specs.Answers.{refusalOf}
+use Rattle.lookup.specs.Answers.{filesAnswer}
 use Rattle.c_reading.specs.Reading.{fileNext, nextFileWords}
 use Rattle.c_reading.proofs.ReadLaws.{moves, ends, stays}
 use borrow.Author.Needs.{needs}

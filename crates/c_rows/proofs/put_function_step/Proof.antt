@@ -5,7 +5,8 @@ use Prim.Native.Nat.{ℕ}
 use lib.ListN.{set}
 use lib.Seq.{sets}
 use Rattle.raw.specs.Rows.{functionWords}
-use Rattle.symcache.specs.Answers.{refusalOf, functionsAnswer}
+use Rattle.symcache.specs.Answers.{refusalOf}
+use Rattle.lookup.specs.Answers.{functionsAnswer}
 use Rattle.c_reading.specs.Reading.{functionNext, nextFunctionWords}
 use Rattle.c_reading.proofs.ReadLaws.{moves, ends, stays}
 use borrow.Author.Needs.{needs}
