@@ -1,6 +1,5 @@
 // The reader and the lookup over words: a file read to the words of a cache, an address found, a walk between whose steps there are the words of a
-// cursor. The exported functions of these
-// names pass on what these answer.
+// cursor. The exported functions of these names pass on what these answer.
 ghost use mathlib.Core.Path.{_≡_};
 ghost use mathlib.Core.List.{[], _∷_};
 ghost use lib.ListN.{getD};
