@@ -11,6 +11,7 @@ use lib.Dec.{eqb, leb, ltb}
 use lib.ListN.{length, take, drop}
 use lib.Seq.{take-at}
 use borrow.Author.Tests.{eqb-true, le-leb, lt-ltb}
+use Rattle.slices.proofs.Cases.{none-some}
 use Rattle.model.specs.Basics.{_∈_, here, there, Covers}
 use Rattle.model.specs.Rows.{MAX, LineRow, FunctionRow, Given, tree-rows, symbol-row}
 use Rattle.model.specs.Converter.{Setup, converted}
@@ -18,7 +19,6 @@ use Rattle.model.specs.Frames.{frames-at}
 use Rattle.model.specs.Counts.{Capacities, plain-fits?}
 use Rattle.model.specs.Premises.{reach, Legal, WellNested, line-at, nested-at}
 use Rattle.model.specs.Written.{as-written}
-use Rattle.model.proofs.Chains.{none-some}
 use Rattle.model.proofs.Spans.{∈-elim, ∈-append, ∈-left}
 use Rattle.model.proofs.Demand.{demand-root, demand-stack, alone}
 use Rattle.model.proofs.Sections.{sections}

@@ -10,13 +10,13 @@ use native.Mathlib.Omega.{arith}
 use lib.Dec.{leb}
 use lib.ListN.{length}
 use borrow.Author.Tests.{leb-true, le-leb}
+use Rattle.slices.proofs.Cases.{false-true, both-true, both-of}
 use Rattle.model.specs.Basics.{Entry}
 use Rattle.model.specs.Rows.{Text, FunctionRow, SymbolRow}
 use Rattle.model.specs.Converter.{File, Function, Location, Tables}
 use Rattle.model.specs.Counts.{Capacities, Lent, text-bytes}
 use Rattle.model.specs.FileWords.{index-word, text-word}
 use Rattle.model.proofs.Intern.{At, Grows}
-use Rattle.model.proofs.Chains.{false-true, both-true, both-of}
 use Rattle.model.proofs.Always.{Within, InTables}
 use Rattle.model.proofs.FileRows.{FileIn}
 use Rattle.model.proofs.Grown.{Fits, needs, room}

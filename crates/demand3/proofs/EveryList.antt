@@ -11,13 +11,13 @@ use native.Mathlib.Omega.{arith}
 use lib.Dec.{eqb}
 use lib.ListN.{length}
 use borrow.Author.Tests.{eqb-true, eqb-false, eq-eqb, ne-eqb}
+use Rattle.slices.proofs.Cases.{none-some, both-true, both-of}
 use Rattle.text.specs.Utf8.{utf8}
 use Rattle.model.specs.Basics.{_∈_, here, there}
 use Rattle.model.specs.Rows.{Text, Given, symbol-row}
 use Rattle.model.specs.Machine.{convertM, startM, convert-symbolM, convert-opM, runM}
 use Rattle.model.specs.Converter.{Setup, Tables, input, deep, op, converted}
 use Rattle.model.specs.Counts.{plain-fits?}
-use Rattle.model.proofs.Chains.{none-some, both-true, both-of}
 use Rattle.model.proofs.Spans.{∈-elim, ∈-append}
 use Rattle.model.proofs.Compact.{GivenFits, SymbolFits}
 use Rattle.model.proofs.Grown.{room}

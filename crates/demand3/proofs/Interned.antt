@@ -10,13 +10,14 @@ use native.Mathlib.Omega.{arith}
 use lib.Dec.{eqb, ltb}
 use lib.ListN.{length, take, length-map}
 use borrow.Author.Tests.{eqb-true, eqb-false, eq-eqb, ne-eqb, ltb-true, ltb-false}
+use Rattle.slices.proofs.Cases.{false-true}
 use Rattle.model.specs.Basics.{Entry, Interned, intern}
 use Rattle.model.specs.Rows.{MAX, Text}
 use Rattle.model.specs.Converter.{Location, text-eq, intern-text, range-at, range-put}
 use Rattle.model.specs.Counts.{text-size, text-bytes, text-offset}
 use Rattle.model.specs.FileWords.{text-word}
 use Rattle.model.proofs.Intern.{At, Grows, intern-at, at-length}
-use Rattle.model.proofs.Chains.{false-true, text-eq-ok, store-grows, store-reads}
+use Rattle.model.proofs.Chains.{text-eq-ok, store-grows, store-reads}
 use Rattle.model.proofs.Always.{Within, reads-within}
 use Rattle.tables.specs.Table.{Left, capacityOf, insertOf, sameRow, sameWords, rowWords, keyOf, rowAt}
 use Rattle.tables.specs.Ranges.{getOf, putOf, locationOf}

@@ -7,11 +7,11 @@ use mathlib.Core.List.{List, [], _∷_, _++_, map}
 use Prim.Native.Nat.{ℕ}
 use lib.ListN.{length, replicate, length-replicate}
 use borrow.Author.Tests.{not-true, not-false}
+use Rattle.slices.proofs.Cases.{false-true}
 use Rattle.model.specs.Rows.{FunctionRow, SymbolRow, Given, tree-rows, symbol-row}
 use Rattle.model.specs.Machine.{convertM, startM, convert-symbolM, convert-opM, runM}
 use Rattle.model.specs.Converter.{Setup, Tables, nothing, input, deep, op, plain, converted}
 use Rattle.model.specs.Counts.{plain-fits?}
-use Rattle.model.proofs.Chains.{false-true}
 use Rattle.model.proofs.Grown.{room}
 use Rattle.model.proofs.Encoded.{AllowedGiven, encoded-call}
 use Rattle.table_laws.proofs.Sets as sets

@@ -9,12 +9,13 @@ use native.Mathlib.Omega.{arith}
 use lib.Dec.{ltb, eqb}
 use lib.ListN.{length}
 use borrow.Author.Tests.{ne-eqb}
+use Rattle.slices.proofs.Cases.{none-some}
 use Rattle.model.specs.Basics.{Entry, intern}
 use Rattle.model.specs.Rows.{MAX, LineRow, FunctionRow, SymbolRow}
 use Rattle.model.specs.Converter.{Setup, File, Function, Location, nowhere, at, Tables, is-nowhere, file-eq, function-eq, location-eq, intern-text, intern-six, function-name, symbol-name, line-texts, entry-of, range-at, begin-row, locate-line, begin-symbol, locate-symbol, enter-call, later, cleared}
 use Rattle.model.specs.FileWords.{index-word}
 use Rattle.model.proofs.Intern.{At, Grows, intern-grows}
-use Rattle.model.proofs.Chains.{none-some, file-eq-ok, function-eq-ok, location-eq-ok}
+use Rattle.model.proofs.Chains.{file-eq-ok, function-eq-ok, location-eq-ok}
 use Rattle.model.proofs.Always.{Within, InTables}
 use Rattle.model.proofs.Grown.{Grown}
 use Rattle.model.proofs.Couple.{Alike, vacant, held}

@@ -10,11 +10,11 @@ use native.Mathlib.Omega.{arith}
 use lib.Dec.{leb, ltb, eqb}
 use lib.ListN.{length, getD}
 use borrow.Author.Tests.{leb-true, ltb-true, eqb-true, not-true}
+use Rattle.slices.proofs.Cases.{false-true, both-true}
 use Rattle.model.specs.Basics.{_∈_, here, there, Span, Asc, Disjoint, Apart}
 use Rattle.model.specs.Rows.{MAX, Text, LineRow, FunctionRow, SymbolRow, Given, tree-rows, symbol-row, line-size, symbol-skipped}
 use Rattle.model.specs.Premises.{reaches, all-reaches, inlinees, RowWell, LastAt, InlineeWell, RowsWell, Named, Counted, NotIn, SymbolClear, Separate, AllSeparate}
 use Rattle.model.proofs.Spans.{∈-elim}
-use Rattle.model.proofs.Chains.{false-true, both-true}
 use Rattle.memory.specs.declared.Converter.{Converter}
 use Rattle.demand3.specs.Lists.{Call, tree, lines-tree, symbol, write, Standing, next, run, by-value, Typed}
 use Rattle.demand3.specs.Demand3.{Nested, Premises}

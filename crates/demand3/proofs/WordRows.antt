@@ -7,12 +7,12 @@ use mathlib.Core.List.{List, [], _∷_}
 use Prim.Native.Nat.{ℕ, zero, suc, _+_, _≤_, _<_}
 use native.Mathlib.Omega.{arith}
 use lib.ListN.{length}
+use Rattle.slices.proofs.Cases.{lt-or-ge}
 use Rattle.model.specs.Basics.{Entry}
 use Rattle.model.specs.Rows.{MAX, Text}
 use Rattle.model.specs.Converter.{File, Function, Location, nowhere, at, Tables}
 use Rattle.model.specs.Counts.{text-size, text-bytes, text-offset}
 use Rattle.model.specs.FileWords.{index-word, text-word, file-words, function-words, location-words}
-use Rattle.model.proofs.Maps.{lt-or-ge}
 use Rattle.model.proofs.Intern.{Grows}
 use Rattle.model.proofs.Chains.{six-path, Larger}
 use Rattle.model.proofs.Always.{Within, InTables}

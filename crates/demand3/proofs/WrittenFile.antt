@@ -11,13 +11,14 @@ use native.Mathlib.Omega.{arith}
 use lib.Dec.{ltb, leb, eqb}
 use lib.ListN.{length, getD, take, drop, length-map, length-append, List·getD-map}
 use borrow.Author.Tests.{ltb-true, ltb-false, eqb-true, eqb-false}
+use Rattle.slices.proofs.Cases.{none-some, both-of}
 use Rattle.text.specs.Leb128.{encoded}
 use Rattle.model.specs.Basics.{Span, Entry, before, place, sort}
 use Rattle.model.specs.Rows.{Text, Given}
 use Rattle.model.specs.Converter.{Setup, File, Function, Location, nowhere, at, Tables, range-at, converted}
 use Rattle.model.specs.Written.{place-range, by-start, as-written, locations}
 use Rattle.model.specs.FileWords.{file-words, function-words, location-words, starts, string-section}
-use Rattle.model.proofs.Chains.{none-some, both-of, range-here, range-there, Unique}
+use Rattle.model.proofs.Chains.{range-here, range-there, Unique}
 use Rattle.model.proofs.Always.{starts-unique, last-end-starts}
 use Rattle.model.proofs.Written.{by-start-same, by-start-length}
 use Rattle.model.proofs.FileRows.{section-length}

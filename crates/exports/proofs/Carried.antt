@@ -10,6 +10,7 @@ use lib.Dec.{eqb, ltb}
 use lib.ListN.{length, getD, List·getD-eq-default}
 use lib.Seq.{ext-getD}
 use borrow.Author.Tests.{le-ltb, ltb-true, ltb-false}
+use Rattle.slices.proofs.Cases.{both-true}
 use Rattle.slices.specs.Bytes.{le, leAt, bytesAt, wordBytes}
 use Rattle.slices.proofs.Bytes.{length-words, length-bytesAt, getD-bytesAt}
 use Rattle.rows.specs.Columns.{Columns}
@@ -17,7 +18,6 @@ use Rattle.rows.specs.Refusals.{refusalOf, optional?}
 use Rattle.rows.specs.declared.OptionalPart.{OptionalPart}
 use Rattle.model.specs.Machine.{convert-symbolM}
 use Rattle.model.specs.Converter.{input}
-use Rattle.model.proofs.Chains.{both-true}
 use Rattle.memory.specs.Memory.{Memory, Words}
 use Rattle.memory.specs.Record.{usableIn, fits?}
 use Rattle.steps.specs.Steps.{over-words}

@@ -3,7 +3,7 @@ use Prim.Native.Nat.{ℕ}
 use mathlib.Core.Path.{_≡_, refl}
 use mathlib.Core.List.{List, [], _∷_}
 use Rattle.listing.specs.declared.LineRead.the-variants.{Address, Bad}
-use Rattle.listing.specs.Line.{digitOf, allDigits, numberFrom, meaning, linesFrom}
+use Rattle.listing.specs.Line.{digitOf, allDigits, numberFrom, meaning, lines-after}
 use Rattle.listing.specs.Printed.{hexDigit, hexField, spaced, frameLine, noFrameLine, badLine, refusedLine}
 
 -- "1003"
@@ -17,8 +17,8 @@ unfolding meaning allDigits
 example-empty = refl
 
 -- "1003", 0A, "1010" without 0A
-example-input : linesFrom [] (49 ∷ 48 ∷ 48 ∷ 51 ∷ 10 ∷ 49 ∷ 48 ∷ 49 ∷ 48 ∷ []) ≡ (49 ∷ 48 ∷ 48 ∷ 51 ∷ []) ∷ (49 ∷ 48 ∷ 49 ∷ 48 ∷ []) ∷ []
-unfolding linesFrom
+example-input : lines-after [] (49 ∷ 48 ∷ 48 ∷ 51 ∷ 10 ∷ 49 ∷ 48 ∷ 49 ∷ 48 ∷ []) ≡ (49 ∷ 48 ∷ 48 ∷ 51 ∷ []) ∷ (49 ∷ 48 ∷ 49 ∷ 48 ∷ []) ∷ []
+unfolding lines-after
 example-input = refl
 
 -- '0000000000001003 00000000 00000002 00000001 00000032 00000001 0A'

@@ -10,20 +10,10 @@ use native.Mathlib.Omega.{arith}
 use lib.Dec.{leb, ltb, eqb}
 use lib.ListN.{length}
 use borrow.Author.Tests.{lt-ltb, le-leb, lt-leb, ltb-true, ltb-false, leb-true, leb-false, ne-eqb}
+use Rattle.slices.proofs.Cases.{lt-or-ge, both-true}
 use Rattle.listing.specs.declared.LineState.{LineState}
 use Rattle.listing.specs.declared.LineRead.the-variants.{Address, Bad}
-use Rattle.listing.specs.Line.{digitOf, allDigits, numberFrom, meaning, startOf, feedOf, finishOf, feedAll, linesFrom, runLines}
-
-le-or-lt : (a b : ℕ) → (a ≤ b) ⊎ (b < a)
-le-or-lt a b = go (leb a b) refl
-  where
-    go : (t : Bool) → leb a b ≡ t → (a ≤ b) ⊎ (b < a)
-    go true e = inl (leb-true a b e)
-    go false e = inr (leb-false a b e)
-
-both : (x y : Bool) → (x && y) ≡ true → (x ≡ true) × (y ≡ true)
-both true y e = (refl, e)
-both false y e = let z : _≡_ {A = ℕ} 0 1 = cc in absurd (omega arith)
+use Rattle.listing.specs.Line.{digitOf, allDigits, numberFrom, meaning, line-start, feedOf, finishOf, feedAll, lines-after, runLines}
 
 -- ---- the count
 few : (s : LineState) (line : List ℕ) → s .digits + length line ≤ 17 → (feedAll s line) .digits ≡ s .digits + length line
@@ -79,7 +69,7 @@ number : (s : LineState) (line : List ℕ) (k : ℕ) → s .value < 16 ^ k → k
 unfolding feedAll feedOf allDigits numberFrom
 number s [] k h l a = refl
 number s (b ∷ bs) k h l a =
-    let p = both (ltb (digitOf b) 16) (allDigits bs) a in
+    let p = both-true (ltb (digitOf b) 16) (allDigits bs) a in
     let d : digitOf b < 16 = ltb-true (digitOf b) 16 (p .0) in
     let w : 16 ^ k ≤ 16 ^ 15 = pow-le-pow-right (omega arith) {i = k} {j = 15} (omega arith) in
     let n : 16 ^ suc k ≡ 16 ^ k * 16 = pow-suc 16 k in
@@ -88,28 +78,28 @@ number s (b ∷ bs) k h l a =
     ∙ ap (λ (v : ℕ). numberFrom v bs) e
 
 -- ---- a whole line
-short : (line : List ℕ) → length line ≤ 16 → finishOf (feedAll startOf line) ≡ meaning line
-unfolding finishOf meaning startOf
+short : (line : List ℕ) → length line ≤ 16 → finishOf (feedAll line-start line) ≡ meaning line
+unfolding finishOf meaning line-start
 short line h =
-    let d : (feedAll startOf line) .digits ≡ length line = few startOf line (omega arith) ∙ zero-add (length line) in
-    let m : (feedAll startOf line) .bad ≡ not (allDigits line) = marked startOf line in
+    let d : (feedAll line-start line) .digits ≡ length line = few line-start line (omega arith) ∙ zero-add (length line) in
+    let m : (feedAll line-start line) .bad ≡ not (allDigits line) = marked line-start line in
     rw (d, m) (go (leb 1 (length line) && leb (length line) 16) (allDigits line) refl)
   where
     go : (t v : Bool) → allDigits line ≡ v
-        → cond (t && not (not v)) (Address ((feedAll startOf line) .value)) Bad ≡ cond (t && v) (Address (numberFrom 0 line)) Bad
+        → cond (t && not (not v)) (Address ((feedAll line-start line) .value)) Bad ≡ cond (t && v) (Address (numberFrom 0 line)) Bad
     go false v e = refl
     go true false e = refl
-    go true true e = ap Address (number startOf line 0 (omega arith) (omega arith) e)
+    go true true e = ap Address (number line-start line 0 (omega arith) (omega arith) e)
 
-long : (line : List ℕ) → 16 < length line → finishOf (feedAll startOf line) ≡ meaning line
-unfolding finishOf meaning startOf
+long : (line : List ℕ) → 16 < length line → finishOf (feedAll line-start line) ≡ meaning line
+unfolding finishOf meaning line-start
 long line h =
-    let d : (feedAll startOf line) .digits ≡ 17 = many startOf line (omega arith) (omega arith) in
+    let d : (feedAll line-start line) .digits ≡ 17 = many line-start line (omega arith) (omega arith) in
     rw (d, le-leb 1 (length line) (omega arith), lt-leb (length line) 16 h)
 
 -- Feeding the bytes of any line from the start, and finishing, gives what the line means.
-pub line-read : (line : List ℕ) → finishOf (feedAll startOf line) ≡ meaning line
-line-read line = ⊎-elim (short line) (long line) (le-or-lt (length line) 16)
+pub line-read : (line : List ℕ) → finishOf (feedAll line-start line) ≡ meaning line
+line-read line = ⊎-elim (long line) (short line) (lt-or-ge 16 (length line))
 
 -- ---- an input
 feed-last : (s : LineState) (line : List ℕ) (b : ℕ) → feedAll s (line ++ (b ∷ [])) ≡ feedOf (feedAll s line) b
@@ -118,28 +108,28 @@ feed-last s [] b = refl
 feed-last s (a ∷ line) b = feed-last (feedOf s a) line b
 
 -- something has come of the line at hand exactly where the count isn't 0
-begun : (a : ℕ) (line : List ℕ) → eqb ((feedAll startOf (a ∷ line)) .digits) 0 ≡ false
-unfolding startOf
+begun : (a : ℕ) (line : List ℕ) → eqb ((feedAll line-start (a ∷ line)) .digits) 0 ≡ false
+unfolding line-start
 begun a line =
-    ne-eqb ((feedAll startOf (a ∷ line)) .digits) 0
+    ne-eqb ((feedAll line-start (a ∷ line)) .digits) 0
     (λ e. ⊎-elim
-    (λ h. let d : (feedAll startOf (a ∷ line)) .digits ≡ 0 + suc (length line) = few startOf (a ∷ line) (omega arith) in omega arith)
-    (λ h. let d : (feedAll startOf (a ∷ line)) .digits ≡ 17 = many startOf (a ∷ line) (omega arith) (omega arith) in omega arith)
-    (le-or-lt (suc (length line)) 16))
+    (λ h. let d : (feedAll line-start (a ∷ line)) .digits ≡ 17 = many line-start (a ∷ line) (omega arith) (omega arith) in omega arith)
+    (λ h. let d : (feedAll line-start (a ∷ line)) .digits ≡ 0 + suc (length line) = few line-start (a ∷ line) (omega arith) in omega arith)
+    (lt-or-ge 16 (suc (length line))))
 
-run-read : (line input : List ℕ) → runLines (feedAll startOf line) input ≡ map meaning (linesFrom line input)
-unfolding runLines linesFrom feedAll startOf
+run-read : (line input : List ℕ) → runLines (feedAll line-start line) input ≡ map meaning (lines-after line input)
+unfolding runLines lines-after feedAll line-start
 run-read [] [] = refl
 run-read (a ∷ line) [] = rw (begun a line, line-read (a ∷ line))
-run-read line (b ∷ rest) = go (eqb b 10) (run-read [] rest) (rw (← feed-last startOf line b) (run-read (line ++ (b ∷ [])) rest))
+run-read line (b ∷ rest) = go (eqb b 10) (run-read [] rest) (rw (← feed-last line-start line b) (run-read (line ++ (b ∷ [])) rest))
   where
-    go : (t : Bool) → runLines startOf rest ≡ map meaning (linesFrom [] rest) → runLines (feedOf (feedAll startOf line) b) rest ≡ map meaning (linesFrom (line ++ (b ∷ [])) rest)
-        → cond t (finishOf (feedAll startOf line) ∷ runLines startOf rest) (runLines (feedOf (feedAll startOf line) b) rest)
-        ≡ map meaning (cond t (line ∷ linesFrom [] rest) (linesFrom (line ++ (b ∷ [])) rest))
+    go : (t : Bool) → runLines line-start rest ≡ map meaning (lines-after [] rest) → runLines (feedOf (feedAll line-start line) b) rest ≡ map meaning (lines-after (line ++ (b ∷ [])) rest)
+        → cond t (finishOf (feedAll line-start line) ∷ runLines line-start rest) (runLines (feedOf (feedAll line-start line) b) rest)
+        ≡ map meaning (cond t (line ∷ lines-after [] rest) (lines-after (line ++ (b ∷ [])) rest))
     go true e f = rw (line-read line, e)
     go false e f = f
 
 -- Run over any input byte by byte, the lister finds the meanings of its lines, in order.
-pub lines-read : (input : List ℕ) → runLines startOf input ≡ map meaning (linesFrom [] input)
+pub lines-read : (input : List ℕ) → runLines line-start input ≡ map meaning (lines-after [] input)
 unfolding feedAll
 lines-read input = run-read [] input

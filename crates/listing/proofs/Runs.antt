@@ -2,18 +2,14 @@
 use Prim.Native.Nat.{ℕ, zero, suc, _+_, _-_, _/_, _%_, _<_, _≤_}
 use mathlib.Core.Path.{_≡_, refl, sym, _∙_, ap}
 use mathlib.Core.List.{List, [], _∷_, _++_}
-use native.Mathlib.Numerals.{add-one}
+use mathlib.Core.Logic.{inr}
 use native.Mathlib.Omega.{arith}
-use lib.ListN.{length, getD, set, drop, length-append}
-use lib.Seq.{sets, length-sets, set-comm, drop-cons}
-use Rattle.listing.specs.Printed.{hexDigit, hexField, spaced, wrote, putLine}
+use lib.ListN.{length, set, length-append}
+use lib.Seq.{sets, length-sets}
+use Rattle.slices.proofs.Bytes.{sets-join}
+use Rattle.slices.proofs.Runs.{set-apart}
+use Rattle.listing.specs.Printed.{hexDigit, hexField, spaced, wrote-line, putLine}
 use borrow.Author.Tests.{le-leb, lt-leb}
-
--- a store behind a run may come before it
-sets-before : (vs s : List ℕ) (at j x : ℕ) → at + length vs ≤ j → sets (set s j x) at vs ≡ set (sets s at vs) j x
-sets-before [] s at j x h = refl
-sets-before (v ∷ vs) s at j x h =
-    rw (set-comm s j at x v (λ e. omega arith)) (sets-before vs (set s at v) (suc at) j x (omega arith))
 
 -- the last element of a run
 sets-last : (vs s : List ℕ) (at j x : ℕ) → j ≡ at + length vs → sets s at (vs ++ (x ∷ [])) ≡ set (sets s at vs) j x
@@ -37,17 +33,13 @@ hex-turn s at (suc w) v h =
     let e : suc w - 1 ≡ w = omega arith in
     let l = hex-length w (v / 16) in
     rw e
-    (sets-before (hexField w (v / 16)) s at (at + w) (hexDigit (v % 16)) (omega (arith, l))
+    (set-apart (hexField w (v / 16)) s at (at + w) (hexDigit (v % 16)) (inr (omega (arith, l)))
     ∙ sym (sets-last (hexField w (v / 16)) s at (at + w) (hexDigit (v % 16)) (omega (arith, l))))
 
 -- what calls in a row have stored: `vs` from `at` on, up to `n`
 pub record Run (s : List ℕ) (at : ℕ) (vs s′ : List ℕ) (n : ℕ) : Type 0 where
   pub stored : s′ ≡ sets s at vs
   pub ends : n ≡ at + length vs
-
-sets-join : (vs ws s : List ℕ) (at n : ℕ) → n ≡ at + length vs → sets (sets s at vs) n ws ≡ sets s at (vs ++ ws)
-sets-join [] ws s at n e = let e′ : n ≡ at = omega arith in rw e′
-sets-join (v ∷ vs) ws s at n e = sets-join vs ws (set s at v) (suc at) n (omega arith)
 
 -- one call more
 pub more : {s : List ℕ} {at : ℕ} {vs s₁ : List ℕ} {n : ℕ} (ws : List ℕ) (m : ℕ) {s₂ : List ℕ}
@@ -56,13 +48,6 @@ more {s} {at} {vs} {s₁} {n} ws m r e h = record {
   stored = e ∙ ap (λ (l : List ℕ). sets l n ws) (r .stored) ∙ sets-join vs ws s at n (r .ends);
   ends = omega (arith, length-append vs ws, r .ends);
 }
-
--- one turn of `put_bytes`: the byte at i is stored, and the rest is to come
-pub bytes-turn : (s b : List ℕ) (at i : ℕ) → i < length b
-    → sets (set s (at + i) (getD b i 0)) (at + (i + 1)) (drop (i + 1) b) ≡ sets s (at + i) (drop i b)
-bytes-turn s b at i h =
-    let e : at + suc i ≡ suc (at + i) = omega arith in
-    rw (add-one i, e, drop-cons b i 0 h)
 
 -- no digit is left
 pub hex-done : (s : List ℕ) (at left v : ℕ) → left ≤ 0 → sets s at (hexField left v) ≡ s
@@ -75,11 +60,11 @@ unfolding spaced
 spaced-length v = ap suc (hex-length 8 v)
 
 -- ---- a whole line
-pub no-room : (s line : List ℕ) (at n : ℕ) → length line ≡ n → length s < at + n → wrote at s ≡ putLine s at line
+pub no-room : (s line : List ℕ) (at n : ℕ) → length line ≡ n → length s < at + n → wrote-line at s ≡ putLine s at line
 unfolding putLine
 no-room s line at n e h = rw (e, lt-leb (at + n) (length s) h)
 
-pub printed : (s : List ℕ) (at : ℕ) (line : List ℕ) {s′ : List ℕ} {m : ℕ} → m ≤ length s → Run s at line s′ m → wrote m s′ ≡ putLine s at line
+pub printed : (s : List ℕ) (at : ℕ) (line : List ℕ) {s′ : List ℕ} {m : ℕ} → m ≤ length s → Run s at line s′ m → wrote-line m s′ ≡ putLine s at line
 unfolding putLine
 printed s at line {s′} {m} h r = rw (r .stored, ← r .ends, le-leb m (length s) h)
 

@@ -31,8 +31,8 @@ meaning line = cond (leb 1 (length line) && leb (length line) 16 && allDigits li
 
 -- what `start`, `feed` and `finish` give: the bytes so far, counted up to 17, the number that they write, modulo 2^64,
 -- and whether one of them was no digit
-unfoldable pub startOf : LineState
-startOf = record { digits = 0; value = 0; bad = false }
+unfoldable pub line-start : LineState
+line-start = record { digits = 0; value = 0; bad = false }
 
 -- 1152921504606846976 is 2^60
 unfoldable pub feedOf : LineState → ℕ → LineState
@@ -52,12 +52,12 @@ feedAll s (b ∷ bs) = feedAll (feedOf s b) bs
 
 -- "Lines end with byte 0A ..; bytes after the last 0A, if any, are a line": the lines of an input, where `line` is
 -- what has come of the line at hand
-unfoldable pub linesFrom : List ℕ → List ℕ → List (List ℕ)
-linesFrom [] [] = []
-linesFrom (b ∷ bs) [] = (b ∷ bs) ∷ []
-linesFrom line (b ∷ rest) = cond (eqb b 10) (line ∷ linesFrom [] rest) (linesFrom (line ++ (b ∷ [])) rest)
+unfoldable pub lines-after : List ℕ → List ℕ → List (List ℕ)
+lines-after [] [] = []
+lines-after (b ∷ bs) [] = (b ∷ bs) ∷ []
+lines-after line (b ∷ rest) = cond (eqb b 10) (line ∷ lines-after [] rest) (lines-after (line ++ (b ∷ [])) rest)
 
 -- what the lister makes of its input byte by byte, with the state `s` of the line at hand
 unfoldable pub runLines : LineState → List ℕ → List LineRead
 runLines s [] = cond (eqb (s .digits) 0) [] (finishOf s ∷ [])
-runLines s (b ∷ rest) = cond (eqb b 10) (finishOf s ∷ runLines startOf rest) (runLines (feedOf s b) rest)
+runLines s (b ∷ rest) = cond (eqb b 10) (finishOf s ∷ runLines line-start rest) (runLines (feedOf s b) rest)

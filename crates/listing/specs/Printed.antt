@@ -42,9 +42,9 @@ pub record Wrote : Type 0 where
   pub next : ℕ
   pub out : List ℕ
 
-abbrev pub wrote : ℕ → List ℕ → Wrote
-wrote n s = record { next = n; out = s }
+abbrev pub wrote-line : ℕ → List ℕ → Wrote
+wrote-line n s = record { next = n; out = s }
 
 -- the line from `at` on, and the place after it; where it has no room, nothing changes and the answer is `at`
 unfoldable pub putLine : List ℕ → ℕ → List ℕ → Wrote
-putLine out at line = cond (leb (at + length line) (length out)) (wrote (at + length line) (sets out at line)) (wrote at out)
+putLine out at line = cond (leb (at + length line) (length out)) (wrote-line (at + length line) (sets out at line)) (wrote-line at out)

@@ -5,8 +5,8 @@ ghost use Prim.Native.Nat.{_+_, _*_, _%_, _<_, _≤_};
 ghost use lib.ListN.{length};
 ghost use lib.Seq.{sets};
 ghost use lib.Dec.{eqb, ltb};
-ghost use Rattle.listing.specs.Line.{digitOf, startOf, feedOf, finishOf};
-ghost use Rattle.listing.specs.Printed.{hexDigit, hexField, spaced, frameLine, noFrameLine, badLine, refusedLine, wrote, putLine};
+ghost use Rattle.listing.specs.Line.{digitOf, line-start, feedOf, finishOf};
+ghost use Rattle.listing.specs.Printed.{hexDigit, hexField, spaced, frameLine, noFrameLine, badLine, refusedLine, wrote-line, putLine};
 
 // What is kept of the line that is being read: its bytes, counted up to 17, the number that its digits write,
 // and whether a byte was no digit.
@@ -47,7 +47,7 @@ fn one_more(n: u32) -> u32
 impl LineState {
     // Before a line's first byte.
     pub fn start() -> LineState
-        ensures { λ r. ⌜ r ≡ startOf ⌝ }
+        ensures { λ r. ⌜ r ≡ line-start ⌝ }
     {
         LineState {
             digits: 0,
@@ -148,7 +148,7 @@ pub fn frame_line(
     line: u32,
     file: u32,
 ) -> usize
-    ensures { λ r. ⌜ wrote r (now (out .exit)) ≡ putLine (now (out .entry)) at (frameLine address number location function line file) ⌝ }
+    ensures { λ r. ⌜ wrote-line r (now (out .exit)) ≡ putLine (now (out .entry)) at (frameLine address number location function line file) ⌝ }
 {
     if out.len() < 62 {
         return at;
@@ -168,7 +168,7 @@ pub fn frame_line(
 
 // No frame: 26 bytes.
 pub fn no_frame_line(out: &mut [u8], at: usize, address: u64) -> usize
-    ensures { λ r. ⌜ wrote r (now (out .exit)) ≡ putLine (now (out .entry)) at (noFrameLine address) ⌝ }
+    ensures { λ r. ⌜ wrote-line r (now (out .exit)) ≡ putLine (now (out .entry)) at (noFrameLine address) ⌝ }
 {
     if out.len() < 26 {
         return at;
@@ -184,7 +184,7 @@ pub fn no_frame_line(out: &mut [u8], at: usize, address: u64) -> usize
 
 // A bad line, with its number: 11 bytes.
 pub fn bad_line(out: &mut [u8], at: usize, number: u32) -> usize
-    ensures { λ r. ⌜ wrote r (now (out .exit)) ≡ putLine (now (out .entry)) at (badLine number) ⌝ }
+    ensures { λ r. ⌜ wrote-line r (now (out .exit)) ≡ putLine (now (out .entry)) at (badLine number) ⌝ }
 {
     if out.len() < 11 {
         return at;
@@ -212,7 +212,7 @@ fn put_bytes(out: &mut [u8], at: usize, word: &[u8])
 
 // A refused file, with the number of the refusal: 11 bytes.
 pub fn refused_line(out: &mut [u8], at: usize, number: u32) -> usize
-    ensures { λ r. ⌜ wrote r (now (out .exit)) ≡ putLine (now (out .entry)) at (refusedLine number) ⌝ }
+    ensures { λ r. ⌜ wrote-line r (now (out .exit)) ≡ putLine (now (out .entry)) at (refusedLine number) ⌝ }
 {
     if out.len() < 11 {
         return at;

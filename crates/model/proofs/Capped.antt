@@ -7,11 +7,11 @@ use mathlib.Core.Logic.{_⊎_, inl, inr, ⊎-elim}
 use mathlib.Core.List.{List, map}
 use Prim.Native.Nat.{ℕ}
 use native.Mathlib.Omega.{arith}
+use Rattle.slices.proofs.Cases.{false-true}
 use Rattle.model.specs.Rows.{LineRow, FunctionRow, SymbolRow, Given, tree-rows, symbol-row}
 use Rattle.model.specs.Machine.{Machine, runM}
 use Rattle.model.specs.Converter.{input, op, Setup, Location, nowhere, at, Tables, nothing, is-nowhere, range-at, put-at, begin-row, locate-line, begin-symbol, locate-symbol, enter-call, later, cleared, ending, plain, converted}
 use Rattle.model.specs.Counts.{Capacities, plain-fits?}
-use Rattle.model.proofs.Chains.{false-true}
 use Rattle.model.proofs.Couple.{Limits, Alike, vacant, held}
 use Rattle.model.proofs.Encoded.{Encoding, Holds, Goes, Encodes, AllowedGiven, encoded-list}
 

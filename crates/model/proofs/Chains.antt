@@ -9,30 +9,17 @@ use native.Mathlib.Omega.{arith}
 use lib.ListN.{length, getElem?}
 use lib.Dec.{eqb}
 use borrow.Author.Tests.{eqb-true, eq-eqb, ne-eqb, le-leb, lt-leb}
+use Rattle.slices.proofs.Cases.{lt-or-ge, eq-or-ne, both-true, false-true, none-some}
 use Rattle.model.specs.Basics.{Entry}
 use Rattle.model.specs.Rows.{Text}
 use Rattle.model.specs.Converter.{Six, File, Function, Location, nowhere, at, Tables, opt-eq, text-eq, file-eq, function-eq, location-eq, is-nowhere, intern-text, intern-six, range-at, range-put}
 use Rattle.model.specs.Frames.{Frame, read, read-six, file-at, function-at, frame-of, caller-of, callers, frames-of, better, best, known, known-six}
-use Rattle.model.proofs.Maps.{lt-or-ge, eq-or-ne}
 use Rattle.model.proofs.Intern.{At, Grows, intern-at, intern-grows, at-length, at-getD}
 
 -- ── Tests and options ──
 
-pub false-true : {A : Type 0} → _≡_ {A = Bool} false true → A
-false-true e = let bad : _≡_ {A = ℕ} 0 1 = cc in absurd (omega arith)
-
-pub none-some : {L A : Type 0} {l : L} → _≡_ {A = Option L} none (some l) → A
-none-some e = let bad : _≡_ {A = ℕ} 0 1 = cc in absurd (omega arith)
-
 pub some-eq : {A : Type 0} {p q : A} → _≡_ {A = Option A} (some p) (some q) → p ≡ q
 some-eq r = cc
-
-pub both-true : (a b : Bool) → (a && b) ≡ true → (a ≡ true) × (b ≡ true)
-both-true true b e = (refl, e)
-both-true false b e = false-true e
-
-pub both-of : (a b : Bool) → a ≡ true → b ≡ true → (a && b) ≡ true
-both-of a b p q = rw p q
 
 -- ── The equality tests ──
 

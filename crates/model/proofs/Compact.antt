@@ -9,6 +9,7 @@ use Prim.Native.Nat.{ℕ, zero, suc, _+_, _≤_}
 use native.Mathlib.Omega.{arith}
 use lib.ListN.{length}
 use lib.Dec.{ltb, leb, eqb}
+use Rattle.slices.proofs.Cases.{eq-or-ne, false-true, both-of}
 use Rattle.text.specs.Utf8.{utf8}
 use Rattle.names.specs.Names.{undecorated}
 use Rattle.names.proofs.Kept.{utf8-kept}
@@ -17,10 +18,9 @@ use Rattle.model.specs.Basics.{_∈_, Deep, intern}
 use Rattle.model.specs.Rows.{MAX, Text, LineRow, FunctionRow, SymbolRow, Given, tree-rows, symbol-row, skipped, function-end, symbol-skipped, symbol-end}
 use Rattle.model.specs.Machine.{unless-held, put-end, entryM, closingM, named-symbolM}
 use Rattle.model.specs.Converter.{input, deep, op, Setup, Six, File, Function, Location, nowhere, at, Tables, nothing, opt-eq, text-eq, file-eq, function-eq, location-eq, is-nowhere, intern-text, intern-six, or-empty, function-name, symbol-name, directory-of, line-texts, entry-of, range-at, range-put, put-at, begin-row, locate-line, begin-symbol, locate-symbol, enter-call, plain, converted}
-use Rattle.model.proofs.Maps.{eq-or-ne}
 use Rattle.model.proofs.Spans.{map-∈}
 use Rattle.model.proofs.Intern.{At, intern-new, at-length}
-use Rattle.model.proofs.Chains.{false-true, some-eq, both-of, put-same, put-other}
+use Rattle.model.proofs.Chains.{some-eq, put-same, put-other}
 use Rattle.model.proofs.Couple.{Couple, Limits, Preserves, Allowed, run-both}
 use Rattle.model.proofs.Always.{blank}
 

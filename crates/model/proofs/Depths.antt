@@ -7,9 +7,9 @@ use Prim.Native.Nat.{ℕ, suc, _≤_, _<_}
 use native.Mathlib.Omega.{arith}
 use lib.Dec.{ltb, eqb}
 use borrow.Author.Tests.{lt-ltb, le-ltb, eq-eqb, ne-eqb}
+use Rattle.slices.proofs.Cases.{lt-or-ge, eq-or-ne}
 use Rattle.model.specs.Basics.{_∈_, here, there, Deep}
 use Rattle.model.proofs.Ideal.{Row, Forest, nil, row, preorder}
-use Rattle.model.proofs.Maps.{lt-or-ge, eq-or-ne}
 
 module _ {A : Type 0} where
   -- the first depth is at most d, and each other at most one more than that before it

@@ -8,6 +8,7 @@ use Prim.Native.Nat.{ℕ, zero, suc, _+_, _≤_, _<_}
 use native.Mathlib.Omega.{arith}
 use lib.Dec.{ltb, leb, eqb}
 use borrow.Author.Tests.{lt-ltb, le-ltb, le-leb, lt-leb, eq-eqb, ne-eqb, leb-true, eqb-false, ltb-false}
+use Rattle.slices.proofs.Cases.{lt-or-ge, eq-or-ne}
 use Rattle.model.specs.Basics.{_∈_, here, there, Span, Deep, items, Asc, Apart, coversb, Covers}
 use Rattle.model.specs.Rows.{MAX, cut32, Text, LineRow, FunctionRow, SymbolRow, Given, tree-rows, symbol-row, line-size, boundaries, skipped, function-end, symbol-skipped, symbol-end}
 use Rattle.model.specs.Machine.{OpM}
@@ -15,7 +16,6 @@ use Rattle.model.specs.Converter.{input, deep, op, Setup}
 use Rattle.model.specs.Frames.{Frame}
 use Rattle.model.specs.Premises.{reach, reaches, all-reaches, inlinees, Legal, RowWell, LastAt, InlineeWell, RowsWell, TreeWell, WellNested, Named, Counted, NotIn, SymbolClear, Separate, AllSeparate, wanted, line-at, nested-at, stack-of}
 use Rattle.model.proofs.Ideal.{Line, Row, Op, idle, Nested, Forest, nil, row, spans, spans-of, LastEnd, Within, WellRow, WellInlinee, WellTree, Well, Clear, ClearOps, AllClear, frame-at, stack-at, covering, preorder}
-use Rattle.model.proofs.Maps.{lt-or-ge, eq-or-ne}
 use Rattle.model.proofs.Spans.{∈-elim, ∈-map, map-∈, ∈-cases, covered?, Out}
 use Rattle.model.proofs.Trees.{stack-skip}
 use Rattle.model.proofs.Stacks.{plain-tree, root-covers}

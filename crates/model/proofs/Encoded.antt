@@ -6,13 +6,14 @@ use mathlib.Core.Option.{Option, none, some}
 use mathlib.Core.Logic.{_⊎_, inl, inr, ⊎-elim}
 use mathlib.Core.List.{List, map}
 use Prim.Native.Nat.{ℕ}
+use Rattle.slices.proofs.Cases.{false-true}
 use Rattle.model.specs.Basics.{_∈_, Deep}
 use Rattle.model.specs.Rows.{LineRow, FunctionRow, SymbolRow, Given, tree-rows, symbol-row, boundaries, skipped, function-end, symbol-skipped, symbol-end}
 use Rattle.model.specs.Machine.{Machine, convert-opM, runM, finishM}
 use Rattle.model.specs.Converter.{input, deep, op, Setup, Location, nowhere, at, Tables, nothing, is-nowhere, range-at, put-at, begin-row, locate-line, begin-symbol, locate-symbol, enter-call, later, cleared, ending, plain, converted}
 use Rattle.model.specs.Counts.{Capacities, plain-fits?}
 use Rattle.model.proofs.Spans.{map-∈}
-use Rattle.model.proofs.Chains.{false-true, Larger}
+use Rattle.model.proofs.Chains.{Larger}
 use Rattle.model.proofs.Keeps.{Any, larger-refl, larger-trans, put-larger, ending-larger, begin-larger, locate-larger, enter-larger, begin-symbol-larger, locate-symbol-larger}
 use Rattle.model.proofs.Couple.{Couple, Limits, Next, Allowed, op-both, run-both, Alike, Single, single-preserves, finish-both}
 use Rattle.model.proofs.Grown.{exceeds-up, fits-nothing, Grown, grown-refl, grown-trans, put-grown, begin-grown, locate-grown, enter-grown, symbol-name-grown, symbol-location-grown, mark-grown}

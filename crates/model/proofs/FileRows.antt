@@ -8,11 +8,12 @@ use mathlib.Core.List.{List, [], _∷_, _++_, map, append-assoc}
 use Prim.Native.Nat.{ℕ, zero, suc, _+_, _^_, _≤_, _<_}
 use native.Mathlib.Omega.{arith}
 use lib.ListN.{length, take, drop, getD, getElem?, length-append, length-map}
+use Rattle.slices.proofs.Cases.{lt-or-ge}
 use Rattle.text.specs.Leb128.{encoded}
 use Rattle.text.specs.Texts.{read-text, bytes-of, text-part}
 use Rattle.text.specs.declared.strings.Text as text-type
 use Rattle.text.specs.declared.strings.Text.the-variants as text
-use Rattle.text.proofs.Leb128Laws.{lt-or-ge, length-last, length-more, decoded-past}
+use Rattle.text.proofs.Leb128Laws.{length-last, length-more, decoded-past}
 use Rattle.text.proofs.TextLaws.{read-stored, part-stored, absent-prefix}
 use Rattle.model.specs.Basics.{_∈_, Entry}
 use Rattle.model.specs.Rows.{MAX, Text, Given}

@@ -9,12 +9,12 @@ use native.Mathlib.Omega.{arith}
 use lib.ListN.{length}
 use lib.Dec.{leb, eqb}
 use borrow.Author.Tests.{leb-true, le-leb}
+use Rattle.slices.proofs.Cases.{false-true, both-true, both-of}
 use Rattle.model.specs.Basics.{Entry, intern}
 use Rattle.model.specs.Rows.{Text, LineRow, FunctionRow, SymbolRow, Given}
 use Rattle.model.specs.Machine.{OpM, treeM, symbolM, unless-held, put-end, entryM, closingM, named-symbolM, convert-opM, runM}
 use Rattle.model.specs.Converter.{input, op, Setup, Six, File, Function, Location, nowhere, at, Tables, nothing, text-eq, file-eq, function-eq, location-eq, is-nowhere, intern-text, intern-six, function-name, symbol-name, line-texts, range-at, range-put, put-at, begin-row, locate-line, begin-symbol, locate-symbol, enter-call, plain, converted}
 use Rattle.model.specs.Counts.{Capacities, plain-fits?, text-size, text-bytes}
-use Rattle.model.proofs.Chains.{false-true, both-true, both-of}
 use Rattle.model.proofs.Couple.{Couple, Limits, Preserves, Allowed, run-both}
 use Rattle.model.proofs.Always.{blank}
 

@@ -8,11 +8,11 @@ use Prim.Native.Nat.{ℕ}
 use native.Mathlib.Omega.{arith}
 use lib.ListN.{length}
 use lib.Dec.{ltb}
+use Rattle.slices.proofs.Cases.{eq-or-ne}
 use Rattle.model.specs.Basics.{Entry, intern}
 use Rattle.model.specs.Rows.{MAX, cut32, Text, LineRow, FunctionRow, SymbolRow}
 use Rattle.model.specs.Converter.{Setup, Six, File, Function, Location, at, Tables, nothing, file-eq, function-eq, location-eq, intern-text, intern-six, range-at, range-put, later, cleared, function-name, symbol-name, line-texts, entry-of, put-at, begin-row, locate-line, begin-symbol, locate-symbol, enter-call, ending, plain}
 use Rattle.model.specs.Frames.{Frame, known, known-six}
-use Rattle.model.proofs.Maps.{eq-or-ne}
 use Rattle.model.proofs.Means.{Means}
 use Rattle.model.proofs.Simulate.{Relates, Laws}
 use Rattle.model.proofs.Intern.{At, Grows, intern-at, intern-grows, intern-new}

@@ -6,9 +6,9 @@ use mathlib.Core.List.{List, [], _∷_, _++_, map}
 use Prim.Native.Nat.{ℕ, suc, _≤_, _<_}
 use native.Mathlib.Omega.{arith}
 use borrow.Author.Tests.{le-ltb, le-leb, lt-leb}
+use Rattle.slices.proofs.Cases.{lt-or-ge}
 use Rattle.model.specs.Basics.{_∈_, here, there, Span, Asc, Covers}
 use Rattle.model.proofs.Ideal.{Line, Map, Call, Walked, Looped, Cursor, walk, advance, loop, spans-of, Within}
-use Rattle.model.proofs.Maps.{lt-or-ge}
 use Rattle.model.proofs.Spans.{∈-cases, ∈-elim, ∈-map, ∈-left, ∈-right, asc-from, asc-pos, asc-raise}
 use Rattle.model.proofs.Walk.{call, CallsAsc, calls-lower, Self, WalkPost, walk-post}
 

@@ -9,10 +9,11 @@ use native.Mathlib.Omega.{arith}
 use lib.ListN.{length}
 use lib.Dec.{ltb, eqb}
 use borrow.Author.Tests.{le-leb, lt-leb}
+use Rattle.slices.proofs.Cases.{lt-or-ge, eq-or-ne}
 use Rattle.model.specs.Basics.{_∈_, here, there, Span, items, depths, upto, Covers, Deep, sort}
 use Rattle.model.specs.Machine.{Input, Machine, OpM, treeM, symbolM, Ref, WalkedM, LoopedM, CursorM, advanceM, set-atM, kid-spansM, unless-held, put-end, walkM, loopM, entryM, closingM, rowM, convertM, startM, named-symbolM, convert-symbolM, convert-opM, runM, finishM}
 use Rattle.model.proofs.Ideal.{Row, Map, insert, insert-soft, insert-end, Call, Walked, Looped, Cursor, walk, advance, loop, nil, row, Op, empty, look, spans-of, convert-symbol, convert-op, run, preorder, covering, stack-at, Well, AllClear}
-use Rattle.model.proofs.Maps.{lt-or-ge, eq-or-ne, insert-same, insert-other, look-down}
+use Rattle.model.proofs.Maps.{insert-same, insert-other, look-down}
 use Rattle.model.proofs.Spans.{∈-elim, ∈-map, map-∈}
 use Rattle.model.proofs.Stacks.{plain-tree}
 use Rattle.model.proofs.Theorem.{demand, run-sees}

@@ -8,9 +8,10 @@ use Prim.Native.Nat.{ℕ, suc, _≤_, _<_}
 use native.Mathlib.Omega.{arith}
 use lib.Dec.{ltb}
 use borrow.Author.Tests.{lt-ltb, le-ltb}
+use Rattle.slices.proofs.Cases.{lt-or-ge}
 use Rattle.model.specs.Basics.{_∈_, here, there, Span, Asc, Covers}
 use Rattle.model.proofs.Ideal.{Map, insert, Call, Walked, walk}
-use Rattle.model.proofs.Maps.{lt-or-ge, insert-same, insert-other}
+use Rattle.model.proofs.Maps.{insert-same, insert-other}
 use Rattle.model.proofs.Spans.{∈-cases, asc-from}
 
 module _ {F : Type 0} where

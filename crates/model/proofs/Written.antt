@@ -10,16 +10,16 @@ use native.Mathlib.Omega.{arith}
 use lib.ListN.{length, getElem?, length-append}
 use lib.Dec.{ltb}
 use borrow.Author.Tests.{le-leb, lt-leb, lt-ltb, le-ltb, eq-eqb, ne-eqb}
+use Rattle.slices.proofs.Cases.{lt-or-ge, eq-or-ne, none-some}
 use Rattle.model.specs.Basics.{_∈_, here, there, Entry, items, depths, upto}
 use Rattle.model.specs.Rows.{MAX, FunctionRow, Given, tree-rows}
 use Rattle.model.specs.Converter.{Setup, Location, at, Tables, range-at, converted}
 use Rattle.model.specs.Frames.{Frame, frame-of, caller-of, frames-of, best, frames-at}
 use Rattle.model.specs.Premises.{WellNested, AllSeparate, nested-at}
 use Rattle.model.specs.Written.{place-range, by-start, over, as-written, locations, count, met?, follow, frames-from, looked-up}
-use Rattle.model.proofs.Maps.{lt-or-ge, eq-or-ne}
 use Rattle.model.proofs.Spans.{∈-elim}
 use Rattle.model.proofs.Intern.{At, at-length, at-elem}
-use Rattle.model.proofs.Chains.{none-some, some-eq, Larger, Chain, off, top, deeper, chain-larger, Down, CallsDown, frame-found, frames-found, range-here, range-there, best-is, best-answers, Answers, Unique}
+use Rattle.model.proofs.Chains.{some-eq, Larger, Chain, off, top, deeper, chain-larger, Down, CallsDown, frame-found, frames-found, range-here, range-there, best-is, best-answers, Answers, Unique}
 use Rattle.model.proofs.Demand.{demand}
 use Rattle.model.proofs.Always.{always, frames-short}
 

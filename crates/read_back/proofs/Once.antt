@@ -8,8 +8,8 @@ use native.Mathlib.Omega.{arith}
 use lib.Dec.{eqb}
 use lib.ListN.{length}
 use borrow.Author.Tests.{eq-eqb, ne-eqb, eqb-false}
+use Rattle.slices.proofs.Cases.{eq-or-ne}
 use Rattle.model.specs.Written.{met?}
-use Rattle.model.proofs.Maps.{eq-or-ne}
 
 abbrev pub NotIn : ℕ → List ℕ → Type 0
 NotIn x [] = Unit {0}

@@ -10,6 +10,7 @@ use native.Mathlib.Numerals.{add-one}
 use lib.Dec.{ltb, leb, eqb}
 use lib.ListN.{length, getD, getElem?, List·getD-eq-default}
 use borrow.Author.Tests.{lt-ltb, le-leb, lt-leb, ltb-true, ltb-false, leb-true, leb-false, eq-eqb, ne-eqb, eqb-true, eqb-false}
+use Rattle.slices.proofs.Cases.{lt-or-ge}
 use Rattle.raw.specs.declared.SourceLocation.{SourceLocation}
 use Rattle.raw.specs.Rows.{max32, isNoSourceLocation}
 use Rattle.text.specs.Texts.{read-text, bytes-of, text-part}
@@ -30,7 +31,6 @@ use Rattle.read_back.proofs.Found.{find-greatest, find-none}
 use Rattle.lookup.proofs.LookupLaws.{then-gives, walk-nowhere, walk-empty, walk-begins}
 use Rattle.model.specs.Rows.{MAX}
 use Rattle.model.specs.Written.{met?}
-use Rattle.model.proofs.Maps.{lt-or-ge}
 use Rattle.model.proofs.Chains.{six-path}
 use Rattle.model.proofs.FileRows as file-rows
 use Rattle.model.proofs.FileRows.{Ascending, text-at, outside}

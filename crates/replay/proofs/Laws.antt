@@ -7,7 +7,7 @@ use lib.ListN.{length, take, drop, getD}
 use lib.Seq.{length-take-le, drop-cons, drop-length}
 use borrow.Author.Tests.{lt-ltb, le-ltb}
 use Rattle.io.specs.Counts.{Counts}
-use Rattle.replay.specs.Sums.{sumWith, sumWithAll, hexDigit}
+use Rattle.replay.specs.Sums.{sumWith, sumWithAll, sumDigit}
 
 pub counts : (n : ℕ) (t : List ℕ) → n ≤ length t → Counts n t
 counts n t h = (h, sym (length-take-le n t h))
@@ -21,8 +21,8 @@ pub sum-done : (h : ℕ) (s : List ℕ) (i all : ℕ) → i ≡ length s → sum
 unfolding sumWithAll
 sum-done h s i all e p = rw (e, drop-length s) at p
 
-pub low-digit : (d : ℕ) → d < 10 → 48 + d ≡ hexDigit d
+pub low-digit : (d : ℕ) → d < 10 → 48 + d ≡ sumDigit d
 low-digit d h = rw (lt-ltb d 10 h)
 
-pub high-digit : (d : ℕ) → 10 ≤ d → 55 + d ≡ hexDigit d
+pub high-digit : (d : ℕ) → 10 ≤ d → 55 + d ≡ sumDigit d
 high-digit d h = rw (le-ltb d 10 h)

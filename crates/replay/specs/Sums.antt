@@ -14,19 +14,19 @@ sumWithAll h [] = h
 sumWithAll h (w ∷ ws) = sumWithAll (sumWith h w) ws
 
 -- the ASCII code of a digit below 16, with upper-case letters
-abbrev pub hexDigit : ℕ → ℕ
-hexDigit d = cond (ltb d 10) (48 + d) (55 + d)
+abbrev pub sumDigit : ℕ → ℕ
+sumDigit d = cond (ltb d 10) (48 + d) (55 + d)
 
 -- eight digits and 0A
 abbrev pub sumLine : ℕ → List ℕ
 sumLine h =
-    hexDigit (h / 268435456 % 16) ∷
-    hexDigit (h / 16777216 % 16) ∷
-    hexDigit (h / 1048576 % 16) ∷
-    hexDigit (h / 65536 % 16) ∷
-    hexDigit (h / 4096 % 16) ∷
-    hexDigit (h / 256 % 16) ∷
-    hexDigit (h / 16 % 16) ∷
-    hexDigit (h % 16) ∷
+    sumDigit (h / 268435456 % 16) ∷
+    sumDigit (h / 16777216 % 16) ∷
+    sumDigit (h / 1048576 % 16) ∷
+    sumDigit (h / 65536 % 16) ∷
+    sumDigit (h / 4096 % 16) ∷
+    sumDigit (h / 256 % 16) ∷
+    sumDigit (h / 16 % 16) ∷
+    sumDigit (h % 16) ∷
     10 ∷
     []

@@ -3,7 +3,7 @@ ghost use mathlib.Core.Path.{_≡_};
 ghost use Prim.Native.Nat.{_+_, _*_, _%_};
 ghost use Rattle.io.specs.Counts.{Counts};
 ghost use Rattle.slices.specs.Bytes.{leAt};
-ghost use Rattle.replay.specs.Sums.{sumWith, sumWithAll, hexDigit, sumLine};
+ghost use Rattle.replay.specs.Sums.{sumWith, sumWithAll, sumDigit, sumLine};
 
 // Files
 
@@ -57,8 +57,7 @@ pub fn read_record(fd: i32, to: &mut [u8]) -> Got
 pub fn word(s: &[u8], at: usize) -> u32
     ensures { λ r. ⌜ r ≡ leAt 4 (now (s .entry)) at ⌝ }
 {
-    let row = raw::range_at(s, at);
-    row.0
+    slices::load_u32(s, at)
 }
 
 // The place `offset` bytes after `at`.
@@ -115,7 +114,7 @@ pub fn add_bytes(sum: u32, s: &[u8]) -> u32
 }
 
 fn hex_digit(d: u32) -> u8
-    ensures { λ r. ⌜ r ≡ hexDigit (d % 16) ⌝ }
+    ensures { λ r. ⌜ r ≡ sumDigit (d % 16) ⌝ }
 {
     let d = d % 16;
     if d < 10 {

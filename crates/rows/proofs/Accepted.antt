@@ -9,12 +9,12 @@ use native.Mathlib.Nat.{add-suc, suc-add, add-zero, zero-add}
 use lib.ListN.{length, getD}
 use lib.Dec.{ltb, leb, eqb}
 use borrow.Author.Tests.{ltb-true, leb-true, eqb-true}
+use Rattle.slices.proofs.Cases.{both-true}
 use Rattle.text.specs.Utf8.{utf8}
 use Rattle.model.specs.Basics.{_∈_, here, there}
 use Rattle.model.specs.Rows.{MAX, Text, LineRow, FunctionRow, tree-rows}
 use Rattle.model.specs.Premises.{Legal}
 use Rattle.model.proofs.Spans.{∈-elim}
-use Rattle.model.proofs.Chains.{both-true}
 use Rattle.model.proofs.Compact.{LineFits, RowFits, GivenFits}
 use Rattle.rows.specs.declared.TextPart.{TextPart}
 use Rattle.rows.specs.declared.OptionalPart.{OptionalPart}

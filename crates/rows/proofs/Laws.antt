@@ -1,7 +1,7 @@
 -- What the definitions compute to under the tests that the code makes: a row by value, a part of the text, a line's addresses, a loop over rows.
 use Prim.Native.Nat.{ℕ, zero, suc, _+_, _-_, _*_, _/_, _%_, _≤_, _<_, min}
 use mathlib.Core.Path.{_≡_, refl, sym, _∙_, ap}
-use mathlib.Core.Bool.{Bool, true, false, cond, not, _&&_, true≢false}
+use mathlib.Core.Bool.{Bool, true, false, cond, not, _&&_, true≢false, and-true, and-false}
 use mathlib.Core.Logic.{⊎-elim}
 use mathlib.Core.List.{List, []}
 use native.Mathlib.Omega.{arith}
@@ -10,8 +10,9 @@ use native.Mathlib.Nat.{eq-or-lt-of-le}
 use lib.Dec.{eqb}
 use lib.ListN.{length, take, drop}
 use borrow.Author.Tests.{lt-ltb, le-ltb, le-leb, lt-leb, eq-eqb, ne-eqb}
+use Rattle.slices.proofs.Cases.{both-true}
+pub use Rattle.slices.proofs.Cases.{and-stop, and-then}
 use Rattle.model.specs.Rows.{MAX}
-use Rattle.model.proofs.Chains.{both-true}
 use Rattle.rows.specs.declared.FunctionRow.{FunctionRow}
 use Rattle.rows.specs.declared.OptionalPart.{OptionalPart}
 use Rattle.rows.specs.Columns.{Columns, functionRows, lineRows, functionStruct, lineStruct, functionFields, functionInColumns, lineFields, lineInColumns, boundariesOf, partOf}
@@ -113,13 +114,6 @@ total-end f n i sum g h e = let z : n ≡ i = omega arith in rw z e
 
 -- ── Tests one after the other ──
 
-module _ (x y : Bool) where
-  pub and-stop : x ≡ false → false ≡ x && y
-  and-stop e = rw e
-
-  pub and-then : (r : Bool) → x ≡ true → r ≡ y → r ≡ x && y
-  and-then r e f = rw e f
-
 -- a test that did not hold, and one that did, as `if !test { return .. }` leaves them
 pub failed : {b x : Bool} → b ≡ x → not b ≡ true → x ≡ false
 failed {b = true} e h = absurd (true≢false (sym h))
@@ -128,14 +122,6 @@ failed {b = false} e h = sym e
 pub passed : {b x : Bool} → b ≡ x → not b ≡ false → x ≡ true
 passed {b = true} e h = sym e
 passed {b = false} e h = absurd (true≢false h)
-
-pub and-true : (x : Bool) → x && true ≡ x
-and-true true = refl
-and-true false = refl
-
-pub and-false : (x : Bool) → x && false ≡ false
-and-false true = refl
-and-false false = refl
 
 -- ── 13: depths ──
 

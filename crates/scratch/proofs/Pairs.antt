@@ -5,8 +5,9 @@ use mathlib.Core.List.{List, [], _∷_, _++_, map, map-append}
 use Prim.Native.Nat.{ℕ, zero, suc, _+_, _*_, _-_, _/_, _%_, _≤_, _<_}
 use native.Mathlib.Omega.{arith}
 use native.Mathlib.Numerals.{add-one}
-use lib.ListN.{length, getD, set, take, length-set}
-use lib.Seq.{getD-set-same, getD-set-other, getD-take, sets, length-sets}
+use lib.ListN.{length, getD, set, take}
+use lib.Seq.{getD-set-other, getD-take, length-sets}
+use Rattle.slices.proofs.Runs.{sets-low, sets-high, sets-in}
 use Rattle.model.specs.Basics.{Span}
 use Rattle.scratch.specs.Scratch.{pairsAt, ref-of, refsAt, two32, startAt, lenAt, setCalls}
 
@@ -36,24 +37,6 @@ pairs-above s b n j v h = pairs-same s (set s j v) b n (λ i p q. getD-set-other
 
 pub pairs-below : (s : List ℕ) (b n j v : ℕ) → b + n * 2 ≤ j → pairsAt (set s j v) b n ≡ pairsAt s b n
 pairs-below s b n j v h = pairs-same s (set s j v) b n (λ i p q. getD-set-other s j i v 0 (λ e. omega arith))
-
--- ── Several words stored ──
-
-pub sets-other : (s : List ℕ) (b : ℕ) (vs : List ℕ) (j : ℕ) → (j < b) ⊎ (b + length vs ≤ j) → getD (sets s b vs) j 0 ≡ getD s j 0
-sets-other s b [] j h = refl
-sets-other s b (v ∷ vs) j h =
-    sets-other (set s b v) (suc b) vs j (⊎-elim (λ l. inl (omega arith)) (λ l. inr (omega arith)) h)
-    ∙ getD-set-other s b j v 0 (λ e. ⊎-elim (λ l. omega arith) (λ l. omega arith) h)
-
-pub sets-in : (s : List ℕ) (b : ℕ) (vs : List ℕ) (i : ℕ) → b + length vs ≤ length s → i < length vs → getD (sets s b vs) (b + i) 0 ≡ getD vs i 0
-sets-in s b [] i r h = absurd (omega arith)
-sets-in s b (v ∷ vs) zero r h =
-    let z : b + 0 ≡ b = omega arith in
-    rw z (sets-other (set s b v) (suc b) vs b (inl (omega arith)) ∙ getD-set-same s b v 0 (omega arith))
-sets-in s b (v ∷ vs) (suc i) r h =
-    let z : b + suc i ≡ suc b + i = omega arith in
-    let l : length (set s b v) ≡ length s = length-set s b v in
-    rw z (sets-in (set s b v) (suc b) vs i (omega arith) (omega arith))
 
 -- ── One by one ──
 
@@ -108,12 +91,14 @@ module _ (s : List ℕ) (d start len : ℕ) where
   -- outside of its four words nothing changes
   pub calls-other : (j : ℕ) → (j < d * 4) ⊎ (d * 4 + 4 ≤ j) → getD (setCalls s d start len) j 0 ≡ getD s j 0
   unfolding setCalls
-  calls-other j h = sets-other s (d * 4) (start % two32 ∷ start / two32 ∷ len % two32 ∷ len / two32 ∷ []) j h
+  calls-other j h =
+      let vs = start % two32 ∷ start / two32 ∷ len % two32 ∷ len / two32 ∷ [] in
+      ⊎-elim (sets-low vs s (d * 4) j) (sets-high vs s (d * 4) j) h
 
   module _ (room : d * 4 + 4 ≤ length s) where
     words-at : (i : ℕ) → i < 4 → getD (setCalls s d start len) (d * 4 + i) 0 ≡ getD (start % two32 ∷ start / two32 ∷ len % two32 ∷ len / two32 ∷ []) i 0
     unfolding setCalls
-    words-at i h = sets-in s (d * 4) (start % two32 ∷ start / two32 ∷ len % two32 ∷ len / two32 ∷ []) i room h
+    words-at i h = sets-in (start % two32 ∷ start / two32 ∷ len % two32 ∷ len / two32 ∷ []) s (d * 4) i (d * 4 + i) refl h room
 
     pub start-set : startAt (setCalls s d start len) d ≡ start
     start-set =

@@ -8,12 +8,12 @@ use native.Mathlib.Nat.{add-suc, suc-add}
 use native.Mathlib.Numerals.{add-one}
 use lib.ListN.{length, getD, length-append, length-map}
 use borrow.Author.Tests.{le-leb, lt-leb, eq-eqb, ne-eqb}
+use Rattle.slices.proofs.Cases.{lt-or-ge, eq-or-ne}
 use Rattle.model.specs.Basics.{Deep}
 use Rattle.model.specs.Rows.{FunctionRow}
 use Rattle.model.specs.Machine.{Input, Machine, Ref, set-atM, kid-spansM, rowM, convertM}
 use Rattle.model.specs.Converter.{input, deep}
 use Rattle.model.specs.Premises.{Legal}
-use Rattle.model.proofs.Maps.{lt-or-ge, eq-or-ne}
 use Rattle.model.proofs.Depths.{Steps}
 use Rattle.rows.specs.Columns.{Columns, functionRows, functionStruct, linesFrom, functionAt, rowsFrom}
 use Rattle.rows.specs.Refusals.{firstLine, total}

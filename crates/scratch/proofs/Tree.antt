@@ -7,10 +7,10 @@ use native.Mathlib.Omega.{arith}
 use native.Mathlib.Nat.{eq-or-lt-of-le}
 use lib.ListN.{length}
 use borrow.Author.Tests.{eq-eqb, ne-eqb}
+use Rattle.slices.proofs.Cases.{eq-or-ne}
 use Rattle.model.specs.Rows.{MAX, LineRow, FunctionRow, SymbolRow}
 use Rattle.model.specs.Machine.{Machine, LoopedM, set-atM, kid-spansM, rowM, convertM, startM}
 use Rattle.model.specs.Converter.{input, deep}
-use Rattle.model.proofs.Maps.{eq-or-ne}
 use Rattle.model.proofs.Depths.{Steps}
 use Rattle.rows.specs.Columns.{Columns, functionRows, lineRows, functionStruct, functionAt, treeRows, laterRows}
 use Rattle.rows.specs.Refusals.{firstLine, total}

@@ -7,20 +7,21 @@ use native.Mathlib.Nat.{mul-suc, mul-le-mul-left, mul-lt-mul-of-pos-left}
 use native.Mathlib.Omega.{arith}
 use lib.Dec.{ltb, leb, eqb}
 use borrow.Author.Tests.{le-leb, lt-leb, ltb-true, ltb-false, eq-eqb, ne-eqb}
+use Rattle.slices.proofs.Cases.{lt-or-ge, both-true}
 use Rattle.raw.specs.Rows.{max32}
 use Rattle.search.specs.Search.{ascendingFrom, ascending, countIn, searchIn, foundAmong}
-use Rattle.search.proofs.SearchLaws.{below-or-past, both, at-most-or-above, few, spaced, led, led-most, Turn, turn, search-done}
+use Rattle.search.proofs.SearchLaws.{at-most-or-above, few, spaced, led, led-most, Turn, turn, search-done}
 
 -- cases
 meets : (i j : ℕ) → i ≤ j → (i ≡ j) ⊎ (i < j)
-meets i j h = ⊎-elim inr (λ l. inl (omega arith)) (below-or-past i j)
+meets i j h = ⊎-elim inr (λ l. inl (omega arith)) (lt-or-ge i j)
 
 zero-or-more : (n : ℕ) → (n ≡ 0) ⊎ (0 < n)
 zero-or-more zero = inl refl
 zero-or-more (suc n) = inr (omega arith)
 
 three : (r i : ℕ) → (r < i → r ≡ i) → (i < r → r ≡ i) → r ≡ i
-three r i x y = ⊎-elim x (λ l. ⊎-elim y (λ g. omega arith) (below-or-past i r)) (below-or-past r i)
+three r i x y = ⊎-elim x (λ l. ⊎-elim y (λ g. omega arith) (lt-or-ge i r)) (lt-or-ge r i)
 
 -- the first m numbers climb
 abbrev Climbs : (ℕ → ℕ) → ℕ → Type 0
@@ -98,7 +99,7 @@ module _ (f : ℕ → ℕ) (a : ℕ) where
         go k C = record {
           inside = omega (arith, C .most, A .some, A .inside);
           low = ⊎-elim (λ z. let e : b + k ≡ b = omega arith in rw e (A .low)) (λ z. inl (C .low (b + k) (omega arith) (omega arith))) (zero-or-more k);
-          above = λ j x y. ⊎-elim (λ z. C .above j (omega arith) (omega (arith, A .some))) (λ z. A .above j z y) (below-or-past j (b + n));
+          above = λ j x y. ⊎-elim (λ z. C .above j (omega arith) (omega (arith, A .some))) (λ z. A .above j z y) (lt-or-ge j (b + n));
         }
 
     -- a turn that looks at k starts, q apart, leads to what the search is then among
@@ -128,7 +129,7 @@ module _ (f : ℕ → ℕ) (a : ℕ) where
         (λ z. let t = turn f a b n z in
         rw (t .leads k) (ends k (led f a b (t .apart) (t .looks)) (n - t .apart * t .looks) (omega (arith, t .past)) (turn-leads b n (t .apart) (t .looks) (t .wide) (t .fits) A)))
         (λ z. rw (search-done f a (suc k) b n z) (few-ends b n A))
-        (below-or-past 8 n)
+        (lt-or-ge 8 n)
 
     pub search-ends : 0 < m → Ended m (searchIn f a m 0 m)
     search-ends p = ends m 0 m (omega arith) (record { some = p; inside = omega arith; low = inr refl; above = λ j x y. absurd (omega arith) })
@@ -146,7 +147,7 @@ above-last : (f : ℕ → ℕ) (n last i : ℕ) → ascendingFrom f last i n ≡
 unfolding ascendingFrom
 above-last f zero last i e j x y = absurd (omega arith)
 above-last f (suc n) last i e j x y =
-    let (t, r) = both (ltb last (f i)) (ascendingFrom f (f i) (suc i) n) e in
+    let (t, r) = both-true (ltb last (f i)) (ascendingFrom f (f i) (suc i) n) e in
     let l : last < f i = ltb-true last (f i) t in
     ⊎-elim (λ z. rw (← z) l) (λ z. let w = above-last f n (f i) (suc i) r j z (omega arith) in omega arith) (meets i j x)
 
@@ -154,7 +155,7 @@ pairs : (f : ℕ → ℕ) (n last i : ℕ) → ascendingFrom f last i n ≡ true
 unfolding ascendingFrom
 pairs f zero last i e j k x y z = absurd (omega arith)
 pairs f (suc n) last i e j k x y z =
-    let (t, r) = both (ltb last (f i)) (ascendingFrom f (f i) (suc i) n) e in
+    let (t, r) = both-true (ltb last (f i)) (ascendingFrom f (f i) (suc i) n) e in
     ⊎-elim (λ w. rw (← w) (above-last f n (f i) (suc i) r k (omega arith) (omega arith))) (λ w. pairs f n (f i) (suc i) r j k w y (omega arith)) (meets i j x)
 
 -- what the test of 12 shows

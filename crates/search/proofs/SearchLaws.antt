@@ -10,20 +10,9 @@ use native.Mathlib.Omega.{arith}
 use lib.Dec.{ltb, leb, eqb}
 use lib.ListN.{length}
 use borrow.Author.Tests.{lt-ltb, le-ltb, le-leb, lt-leb, ltb-true, ltb-false, leb-true, leb-false, eq-eqb, ne-eqb, eqb-false}
+use Rattle.slices.proofs.Cases.{lt-or-ge, both-true}
 use Rattle.raw.specs.Rows.{max32}
 use Rattle.search.specs.Search.{startAt, ascendingFrom, ascending, countIn, halfIn, quartersIn, searchIn, foundAmong, usable, foundIn}
-
--- cases
-pub below-or-past : (i j : ℕ) → (i < j) ⊎ (j ≤ i)
-below-or-past i j = go (ltb i j) refl
-  where
-    go : (t : Bool) → ltb i j ≡ t → (i < j) ⊎ (j ≤ i)
-    go true e = inl (ltb-true i j e)
-    go false e = inr (ltb-false i j e)
-
-pub both : (a b : Bool) → (a && b) ≡ true → (a ≡ true) × (b ≡ true)
-both true b e = (refl, e)
-both false b e = let z : _≡_ {A = ℕ} 0 1 = cc in absurd (omega arith)
 
 -- ── Starts that ascend ──
 
@@ -53,11 +42,7 @@ ascending-begins f (suc n) h = let e : suc n - 1 ≡ n = omega arith in rw e
 
 module _ (f : ℕ → ℕ) (a : ℕ) where
   pub at-most-or-above : (i : ℕ) → (f i ≤ a) ⊎ (a < f i)
-  at-most-or-above i = go (leb (f i) a) refl
-    where
-      go : (t : Bool) → leb (f i) a ≡ t → (f i ≤ a) ⊎ (a < f i)
-      go true e = inl (leb-true (f i) a e)
-      go false e = inr (leb-false (f i) a e)
+  at-most-or-above i = ⊎-elim inr inl (lt-or-ge a (f i))
 
   -- its beginning, one turn, its end
   pub count-begins : (b n b′ n′ : ℕ) → b′ ≡ b → n′ ≡ n → 0 + countIn f a b′ n′ ≡ countIn f a b n
@@ -149,7 +134,7 @@ module _ (f : ℕ → ℕ) (a : ℕ) where
   half b n h = record { looks = 1; apart = n / 2; wide = omega arith; past = omega arith; fits = omega arith; leads = half-leads b n h }
 
   pub turn : (b n : ℕ) → 8 < n → Turn b n
-  turn b n h = ⊎-elim (λ l. half b n l) (λ l. quarter b n h l) (below-or-past 1024 n)
+  turn b n h = ⊎-elim (λ l. half b n l) (λ l. quarter b n h l) (lt-or-ge 1024 n)
 
   -- as many turns as there are starts are enough
   pub search-enough : (k m b n : ℕ) → n ≤ k → n ≤ m → searchIn f a k b n ≡ searchIn f a m b n
@@ -160,7 +145,7 @@ module _ (f : ℕ → ℕ) (a : ℕ) where
       (λ l. let t = turn b n l in
       t .leads k ∙ (search-enough k m (led b (t .apart) (t .looks)) (n - t .apart * t .looks) (omega (arith, t .past)) (omega (arith, t .past)) ∙ sym (t .leads m)))
       (λ l. search-done (suc k) b n l ∙ sym (search-done (suc m) b n l))
-      (below-or-past 8 n)
+      (lt-or-ge 8 n)
 
   -- one turn of a loop
   turn-made : (b n : ℕ) (t : Turn b n) → searchIn f a (n - t .apart * t .looks) (led b (t .apart) (t .looks)) (n - t .apart * t .looks) ≡ searchIn f a n b n
@@ -190,7 +175,7 @@ module _ (f : ℕ → ℕ) (a : ℕ) where
       let h : 0 < n - t .apart * t .looks = omega (arith, t .wide, t .fits) in
       rw (t .leads k) (omega (arith, search-inside k (led b (t .apart) (t .looks)) (n - t .apart * t .looks) h, led-most b (t .apart) (t .looks), t .fits)))
       (λ z. rw (search-done (suc k) b n z) (few-inside b n p))
-      (below-or-past 8 n)
+      (lt-or-ge 8 n)
 
 -- ── What `find` gives ──
 
@@ -245,8 +230,8 @@ pub record Usable (bytes locations m ranges n : ℕ) : Type 0 where
 pub usable-has : (bytes locations m ranges n : ℕ) → usable bytes locations m ranges n ≡ true → Usable bytes locations m ranges n
 unfolding usable
 usable-has bytes locations m ranges n e =
-    let (x, y) = both (leb n m) (leb (ranges + 4 * n) bytes && leb (locations + 16 * m) bytes) e in
-    let (z, w) = both (leb (ranges + 4 * n) bytes) (leb (locations + 16 * m) bytes) y in
+    let (x, y) = both-true (leb n m) (leb (ranges + 4 * n) bytes && leb (locations + 16 * m) bytes) e in
+    let (z, w) = both-true (leb (ranges + 4 * n) bytes) (leb (locations + 16 * m) bytes) y in
     record { fewer = leb-true n m x; starts = leb-true (ranges + 4 * n) bytes z; rows = leb-true (locations + 16 * m) bytes w }
 
 more : (n : ℕ) → (n ≡ 0 → ⊥) → 0 < n

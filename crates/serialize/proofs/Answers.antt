@@ -9,7 +9,7 @@ use lib.Dec.{leb}
 use lib.ListN.{length, drop}
 use lib.Seq.{sets, sets-eq}
 use borrow.Author.Tests.{not-true, not-false, leb-true, le-leb, lt-leb}
-use Rattle.model.proofs.Chains.{both-true}
+use Rattle.slices.proofs.Cases.{both-true}
 use Rattle.tables.specs.Table.{capacityOf}
 use Rattle.strings.specs.Strings.{textCapacityOf}
 use Rattle.tables.proofs.Room.{cap-most}

@@ -8,8 +8,7 @@ use lib.ListN.{length}
 use lib.Seq.{sets, length-sets}
 use Rattle.model.specs.Basics.{Span}
 use Rattle.slices.specs.Bytes.{leAt, tableBytes}
-use Rattle.raw.specs.Rows.{locationBytes, rangeBytes, rangeAt}
-use Rattle.raw.specs.declared.Range.{Range}
+use Rattle.raw.specs.Rows.{locationBytes, rangeBytes}
 use Rattle.raw.specs.declared.SourceLocation.{SourceLocation}
 use Rattle.slices.proofs.Bytes.{sets-join, length-table}
 use Rattle.serialize.specs.Sections.{entries-at, entry-location, location-row, start-row, range-sections}
@@ -20,10 +19,6 @@ use Rattle.serialize.proofs.Rows.{length-location-row, length-start-row
 unfoldable pub turned : List ℕ → ℕ → List ℕ → ℕ → ℕ → ℕ → List ℕ
 turned t n s at all i =
     sets (sets s at (tableBytes (location-row t n) (entries-at i s (at + all * 8)))) (at + all * 16) (tableBytes start-row (entries-at i s (at + all * 8)))
-
-read : (s : List ℕ) (k : ℕ) (r : Range) → r ≡ rangeAt s k → r .0 ≡ leAt 4 s k
-unfolding rangeAt
-read s k r f = ap (λ (x : Range). x .0) f
 
 module _ (t : List ℕ) (n : ℕ) (s : List ℕ) (at all i : ℕ) where
   -- a number between the locations stored and the starts is as it was
@@ -52,16 +47,16 @@ module _ (t : List ℕ) (n : ℕ) (s : List ℕ) (at all i : ℕ) where
       ∙ ap (λ (r : List ℕ). sets r (at + all * 16) (tableBytes start-row (es ++ (p ∷ [])))) locations)
 
   -- the same, as the code makes it: from start and row number, read at entry i
-  pub turned-step : (out : List ℕ) → out ≡ turned t n s at all i → i < all → (start row : Range) (l : SourceLocation) (out₁ out₂ : List ℕ)
-      → start ≡ rangeAt out (at + all * 8 + i * 8) → row ≡ rangeAt out (at + all * 8 + i * 8 + 4) → l ≡ entry-location t n (record { from = start .0; to = row .0 })
-      → out₁ ≡ sets out (at + all * 16 + i * 4) (rangeBytes start) → out₂ ≡ sets out₁ (at + i * 16) (locationBytes l) → out₂ ≡ turned t n s at all (i + 1)
+  pub turned-step : (out : List ℕ) → out ≡ turned t n s at all i → i < all → (start row : ℕ) (l : SourceLocation) (out₁ out₂ : List ℕ)
+      → start ≡ leAt 4 out (at + all * 8 + i * 8) → row ≡ leAt 4 out (at + all * 8 + i * 8 + 4) → l ≡ entry-location t n (record { from = start; to = row })
+      → out₁ ≡ sets out (at + all * 16 + i * 4) (rangeBytes (record { 0 = start })) → out₂ ≡ sets out₁ (at + i * 16) (locationBytes l) → out₂ ≡ turned t n s at all (i + 1)
   unfolding location-row start-row
   turned-step out e h start row l out₁ out₂ es er el e₁ e₂ =
       let k : at + all * 8 + i * 8 ≡ at + all * 8 + 8 * i = omega arith in
-      let a : start .0 ≡ leAt 4 s (at + all * 8 + 8 * i) = read out (at + all * 8 + i * 8) start es ∙ rw (e, turned-read (at + all * 8 + i * 8) (omega arith) (omega arith), k) in
-      let b : row .0 ≡ leAt 4 s (at + all * 8 + 8 * i + 4) = read out (at + all * 8 + i * 8 + 4) row er ∙ rw (e, turned-read (at + all * 8 + i * 8 + 4) (omega arith) (omega arith), k) in
-      let p : _≡_ {A = Span} (record { from = start .0; to = row .0 }) (entry-at s (at + all * 8 + 8 * i)) = cc in
-      rw (e₂, e₁, el, e) (turned-more h (record { from = start .0; to = row .0 }) p)
+      let a : start ≡ leAt 4 s (at + all * 8 + 8 * i) = es ∙ rw (e, turned-read (at + all * 8 + i * 8) (omega arith) (omega arith), k) in
+      let b : row ≡ leAt 4 s (at + all * 8 + 8 * i + 4) = er ∙ rw (e, turned-read (at + all * 8 + i * 8 + 4) (omega arith) (omega arith), k) in
+      let p : _≡_ {A = Span} (record { from = start; to = row }) (entry-at s (at + all * 8 + 8 * i)) = cc in
+      rw (e₂, e₁, el, e) (turned-more h (record { from = start; to = row }) p)
 
 pub length-turned : (t : List ℕ) (n : ℕ) (s : List ℕ) (at all i : ℕ) → length (turned t n s at all i) ≡ length s
 unfolding turned

@@ -9,7 +9,6 @@ use lib.ListN.{length}
 use lib.Seq.{sets}
 use Rattle.model.specs.Basics.{Span}
 use Rattle.slices.specs.Bytes.{le, leAt, wordBytes, tableBytes}
-use Rattle.raw.specs.Rows.{rangeBytes}
 use Rattle.raw.specs.Head.{padding}
 use Rattle.slices.proofs.Bytes.{sets-join, length-table, length-words}
 use Rattle.raw.proofs.Rows.{length-file, length-function, length-location, length-range, all, next, stored}
@@ -90,15 +89,11 @@ entries-turn s out new at to t i r er h e f =
     rw (f, er, add-one i, rows-more t 0 i, zero-add i, entries-more 0 (rowsOf t i) (rowAt t i), rows-length t 0 i, zero-add i)
     (table-turn entry-row 8 length-entry-row s out at to (entries 0 (rowsOf t i)) (record { from = rowAt t i .a; to = i }) e (rw (length-entries 0 (rowsOf t i), rows-length t 0 i) h))
 
--- an entry is stored as two ranges are
-range-bytes : (v : ℕ) → rangeBytes (record { 0 = v }) ≡ le 4 v
-unfolding rangeBytes wordBytes
-range-bytes v = append-nil (le 4 v)
-
-pub entry-stored : (s s₁ s₂ : List ℕ) (at start row : ℕ) → s₁ ≡ sets s at (rangeBytes (record { 0 = start })) → s₂ ≡ sets s₁ (at + 4) (rangeBytes (record { 0 = row })) → s₂ ≡ sets s at (entry-row (record { from = start; to = row }))
+-- an entry is stored as two numbers
+pub entry-stored : (s s₁ s₂ : List ℕ) (at start row : ℕ) → s₁ ≡ sets s at (le 4 start) → s₂ ≡ sets s₁ (at + 4) (le 4 row) → s₂ ≡ sets s at (entry-row (record { from = start; to = row }))
 unfolding entry-row
 entry-stored s s₁ s₂ at start row e f =
-    stored (next (at + 4) refl (rw (range-bytes start) at e) (next (at + 4 + 4) refl (rw (range-bytes row) at f) all))
+    stored (next (at + 4) refl e (next (at + 4 + 4) refl f all))
 
 pub length-entries-at : (n : ℕ) (s : List ℕ) (at : ℕ) → length (entries-at n s at) ≡ n
 unfolding entries-at
@@ -115,8 +110,8 @@ entries-at-more (suc n) s at = let e : at + 8 * suc n ≡ at + 8 + 8 * n = omega
 
 -- ── Padding ──
 
-pub padding-odd : (n : ℕ) → n % 2 ≡ 1 → padding (n * 4) ≡ rangeBytes (record { 0 = 0 })
-unfolding padding rangeBytes wordBytes le
+pub padding-odd : (n : ℕ) → n % 2 ≡ 1 → padding (n * 4) ≡ le 4 0
+unfolding padding le
 padding-odd n h = let e : n * 4 ≡ 4 + 8 * (n / 2) = omega arith in rw (e, add-mul-mod-self-left 4 8 (n / 2))
 
 pub padding-even : (n : ℕ) → n % 2 ≡ 0 → padding (n * 4) ≡ []

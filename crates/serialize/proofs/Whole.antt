@@ -10,8 +10,8 @@ use Rattle.model.specs.Basics.{sort}
 use Rattle.slices.specs.Bytes.{Stands, tableBytes}
 use Rattle.raw.specs.Rows.{versionInfoBytes, headerBytes}
 use Rattle.raw.specs.Head.{version-info, padding}
-use Rattle.slices.proofs.Bytes.{sets-join, length-table, stands-left, stands-right, stands-between}
-use Rattle.raw.proofs.Rows.{length-version-info, length-header, length-range}
+use Rattle.slices.proofs.Bytes.{sets-join, length-table, stands-left, stands-right, stands-between, length-le}
+use Rattle.raw.proofs.Rows.{length-version-info, length-header}
 use Rattle.tables.specs.Table.{rowsOf}
 use Rattle.tables.specs.declared.Row.{Row}
 use Rattle.table_laws.proofs.Rows.{rows-length}
@@ -37,7 +37,7 @@ pub length-padding : (n : ℕ) → length (padding (n * 4)) ≡ n % 2 * 4
 length-padding n = go (n % 2) refl (omega arith) where
   go : (r : ℕ) → n % 2 ≡ r → r < 2 → length (padding (n * 4)) ≡ r * 4
   go zero e h = rw (padding-even n e)
-  go (suc zero) e h = rw (padding-odd n e) (length-range (record { 0 = 0 }))
+  go (suc zero) e h = rw (padding-odd n e) (length-le 4 0)
   go (suc (suc r)) e h = absurd (omega arith)
 
 length-rows : (bytes : Row → List ℕ) (size : ℕ) → ((r : Row) → length (bytes r) ≡ size) → (t : List ℕ) (n : ℕ) → length (tableBytes bytes (rowsOf t n)) ≡ size * n

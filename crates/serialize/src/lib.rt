@@ -8,6 +8,9 @@ use raw::Header;
 use raw::Range;
 use raw::SourceLocation;
 use raw::VersionInfo;
+use slices::copy;
+use slices::load_u32;
+use slices::store_u32;
 use tables::kinds::call_of_row;
 use tables::kinds::file_of_row;
 use tables::kinds::function_of_row;
@@ -285,8 +288,8 @@ fn write_entry(out: &mut [u8], at: usize, start: u32, row: u32)
     requires { ⌜ at + entry-size ≤ length (now out) ⌝ }
     ensures { λ _. ⌜ now (out .exit) ≡ sets (now (out .entry)) at (entry-row (record { from = start; to = row })) ⌝ }
 {
-    raw::write_range(out, at, Range(start));
-    raw::write_range(out, at + RANGE_SIZE, Range(row));
+    store_u32(out, at, start);
+    store_u32(out, at + RANGE_SIZE, row);
 }
 
 // The entries of the ranges from `at` on.
@@ -325,10 +328,10 @@ fn write_ranges(out: &mut [u8], at: usize, ranges: &[u32], count: u32, all: u32)
     let mut i: u32 = 0;
     while i < all {
         let k = i as usize;
-        let start = raw::range_at(out, entries + k * ENTRY_SIZE);
-        let row = raw::range_at(out, entries + k * ENTRY_SIZE + RANGE_SIZE);
-        let l = entry_location(ranges, count, start.0, row.0);
-        raw::write_range(out, starts + k * RANGE_SIZE, start);
+        let start = load_u32(out, entries + k * ENTRY_SIZE);
+        let row = load_u32(out, entries + k * ENTRY_SIZE + RANGE_SIZE);
+        let l = entry_location(ranges, count, start, row);
+        raw::write_range(out, starts + k * RANGE_SIZE, Range(start));
         raw::write_location(out, at + k * LOCATION_SIZE, l);
         i += 1;
     }
@@ -349,7 +352,7 @@ fn write_padding(out: &mut [u8], at: usize, all: u32)
     ensures { λ _. ⌜ now (out .exit) ≡ sets (now (out .entry)) at (padding (all * range-size)) ⌝ }
 {
     if all % 2 == 1 {
-        raw::write_range(out, at, Range(0));
+        store_u32(out, at, 0);
     }
 }
 
@@ -359,9 +362,5 @@ fn write_texts(out: &mut [u8], at: usize, texts: &[u8], n: u32)
     ensures { λ _. ⌜ now (out .exit) ≡ sets (now (out .entry)) at (take n (now (texts .entry))) ⌝ }
 {
     let end = n as usize;
-    let mut i: usize = 0;
-    while i < end {
-        out[at + i] = texts[i];
-        i += 1;
-    }
+    copy(out, at, &texts[..end]);
 }

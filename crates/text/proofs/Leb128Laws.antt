@@ -13,16 +13,9 @@ use lib.ListN.{length, drop, set, drop-of-length-le}
 use lib.Pow.{areBytes}
 use lib.Seq.{drop-at, sets}
 use borrow.Author.Tests.{ltb-true, ltb-false, leb-true, lt-ltb, le-ltb, le-leb, lt-leb}
-use Rattle.text.proofs.Utf8Steps.{and-left, and-right}
+use Rattle.slices.proofs.Cases.{lt-or-ge, and-left, and-right}
 use Rattle.text.specs.Leb128.{leb-value, well-formed, encoded-in, encoded, leb-prefix, number, decoded, Accepted, written, wrote}
 use Rattle.text.specs.declared.leb128.Leb.the-variants.{Absent, Number}
-
-pub lt-or-ge : (a b : ℕ) → (a < b) ⊎ (b ≤ a)
-lt-or-ge a b = go (ltb a b) refl
-  where
-    go : (t : Bool) → ltb a b ≡ t → (a < b) ⊎ (b ≤ a)
-    go true e = inl (ltb-true a b e)
-    go false e = inr (ltb-false a b e)
 
 -- ---- the encoding
 

@@ -14,7 +14,8 @@ use borrow.Author.Tests.{lt-ltb, le-ltb, le-leb, lt-leb}
 use Rattle.text.specs.Leb128.{leb-value, well-formed, leb-prefix, number, decoded}
 use Rattle.text.specs.declared.leb128.Leb.{Leb}
 use Rattle.text.specs.declared.leb128.Leb.the-variants.{Absent, Number}
-use Rattle.text.proofs.Leb128Laws.{lt-or-ge, well-formed-more}
+use Rattle.slices.proofs.Cases.{lt-or-ge}
+use Rattle.text.proofs.Leb128Laws.{well-formed-more}
 
 -- the answer, where the bytes still to come are p
 finish : ℕ → ℕ → ℕ → List ℕ → Leb

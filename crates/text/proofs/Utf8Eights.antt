@@ -10,7 +10,8 @@ use lib.ListN.{length, getD, drop}
 use lib.Seq.{drop-drop}
 use borrow.Author.Tests.{le-leb, lt-leb, ne-eqb}
 use Rattle.text.specs.Utf8.{Range, _to_, UTF8-char, within, fits, charLen, eights, runLen, utf8}
-use Rattle.text.proofs.Utf8Steps.{below, and-left, and-right, fits-le, charLen-le, utf8-none, utf8-char}
+use Rattle.slices.proofs.Cases.{lt-or-ge, and-left, and-right}
+use Rattle.text.proofs.Utf8Steps.{fits-le, charLen-le, utf8-none, utf8-char}
 
 -- One octet more: its quotient by 128 is 0 where it is UTF8-1.
 one-more : (b a n : ℕ) (rs : List Range) (s : List ℕ) → a ≡ b / 128 → eqb n 0 ≡ fits rs s → eqb (a + n) 0 ≡ fits (0x00 to 0x7F ∷ rs) (b ∷ s)
@@ -19,7 +20,7 @@ one-more b a n rs s e f =
     ⊎-elim
     (λ h. let z : a + n ≡ n = omega (arith, e, h) in rw (z, le-leb 0 b (omega arith), le-leb b 0x7F (omega (arith, h))) f)
     (λ h. rw (ne-eqb (a + n) 0 (λ z. omega (arith, e, h, z)), lt-leb b 0x7F (omega (arith, h)), and-false (leb 0 b)))
-    (below b 128)
+    (lt-or-ge b 128)
 
 none : (t : List ℕ) → eqb 0 0 ≡ fits [] t
 unfolding fits

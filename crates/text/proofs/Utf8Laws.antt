@@ -12,7 +12,8 @@ use lib.ListN.{length, getD, take, drop, length-drop, drop-of-length-le}
 use lib.Seq.{take-all, drop-append-le, drop-cons, split-at}
 use borrow.Author.Tests.{le-leb, lt-leb, leb-true, ltb-true}
 use Rattle.text.specs.Utf8.{Range, _to_, UTF8-tail, UTF8-char, within, fits, charLen, utf8, scalar, encode, encodeAll, allScalar}
-use Rattle.text.proofs.Utf8Steps.{below, and-left, and-right, charLen-le, utf8-nil, utf8-none, utf8-char}
+use Rattle.slices.proofs.Cases.{lt-or-ge, and-left, and-right}
+use Rattle.text.proofs.Utf8Steps.{charLen-le, utf8-nil, utf8-none, utf8-char}
 
 -- A cut at an ASCII octet b. In every alternative the ranges after the first lie above ASCII, so b is no part of a char that began before it.
 high : List Range → Bool
@@ -68,14 +69,14 @@ module _ (s : List ℕ) (i : ℕ) (ascii : getD s i 0 < 128) (valid : utf8 s ≡
   halves h = sym (ascii-cut (take i s) (getD s i 0) (drop (suc i) s) ascii) ∙ ap utf8 (sym (split-at s i 0 h)) ∙ valid
 
   pub utf8-take-ascii : utf8 (take i s) ≡ true
-  utf8-take-ascii = ⊎-elim (λ h. and-left (utf8 (take i s)) (utf8 (drop (suc i) s)) (halves h)) (λ h. rw (take-all i s h) valid) (below i (length s))
+  utf8-take-ascii = ⊎-elim (λ h. and-left (utf8 (take i s)) (utf8 (drop (suc i) s)) (halves h)) (λ h. rw (take-all i s h) valid) (lt-or-ge i (length s))
 
   pub utf8-after-ascii : utf8 (drop (i + 1) s) ≡ true
-  utf8-after-ascii = rw (add-one i) (⊎-elim (λ h. and-right (utf8 (take i s)) (utf8 (drop (suc i) s)) (halves h)) (λ h. rw (drop-of-length-le s {i = suc i} (omega arith)) utf8-nil) (below i (length s)))
+  utf8-after-ascii = rw (add-one i) (⊎-elim (λ h. and-right (utf8 (take i s)) (utf8 (drop (suc i) s)) (halves h)) (λ h. rw (drop-of-length-le s {i = suc i} (omega arith)) utf8-nil) (lt-or-ge i (length s)))
 
   pub utf8-drop-ascii : utf8 (drop i s) ≡ true
   utf8-drop-ascii =
-      ⊎-elim (λ h. rw (drop-cons s i 0 h) (ascii-cut [] (getD s i 0) (drop (suc i) s) ascii ∙ rw utf8-nil (and-right (utf8 (take i s)) (utf8 (drop (suc i) s)) (halves h)))) (λ h. rw (drop-of-length-le s {i = i} h) utf8-nil) (below i (length s))
+      ⊎-elim (λ h. rw (drop-cons s i 0 h) (ascii-cut [] (getD s i 0) (drop (suc i) s) ascii ∙ rw utf8-nil (and-right (utf8 (take i s)) (utf8 (drop (suc i) s)) (halves h)))) (λ h. rw (drop-of-length-le s {i = i} h) utf8-nil) (lt-or-ge i (length s))
 
 -- Section 3. An alternative fits: the facts about its octets.
 abbrev Fits : List Range → List ℕ → Type 0
@@ -188,7 +189,7 @@ scalar-cases c h = go (leb c 0xD7FF) refl h
     go false e f = inr (leb-true 0xE000 c (and-left (leb 0xE000 c) (leb c 0x10FFFF) f), leb-true c 0x10FFFF (and-right (leb 0xE000 c) (leb c 0x10FFFF) f))
 
 by-size : {A : Type 0} (c n : ℕ) → (c ≤ n → A) → (n < c → A) → A
-by-size c n f g = ⊎-elim g f (below n c)
+by-size c n f g = ⊎-elim g f (lt-or-ge n c)
 
 encoded-char : (c : ℕ) (s : List ℕ) → scalar c ≡ true → utf8 (encode c ++ s) ≡ utf8 s
 encoded-char c s h = ⊎-elim low high-part (scalar-cases c h)

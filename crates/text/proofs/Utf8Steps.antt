@@ -7,29 +7,14 @@ use mathlib.Core.Logic.{_⊎_, inl, inr}
 use native.Mathlib.Omega.{arith}
 use lib.Dec.{ltb, leb·suc-suc, eqb·suc-zero}
 use lib.ListN.{length, drop, length-drop}
-use borrow.Author.Tests.{lt-ltb, ltb-true, ltb-false}
+use borrow.Author.Tests.{lt-ltb}
+use Rattle.slices.proofs.Cases.{and-right}
 use Rattle.text.specs.Utf8.{Range, UTF8-char, within, octetIn, fits, charLen, chars, utf8}
-
--- Every two numbers compare.
-pub below : (a b : ℕ) → a < b ⊎ b ≤ a
-below a b = go (ltb a b) refl
-  where
-    go : (t : Bool) → ltb a b ≡ t → a < b ⊎ b ≤ a
-    go true e = inl (ltb-true a b e)
-    go false e = inr (ltb-false a b e)
 
 -- One octet more. An alternative with a range r at its end fits where the ranges before r fit and the octet after theirs lies in r.
 octet-suc : (b : ℕ) (s : List ℕ) (k : ℕ) (r : Range) → octetIn (b ∷ s) (suc k) r ≡ octetIn s k r
 unfolding octetIn
 octet-suc b s k r = rw (leb·suc-suc (suc k) (length s))
-
-pub and-left : (a b : Bool) → (a && b) ≡ true → a ≡ true
-and-left true b e = refl
-and-left false b e = e
-
-pub and-right : (a b : Bool) → (a && b) ≡ true → b ≡ true
-and-right true b e = e
-and-right false b e = absurd (false≢true e)
 
 pub fits-snoc : (rs : List Range) (r : Range) (s : List ℕ) → fits (rs ++ (r ∷ [])) s ≡ (fits rs s && octetIn s (length rs) r)
 unfolding fits octetIn
@@ -41,13 +26,6 @@ fits-snoc (q ∷ rs) r (b ∷ s) = rw (fits-snoc rs r s, octet-suc b s (length r
 pub fits-one : (r : Range) (s : List ℕ) → fits (r ∷ []) s ≡ octetIn s 0 r
 unfolding fits
 fits-one r s = fits-snoc [] r s
-
--- What a function of utf8.rt answers with its last test done or left out
-pub both : (a b : Bool) {x y : Bool} → x ≡ a → x ≡ true → y ≡ b → y ≡ (a && b)
-both a b e t f = rw (← e, t) f
-
-pub first-fails : (a b : Bool) {x : Bool} → x ≡ a → x ≡ false → false ≡ (a && b)
-first-fails a b e t = rw (← e, t)
 
 -- The first alternative fits, or the length is that by the others
 pub hit : (r : List Range) (rs : List (List Range)) (s : List ℕ) {x : Bool} → x ≡ fits r s → x ≡ true → length r ≡ charLen (r ∷ rs) s

@@ -5,7 +5,7 @@ use native.Mathlib.Omega.{arith}
 use native.Mathlib.Nat.{add-zero}
 use lib.ListN.{length, drop, length-set, drop-of-length-le}
 use lib.Seq.{sets}
-use Rattle.listing.proofs.Runs.{bytes-turn}
+use Rattle.slices.proofs.Bytes.{sets-turn}
 use Rattle.listing.proofs.put_bytes.Statement.{statement}
 use Rattle.listing.proofs.put_bytes.Tie as tie
 
@@ -22,7 +22,7 @@ loop-holds c = (omega arith, refl, rw add-zero)
 loop-again : tie.Need-loop-again Inv-loop μ-loop
 loop-again c =
     let l = c .before .before .loop in
-    (omega arith, simp length-set (l .inv .1), bytes-turn _ _ _ _ (c .before .loop-test .taken) ∙ l .inv .2)
+    (omega arith, simp length-set (l .inv .1), sets-turn _ _ _ _ (c .before .loop-test .taken) ∙ l .inv .2)
 
 same-length : tie.Need-same-length Inv-loop μ-loop
 same-length c = c .before .loop .inv .1

@@ -1,8 +1,8 @@
 -- `rows::function_texts` meets its contract: the two tests one after the other.
 use mathlib.Core.Path.{sym, _∙_}
 use borrow.Author.Needs.{needs}
+use Rattle.slices.proofs.Cases.{and-stop, and-then}
 use Rattle.rows.specs.Refusals.{inside?, readable?, functionTexts?}
-use Rattle.rows.proofs.Laws.{and-stop, and-then}
 use Rattle.rows.proofs.function_texts.Statement.{statement}
 use Rattle.rows.proofs.function_texts.Tie as tie
 

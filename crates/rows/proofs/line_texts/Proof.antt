@@ -1,7 +1,8 @@
 -- `rows::line_texts` meets its contract: the five tests one after the other.
 use borrow.Author.Needs.{needs}
+use Rattle.slices.proofs.Cases.{and-stop, and-then}
 use Rattle.rows.specs.Refusals.{lineTexts?}
-use Rattle.rows.proofs.Laws.{and-stop, and-then, failed, passed}
+use Rattle.rows.proofs.Laws.{failed, passed}
 use Rattle.rows.proofs.line_texts.Statement.{statement}
 use Rattle.rows.proofs.line_texts.Tie as tie
 

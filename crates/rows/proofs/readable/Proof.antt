@@ -1,10 +1,10 @@
 -- `rows::readable` meets its contract: the two tests one after the other.
 use mathlib.Core.Path.{sym, ap, _∙_}
 use borrow.Author.Needs.{needs}
+use Rattle.slices.proofs.Cases.{and-stop, and-then}
 use Rattle.text.specs.Utf8.{utf8}
 use Rattle.rows.specs.Columns.{textOf}
 use Rattle.rows.specs.Refusals.{inside?, readable?}
-use Rattle.rows.proofs.Laws.{and-stop, and-then}
 use Rattle.rows.proofs.readable.Statement.{statement}
 use Rattle.rows.proofs.readable.Tie as tie
 

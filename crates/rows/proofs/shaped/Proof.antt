@@ -3,8 +3,9 @@ use Prim.Native.Nat.{ℕ}
 use mathlib.Core.Path.{ap}
 use lib.Dec.{eqb}
 use borrow.Author.Needs.{needs}
+use Rattle.slices.proofs.Cases.{and-stop, and-then}
 use Rattle.rows.specs.Refusals.{shapedWith?}
-use Rattle.rows.proofs.Laws.{and-stop, and-then, failed, passed, count-yes, count-many, count-none}
+use Rattle.rows.proofs.Laws.{failed, passed, count-yes, count-many, count-none}
 use Rattle.rows.proofs.shaped.Statement.{statement}
 use Rattle.rows.proofs.shaped.Tie as tie
 

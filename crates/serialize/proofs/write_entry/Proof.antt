@@ -6,10 +6,10 @@ use Rattle.serialize.proofs.write_entry.Tie as tie
 
 returns : tie.Need-returns
 returns c =
-    let at-write-range = c .before .before .before .before .before .before in
-    let start = at-write-range .before .before .before in
+    let at-store = c .before .before .before .before .before .before in
+    let start = at-store .before .before .before in
     let a = start .args in
-    entry-stored (a .out .now) _ _ (a .at) (a .start) (a .row) (at-write-range .write-range .ensures) (c .before .before .write-range2 .ensures)
+    entry-stored (a .out .now) _ _ (a .at) (a .start) (a .row) (at-store .store-u32 .ensures) (c .before .before .store-u322 .ensures)
 
 pub write-entry-spec : {M : Type 1} → statement M
 write-entry-spec =

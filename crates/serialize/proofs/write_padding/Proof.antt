@@ -9,7 +9,7 @@ use Rattle.serialize.proofs.write_padding.Tie as tie
 returns : tie.Need-returns
 returns c =
     let a = c .before .before .before .before .before .before .args in
-    c .before .before .write-range .ensures ∙ rw (padding-odd (a .all) (c .before .before .before .before .if1 .taken))
+    c .before .before .store-u32 .ensures ∙ rw (padding-odd (a .all) (c .before .before .before .before .if1 .taken))
 
 returns-2 : tie.Need-returns-2
 returns-2 c = let a = c .before .before .args in rw (padding-even (a .all) (omega arith))

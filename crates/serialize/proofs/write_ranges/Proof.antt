@@ -21,14 +21,14 @@ at-write-range c = c .before .before .before .before .before .before
 abbrev at-entry-location : tie.After-slice-known3 Inv-loop μ-loop → tie.After-entry-location Inv-loop μ-loop
 at-entry-location c = at-write-range c .before .before
 
-abbrev at-range-at2 : tie.After-slice-known3 Inv-loop μ-loop → tie.After-range-at2 Inv-loop μ-loop
-at-range-at2 c = at-entry-location c .before
+abbrev at-row : tie.After-slice-known3 Inv-loop μ-loop → tie.After-load-u322 Inv-loop μ-loop
+at-row c = at-entry-location c .before
 
-abbrev at-range-at : tie.After-slice-known3 Inv-loop μ-loop → tie.After-range-at Inv-loop μ-loop
-at-range-at c = at-range-at2 c .before .before
+abbrev at-start : tie.After-slice-known3 Inv-loop μ-loop → tie.After-load-u32 Inv-loop μ-loop
+at-start c = at-row c .before .before
 
 abbrev at-loop : tie.After-slice-known3 Inv-loop μ-loop → tie.At-loop Inv-loop μ-loop
-at-loop c = at-range-at c .before .before .before
+at-loop c = at-start c .before .before .before
 
 abbrev start : tie.After-slice-known3 Inv-loop μ-loop → tie.Start Inv-loop μ-loop
 start c = at-loop c .before .before .before
@@ -44,8 +44,8 @@ loop-again c =
     let a = start c .args in (
       omega arith,
       turned-step (a .ranges .now) (a .count) (a .out .now) (a .at) (a .all) (l .i) (l .out) (l .inv .1) (omega arith) _ _ _ _ _
-          (at-range-at c .range-at .ensures)
-          (at-range-at2 c .range-at2 .ensures)
+          (at-start c .load-u32 .ensures)
+          (at-row c .load-u322 .ensures)
           (at-entry-location c .entry-location .ensures)
           (at-write-range c .write-range .ensures)
           (c .before .before .write-location .ensures),
