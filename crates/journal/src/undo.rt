@@ -1,9 +1,9 @@
 // Rows and texts added since a mark are taken back: each table is to the word what it was.
 use slices::put;
-use slices::put_byte;
 use tables::Row;
 use tables::kinds::text_of_row;
 ghost use mathlib.Core.Path.{_≡_};
+ghost use lib.ListN.{set};
 ghost use Rattle.journal.specs.Undo.{rowHashOf, undoOf, offOf, undoneTo, cutTo};
 
 // The width of the index of texts: its rows are found by their hash.
@@ -44,8 +44,17 @@ fn cut(text: &mut [u8], to: u32, n: u32)
 {
     let mut i = to;
     while i < n {
-        put_byte(text, i as usize, 0, 0);
+        zero(text, i);
         i += 1;
+    }
+}
+
+fn zero(text: &mut [u8], i: u32)
+    ensures { λ _. ⌜ now (text .exit) ≡ set (now (text .entry)) i 0 ⌝ }
+{
+    let k = i as usize;
+    if k < text.len() {
+        text[k] = 0;
     }
 }
 

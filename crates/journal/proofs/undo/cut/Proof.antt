@@ -9,12 +9,11 @@ use borrow.Author.Needs.{needs}
 use Rattle.journal.proofs.undo.cut.Statement.{statement}
 use Rattle.journal.proofs.undo.cut.Tie as tie
 
-cut-turn : (i : ℕ) (t : List ℕ) (n : ℕ) → i < n → {t₁ x : List ℕ} → t₁ ≡ set t (i + 0) 0 → cutTo i t n ≡ x → cutTo (i + 1) t₁ n ≡ x
+cut-turn : (i : ℕ) (t : List ℕ) (n : ℕ) → i < n → {t₁ x : List ℕ} → t₁ ≡ set t i 0 → cutTo i t n ≡ x → cutTo (i + 1) t₁ n ≡ x
 unfolding cutTo
 cut-turn i t n h e f =
     let s : n - i ≡ suc (n - suc i) = omega arith in
-    let z : i + 0 ≡ i = omega arith in
-    rw (e, z, add-one i) (rw s at f)
+    rw (e, add-one i) (rw s at f)
 
 cut-done : (i : ℕ) (t : List ℕ) (n : ℕ) → n ≤ i → cutTo i t n ≡ t
 unfolding cutTo
@@ -30,7 +29,7 @@ loop-holds : tie.Need-loop-holds Inv-loop μ-loop
 loop-holds c = (refl, refl)
 
 loop-again : tie.Need-loop-again Inv-loop μ-loop
-loop-again c = let a = c .before .before .before .before .before .before .before .args in let l = c .before .before .before .before .before .loop in (search needs, cut-turn (l .i) (l .text) (a .n) (c .before .before .before .before .loop-test .taken) (c .before .before .put-byte .ensures) (l .inv .1))
+loop-again c = let a = c .before .before .before .before .before .before .before .args in let l = c .before .before .before .before .before .loop in (search needs, cut-turn (l .i) (l .text) (a .n) (c .before .before .before .before .loop-test .taken) (c .before .before .zero .ensures) (l .inv .1))
 
 same-length : tie.Need-same-length Inv-loop μ-loop
 same-length c = c .before .loop .inv .0
@@ -45,7 +44,7 @@ cut-spec =
     Inv-loop
     μ-loop
     loop-holds
-    (λ c. omega arith) (λ c κs. tt) (λ c. omega arith) (λ c. omega arith)
+    (λ c κs. tt) (λ c. omega arith) (λ c. omega arith)
     loop-again
     same-length
     returns)
