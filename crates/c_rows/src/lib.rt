@@ -7,6 +7,7 @@ ghost use Rattle.c_reading.specs.Reading.{functionCall, fileCall, indexOf, next
 ghost use Rattle.c_reading.specs.Reading.{filesCall};
 use c_reading::put_file;
 use c_reading::put_function;
+use file_texts::GotString;
 use slices::put;
 use slices::put64;
 use slices::word;
@@ -16,7 +17,6 @@ use symcache::lookup::FunctionStep;
 use symcache::lookup::Functions;
 use symcache::lookup::GotFile;
 use symcache::lookup::GotFunction;
-use file_texts::GotString;
 
 fn put_string(part: &mut [u64], string: GotString) -> u32
     ensures { λ r. ⌜ filled r (now (part .exit)) ≡ answered partWords (stringAnswer string) (now (part .entry)) ⌝ }

@@ -1,4 +1,5 @@
 // Replays what the original answered on written, damaged and random files: oracle/FORMAT.md, "Reader". A line is printed for each case, its checksum.
+use file_texts::GotString;
 use libc::STDOUT_FILENO;
 use raw::File;
 use raw::Function;
@@ -24,7 +25,6 @@ use symcache::lookup::GotFunction;
 use symcache::lookup::LookedUp;
 use symcache::lookup::SourceLocations;
 use symcache::lookup::Step;
-use file_texts::GotString;
 
 // Words
 
