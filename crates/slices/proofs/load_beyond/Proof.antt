@@ -7,11 +7,14 @@ use Rattle.slices.proofs.load_beyond.Tie as tie
 
 returns : tie.Need-returns
 returns c =
-    let a = c .before .before .before .before .before .before .before .before .before .args in
+    let third = c .before .before in
+    let second = third .before .before in
+    let first = second .before .before in
+    let a = first .before .before .before .args in
     four-loads (a .s .now) (a .at)
-    (c .before .before .before .before .before .before .wide .ensures .0 ∙ c .before .before .before .before .before .before .before .byte-at .ensures)
-    (c .before .before .before .before .wide2 .ensures .0 ∙ c .before .before .before .before .before .byte-at2 .ensures)
-    (c .before .before .wide3 .ensures .0 ∙ c .before .before .before .byte-at3 .ensures)
+    (first .wide .ensures .0 ∙ first .before .byte-at .ensures)
+    (second .wide2 .ensures .0 ∙ second .before .byte-at2 .ensures)
+    (third .wide3 .ensures .0 ∙ third .before .byte-at3 .ensures)
     (c .wide4 .ensures .0 ∙ c .before .byte-at4 .ensures)
 
 pub load-beyond-spec : {M : Type 1} → statement M
