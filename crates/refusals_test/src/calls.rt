@@ -9,9 +9,6 @@ use crate::left::is_written;
 use memory::Converter;
 use rows::OptionalPart;
 use rows::TextPart;
-ghost use mathlib.Core.Path.{_≡_};
-ghost use Prim.Native.Nat.{_≤_};
-ghost use lib.ListN.{length};
 ghost use Rattle.io.specs.Counts.{Counts};
 
 // The lent tables.
@@ -32,81 +29,54 @@ pub(crate) struct Done {
     pub same: bool,
 }
 
-// Arrays with the lengths that lending them needs
+// How much of a slice is lent: n, or all of it.
 
-fn sized(t: [u32; 96]) -> [u32; 96]
-    ensures { λ r. ⌜ 96 ≡ length r ⌝ }
+fn count_words(t: &[u32], n: usize) -> usize
+    ensures { λ r. ⌜ Counts r (now (t .entry)) ⌝ }
 {
-    t
-}
-
-fn sized_bytes(t: [u8; 96]) -> [u8; 96]
-    ensures { λ r. ⌜ 96 ≡ length r ⌝ }
-{
-    t
-}
-
-fn string_bytes_of(t: Tables) -> [u8; 96]
-    ensures { λ r. ⌜ 96 ≡ length r ⌝ }
-{
-    let a = t.string_bytes;
-    sized_bytes(a)
-}
-
-fn strings_of(t: Tables) -> [u32; 96]
-    ensures { λ r. ⌜ 96 ≡ length r ⌝ }
-{
-    let a = t.strings;
-    sized(a)
-}
-
-fn files_of(t: Tables) -> [u32; 96]
-    ensures { λ r. ⌜ 96 ≡ length r ⌝ }
-{
-    let a = t.files;
-    sized(a)
-}
-
-fn functions_of(t: Tables) -> [u32; 96]
-    ensures { λ r. ⌜ 96 ≡ length r ⌝ }
-{
-    let a = t.functions;
-    sized(a)
-}
-
-fn call_locations_of(t: Tables) -> [u32; 96]
-    ensures { λ r. ⌜ 96 ≡ length r ⌝ }
-{
-    let a = t.call_locations;
-    sized(a)
-}
-
-fn ranges_of(t: Tables) -> [u32; 96]
-    ensures { λ r. ⌜ 96 ≡ length r ⌝ }
-{
-    let a = t.ranges;
-    sized(a)
-}
-
-fn other_scratch() -> [u32; 262144]
-    ensures { λ r. ⌜ 262144 ≡ length r ⌝ }
-{
-    [OTHER; 262144]
-}
-
-fn other_out() -> [u8; 400]
-    ensures { λ r. ⌜ 400 ≡ length r ⌝ }
-{
-    [165; 400]
-}
-
-fn at_most(n: usize, most: usize) -> usize
-    ensures { λ r. ⌜ r ≤ most ⌝ }
-{
-    if n < most {
+    if n < t.len() {
         return n;
     }
-    most
+    t.len()
+}
+
+fn count_bytes(t: &[u8], n: usize) -> usize
+    ensures { λ r. ⌜ Counts r (now (t .entry)) ⌝ }
+{
+    if n < t.len() {
+        return n;
+    }
+    t.len()
+}
+
+// The same for the arrays that are lent.
+
+fn lent_words(t: &[u32; 96], n: usize) -> usize
+    ensures { λ r. ⌜ Counts r (now (t .entry)) ⌝ }
+{
+    count_words(t, n)
+}
+
+fn lent_bytes(t: &[u8; 96], n: usize) -> usize
+    ensures { λ r. ⌜ Counts r (now (t .entry)) ⌝ }
+{
+    count_bytes(t, n)
+}
+
+fn lent_scratch(t: &[u32; 262144], n: usize) -> usize
+    ensures { λ r. ⌜ Counts r (now (t .entry)) ⌝ }
+{
+    count_words(t, n)
+}
+
+fn lent_out(t: &[u8; 400], n: usize) -> usize
+    ensures { λ r. ⌜ Counts r (now (t .entry)) ⌝ }
+{
+    count_bytes(t, n)
+}
+
+fn other_scratch() -> [u32; 262144] {
+    [OTHER; 262144]
 }
 
 // What a call is given
@@ -189,6 +159,38 @@ fn set_bytes(t: &mut [u8], words: &[u64; 384], from: usize, n: usize) -> Set
     Set { n: i, same }
 }
 
+// The same for the arrays that are lent.
+
+fn set_functions64(t: &mut [u64; 131074], words: &[u64; 384], n: usize) -> Set
+    ensures { λ r. ⌜ Counts (r .n) (now (t .exit)) ⌝ }
+{
+    set_numbers(t, words, 0, n)
+}
+
+fn set_functions32(t: &mut [u32; 524296], words: &[u64; 384], n: usize) -> Set
+    ensures { λ r. ⌜ Counts (r .n) (now (t .exit)) ⌝ }
+{
+    set_words(t, words, 64, n)
+}
+
+fn set_lines64(t: &mut [u64; 12], words: &[u64; 384], n: usize) -> Set
+    ensures { λ r. ⌜ Counts (r .n) (now (t .exit)) ⌝ }
+{
+    set_numbers(t, words, 128, n)
+}
+
+fn set_lines32(t: &mut [u32; 56], words: &[u64; 384], n: usize) -> Set
+    ensures { λ r. ⌜ Counts (r .n) (now (t .exit)) ⌝ }
+{
+    set_words(t, words, 192, n)
+}
+
+fn set_text(t: &mut [u8; 20], words: &[u64; 384], n: usize) -> Set
+    ensures { λ r. ⌜ Counts (r .n) (now (t .exit)) ⌝ }
+{
+    set_bytes(t, words, 256, n)
+}
+
 // With whether the rows or the text are what they were.
 fn with_same(mut done: Done, same: bool) -> Done {
     done.same = done.same && same;
@@ -197,20 +199,19 @@ fn with_same(mut done: Done, same: bool) -> Done {
 
 // The calls
 
-fn begin(c: Case, tables: Tables) -> Done {
-    let mut string_bytes = string_bytes_of(tables);
-    let mut strings = strings_of(tables);
-    let mut files = files_of(tables);
-    let mut functions = functions_of(tables);
-    let mut call_locations = call_locations_of(tables);
-    let mut ranges = ranges_of(tables);
-    let lent = c.lent;
-    let n0 = at_most(lent[0], 96);
-    let n1 = at_most(lent[1], 96);
-    let n2 = at_most(lent[2], 96);
-    let n3 = at_most(lent[3], 96);
-    let n4 = at_most(lent[4], 96);
-    let n5 = at_most(lent[5], 96);
+fn begin(lent: [usize; 14], tables: Tables) -> Done {
+    let mut string_bytes = tables.string_bytes;
+    let mut strings = tables.strings;
+    let mut files = tables.files;
+    let mut functions = tables.functions;
+    let mut call_locations = tables.call_locations;
+    let mut ranges = tables.ranges;
+    let n0 = lent_bytes(&string_bytes, lent[0]);
+    let n1 = lent_words(&strings, lent[1]);
+    let n2 = lent_words(&files, lent[2]);
+    let n3 = lent_words(&functions, lent[3]);
+    let n4 = lent_words(&call_locations, lent[4]);
+    let n5 = lent_words(&ranges, lent[5]);
     let id = [0u8; 32];
     let converter = memory::begin(
         id,
@@ -241,7 +242,7 @@ fn begin(c: Case, tables: Tables) -> Done {
 }
 
 fn tree(
-    c: Case,
+    lent: [usize; 14],
     converter: Converter,
     tables: Tables,
     functions64: &[u64],
@@ -250,21 +251,20 @@ fn tree(
     lines32: &[u32],
     text: &[u8],
 ) -> Done {
-    let mut string_bytes = string_bytes_of(tables);
-    let mut strings = strings_of(tables);
-    let mut files = files_of(tables);
-    let mut functions = functions_of(tables);
-    let mut call_locations = call_locations_of(tables);
-    let mut ranges = ranges_of(tables);
+    let mut string_bytes = tables.string_bytes;
+    let mut strings = tables.strings;
+    let mut files = tables.files;
+    let mut functions = tables.functions;
+    let mut call_locations = tables.call_locations;
+    let mut ranges = tables.ranges;
     let mut scratch = other_scratch();
-    let lent = c.lent;
-    let n0 = at_most(lent[0], 96);
-    let n1 = at_most(lent[1], 96);
-    let n2 = at_most(lent[2], 96);
-    let n3 = at_most(lent[3], 96);
-    let n4 = at_most(lent[4], 96);
-    let n5 = at_most(lent[5], 96);
-    let n6 = at_most(lent[6], 262144);
+    let n0 = lent_bytes(&string_bytes, lent[0]);
+    let n1 = lent_words(&strings, lent[1]);
+    let n2 = lent_words(&files, lent[2]);
+    let n3 = lent_words(&functions, lent[3]);
+    let n4 = lent_words(&call_locations, lent[4]);
+    let n5 = lent_words(&ranges, lent[5]);
+    let n6 = lent_scratch(&scratch, lent[6]);
     let answer = writer::calls::process_symbolic_function(
         converter,
         &mut string_bytes[..n0],
@@ -299,21 +299,20 @@ fn tree(
 
 // A tree of the case's line rows, which are compared after it.
 fn tree_with_lines(
-    c: Case,
+    words: &[u64; 384],
+    lent: [usize; 14],
     converter: Converter,
     tables: Tables,
     functions64: &[u64],
     functions32: &[u32],
     text: &[u8],
 ) -> Done {
-    let words = c.words;
-    let lent = c.lent;
     let mut lines64 = [0u64; 12];
     let mut lines32 = [0u32; 56];
-    let n = set_numbers(&mut lines64, &words, 128, lent[10]).n;
-    let n1 = set_words(&mut lines32, &words, 192, lent[11]).n;
+    let n = set_lines64(&mut lines64, words, lent[10]).n;
+    let n1 = set_lines32(&mut lines32, words, lent[11]).n;
     let done = tree(
-        c,
+        lent,
         converter,
         tables,
         functions64,
@@ -322,56 +321,66 @@ fn tree_with_lines(
         &lines32[..n1],
         text,
     );
-    let same = set_numbers(&mut lines64, &words, 128, n).same;
-    let same1 = set_words(&mut lines32, &words, 192, n1).same;
+    let same = set_lines64(&mut lines64, words, n).same;
+    let same1 = set_lines32(&mut lines32, words, n1).same;
     with_same(done, same && same1)
 }
 
 // A tree of the case's function rows, which are compared after it.
-fn tree_with_rows(c: Case, converter: Converter, tables: Tables, text: &[u8]) -> Done {
-    let words = c.words;
-    let lent = c.lent;
+fn tree_with_rows(
+    words: &[u64; 384],
+    lent: [usize; 14],
+    converter: Converter,
+    tables: Tables,
+    text: &[u8],
+) -> Done {
     let mut functions64 = [0u64; 131074];
     let mut functions32 = [0u32; 524296];
-    let n = set_numbers(&mut functions64, &words, 0, lent[8]).n;
-    let n1 = set_words(&mut functions32, &words, 64, lent[9]).n;
+    let n = set_functions64(&mut functions64, words, lent[8]).n;
+    let n1 = set_functions32(&mut functions32, words, lent[9]).n;
     let done = tree_with_lines(
-        c,
+        words,
+        lent,
         converter,
         tables,
         &functions64[..n],
         &functions32[..n1],
         text,
     );
-    let same = set_numbers(&mut functions64, &words, 0, n).same;
-    let same1 = set_words(&mut functions32, &words, 64, n1).same;
+    let same = set_functions64(&mut functions64, words, n).same;
+    let same1 = set_functions32(&mut functions32, words, n1).same;
     with_same(done, same && same1)
 }
 
-fn name_of(c: Case) -> OptionalPart {
+fn name_of(words: &[u64; 384]) -> OptionalPart {
     OptionalPart {
-        present: c.words[322] != 0,
+        present: words[322] != 0,
         part: TextPart {
-            start: low(c.words[323]),
-            len: low(c.words[324]),
+            start: low(words[323]),
+            len: low(words[324]),
         },
     }
 }
 
-fn symbol(c: Case, converter: Converter, tables: Tables, text: &[u8]) -> Done {
-    let mut string_bytes = string_bytes_of(tables);
-    let mut strings = strings_of(tables);
-    let mut files = files_of(tables);
-    let mut functions = functions_of(tables);
-    let mut call_locations = call_locations_of(tables);
-    let mut ranges = ranges_of(tables);
-    let lent = c.lent;
-    let n0 = at_most(lent[0], 96);
-    let n1 = at_most(lent[1], 96);
-    let n2 = at_most(lent[2], 96);
-    let n3 = at_most(lent[3], 96);
-    let n4 = at_most(lent[4], 96);
-    let n5 = at_most(lent[5], 96);
+fn symbol(
+    words: &[u64; 384],
+    lent: [usize; 14],
+    converter: Converter,
+    tables: Tables,
+    text: &[u8],
+) -> Done {
+    let mut string_bytes = tables.string_bytes;
+    let mut strings = tables.strings;
+    let mut files = tables.files;
+    let mut functions = tables.functions;
+    let mut call_locations = tables.call_locations;
+    let mut ranges = tables.ranges;
+    let n0 = lent_bytes(&string_bytes, lent[0]);
+    let n1 = lent_words(&strings, lent[1]);
+    let n2 = lent_words(&files, lent[2]);
+    let n3 = lent_words(&functions, lent[3]);
+    let n4 = lent_words(&call_locations, lent[4]);
+    let n5 = lent_words(&ranges, lent[5]);
     let answer = writer::calls::process_symbolic_symbol(
         converter,
         &mut string_bytes[..n0],
@@ -381,9 +390,9 @@ fn symbol(c: Case, converter: Converter, tables: Tables, text: &[u8]) -> Done {
         &mut call_locations[..n4],
         &mut ranges[..n5],
         text,
-        c.words[320],
-        c.words[321],
-        name_of(c),
+        words[320],
+        words[321],
+        name_of(words),
     );
     let after = Tables {
         string_bytes,
@@ -402,22 +411,21 @@ fn symbol(c: Case, converter: Converter, tables: Tables, text: &[u8]) -> Done {
     }
 }
 
-fn write(c: Case, converter: Converter, tables: Tables, file: &[u8]) -> Done {
-    let string_bytes = string_bytes_of(tables);
-    let strings = strings_of(tables);
-    let files = files_of(tables);
-    let functions = functions_of(tables);
-    let call_locations = call_locations_of(tables);
-    let ranges = ranges_of(tables);
-    let mut out = other_out();
-    let lent = c.lent;
-    let n0 = at_most(lent[0], 96);
-    let n1 = at_most(lent[1], 96);
-    let n2 = at_most(lent[2], 96);
-    let n3 = at_most(lent[3], 96);
-    let n4 = at_most(lent[4], 96);
-    let n5 = at_most(lent[5], 96);
-    let n7 = at_most(lent[7], 400);
+fn write(lent: [usize; 14], converter: Converter, tables: Tables, file: &[u8]) -> Done {
+    let string_bytes = tables.string_bytes;
+    let strings = tables.strings;
+    let files = tables.files;
+    let functions = tables.functions;
+    let call_locations = tables.call_locations;
+    let ranges = tables.ranges;
+    let mut out = [165u8; 400];
+    let n0 = lent_bytes(&string_bytes, lent[0]);
+    let n1 = lent_words(&strings, lent[1]);
+    let n2 = lent_words(&files, lent[2]);
+    let n3 = lent_words(&functions, lent[3]);
+    let n4 = lent_words(&call_locations, lent[4]);
+    let n5 = lent_words(&ranges, lent[5]);
+    let n7 = lent_out(&out, lent[7]);
     let written = serialize::serialize(
         converter,
         &string_bytes[..n0],
@@ -436,11 +444,18 @@ fn write(c: Case, converter: Converter, tables: Tables, file: &[u8]) -> Done {
     }
 }
 
-fn call_with(c: Case, converter: Converter, tables: Tables, text: &[u8]) -> Done {
-    if c.call == SYMBOL {
-        return symbol(c, converter, tables, text);
+fn call_with(
+    call: usize,
+    words: &[u64; 384],
+    lent: [usize; 14],
+    converter: Converter,
+    tables: Tables,
+    text: &[u8],
+) -> Done {
+    if call == SYMBOL {
+        return symbol(words, lent, converter, tables, text);
     }
-    tree_with_rows(c, converter, tables, text)
+    tree_with_rows(words, lent, converter, tables, text)
 }
 
 // A tree or a symbol of the case's text, which is compared after it.
@@ -448,19 +463,20 @@ fn call_with_text(c: Case, converter: Converter, tables: Tables) -> Done {
     let words = c.words;
     let lent = c.lent;
     let mut text = [0u8; 20];
-    let n = set_bytes(&mut text, &words, 256, lent[12]).n;
-    let done = call_with(c, converter, tables, &text[..n]);
-    let same = set_bytes(&mut text, &words, 256, n).same;
+    let n = set_text(&mut text, &words, lent[12]).n;
+    let done = call_with(c.call, &words, lent, converter, tables, &text[..n]);
+    let same = set_text(&mut text, &words, n).same;
     with_same(done, same)
 }
 
 // The call of a case.
 pub(crate) fn call(c: Case, converter: Converter, tables: Tables, file: &[u8]) -> Done {
+    let lent = c.lent;
     if c.call == BEGIN {
-        return begin(c, tables);
+        return begin(lent, tables);
     }
     if c.call == WRITE {
-        return write(c, converter, tables, file);
+        return write(lent, converter, tables, file);
     }
     call_with_text(c, converter, tables)
 }

@@ -3,7 +3,7 @@ use Prim.Native.Nat.{_≤_, _-_}
 use mathlib.Core.Path.{_≡_}
 use lib.ListN.{length}
 use native.Mathlib.Omega.{arith}
-use Rattle.refusals_test.proofs.Parts.{counts}
+use Rattle.replay.proofs.Laws.{counts}
 use borrow.Author.Needs.{needs}
 use Rattle.refusals_test.proofs.calls.set_bytes.Statement.{statement}
 use Rattle.refusals_test.proofs.calls.set_bytes.Tie as tie
