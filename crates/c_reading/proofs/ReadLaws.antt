@@ -19,7 +19,7 @@ use Rattle.symcache.specs.Answers.{Answer, gives, refuses, Refusal, andThen}
 use Rattle.lookup.specs.Lookup.{walkFrom, walkAt, gotFunction}
 use Rattle.file_texts.specs.Strings.{Part, gotString}
 use Rattle.c_reading.specs.Stored.{stored}
-use Rattle.c_reading.specs.Reading.{Filled, filled, moved, answered, stepsTo, cacheWords, countAt, cacheOf, refused, cached, walkWords, walkOf, walkCall, headWords, withFile, nameAfter, gotName, indexOf}
+use Rattle.c_reading.specs.Reading.{Filled, filled, moved, answered, stepsTo, cacheWords, countAt, cacheOf, refused, cached, walkWords, walkOf, walkCall, headWords, withFile, nameAfter, gotName, cursorIndex}
 
 -- ── One slice ──────────────────────────────────────────────────────────────────────────────────────────────────────────
 
@@ -87,12 +87,12 @@ pub walk-read : (k : List ℕ) {a b c : ℕ} → 3 ≤ length k → a ≡ getD k
 unfolding walkOf
 walk-read k h ea eb ec = rw (le-ltb (length k) 3 h) (rw (ea, eb, ec))
 
-pub index-none : (k : List ℕ) → length k ≡ 0 → max32 ≡ indexOf k
-unfolding indexOf
+pub index-none : (k : List ℕ) → length k ≡ 0 → max32 ≡ cursorIndex k
+unfolding cursorIndex
 index-none k h = rw (eq-eqb (length k) 0 h)
 
-pub index-read : (k : List ℕ) {a : ℕ} → (length k ≡ 0 → ⊥) → a ≡ getD k 0 0 → a ≡ indexOf k
-unfolding indexOf
+pub index-read : (k : List ℕ) {a : ℕ} → (length k ≡ 0 → ⊥) → a ≡ getD k 0 0 → a ≡ cursorIndex k
+unfolding cursorIndex
 index-read k h e = rw (ne-eqb (length k) 0 h) e
 
 -- a walk, made of the words of a cache

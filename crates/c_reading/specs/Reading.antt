@@ -159,23 +159,23 @@ nameBytes s standIn t = cond (eqb (getD t 0 0) 0) standIn (take (getD t 2 0) (dr
 -- ── Files and functions ────────────────────────────────────────────────────────────────────────────────────────────────
 
 -- "0 whether there is one", then its words
-abbrev pub functionRow : Option Function → List ℕ
-functionRow none = 0 ∷ []
-functionRow (some f) = 1 ∷ functionWords f
+abbrev pub functionAnswerWords : Option Function → List ℕ
+functionAnswerWords none = 0 ∷ []
+functionAnswerWords (some f) = 1 ∷ functionWords f
 
-abbrev pub fileRow : Option File → List ℕ
-fileRow none = 0 ∷ []
-fileRow (some f) = 1 ∷ fileWords f
+abbrev pub fileAnswerWords : Option File → List ℕ
+fileAnswerWords none = 0 ∷ []
+fileAnswerWords (some f) = 1 ∷ fileWords f
 
 unfoldable pub functionCall : List ℕ → ℕ → List ℕ → Filled
-functionCall s i t = answered functionRow (gotFunction s i) t
+functionCall s i t = answered functionAnswerWords (gotFunction s i) t
 
 unfoldable pub fileCall : List ℕ → ℕ → List ℕ → Filled
-fileCall s i t = answered fileRow (gotFile s i) t
+fileCall s i t = answered fileAnswerWords (gotFile s i) t
 
 -- "the cursor is 1 word, the index from which on to look (0 at first; a cursor of no words is at the end)"
-unfoldable pub indexOf : List ℕ → ℕ
-indexOf k = cond (eqb (length k) 0) max32 (getD k 0 0)
+unfoldable pub cursorIndex : List ℕ → ℕ
+cursorIndex k = cond (eqb (length k) 0) max32 (getD k 0 0)
 
 -- "0 whether there is one, 1 index, 2-5 the function or 2-7 the file"
 abbrev pub nextFunctionWords : NextFunction → List ℕ
@@ -185,7 +185,7 @@ abbrev pub functionNext : NextFunction → List ℕ
 functionNext x = x .next .«function_idx» ∷ []
 
 unfoldable pub functionsCall : List ℕ → List ℕ → List ℕ → Moved
-functionsCall s k t = stepsTo functionNext nextFunctionWords (functionsNext s (record { «function_idx» = indexOf k })) k t
+functionsCall s k t = stepsTo functionNext nextFunctionWords (functionsNext s (record { «function_idx» = cursorIndex k })) k t
 
 abbrev pub nextFileWords : NextFile → List ℕ
 nextFileWords x = 1 ∷ x .index ∷ fileWords (x .file)
@@ -194,4 +194,4 @@ abbrev pub fileNext : NextFile → List ℕ
 fileNext x = x .next .«file_idx» ∷ []
 
 unfoldable pub filesCall : List ℕ → List ℕ → List ℕ → Moved
-filesCall s k t = stepsTo fileNext nextFileWords (filesNext s (record { «file_idx» = indexOf k })) k t
+filesCall s k t = stepsTo fileNext nextFileWords (filesNext s (record { «file_idx» = cursorIndex k })) k t

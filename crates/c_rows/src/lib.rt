@@ -2,8 +2,8 @@
 ghost use mathlib.Core.Path.{_≡_};
 ghost use Rattle.lookup.specs.Answers.{fileAnswer, functionAnswer, functionsAnswer, filesAnswer};
 ghost use Rattle.file_texts.specs.Strings.{stringAnswer};
-ghost use Rattle.c_reading.specs.Reading.{filled, moved, answered, stepsTo, partWords, stringCall, gotName, nameCall, functionRow, fileRow};
-ghost use Rattle.c_reading.specs.Reading.{functionCall, fileCall, indexOf, nextFunctionWords, functionNext, functionsCall, nextFileWords, fileNext};
+ghost use Rattle.c_reading.specs.Reading.{filled, moved, answered, stepsTo, partWords, stringCall, gotName, nameCall, functionAnswerWords, fileAnswerWords};
+ghost use Rattle.c_reading.specs.Reading.{functionCall, fileCall, cursorIndex, nextFunctionWords, functionNext, functionsCall, nextFileWords, fileNext};
 ghost use Rattle.c_reading.specs.Reading.{filesCall};
 use c_reading::put_file;
 use c_reading::put_function;
@@ -62,7 +62,7 @@ pub fn function_name(bytes: &[u8], function_idx: u32, part: &mut [u64]) -> u32
 }
 
 fn put_got_function(row: &mut [u32], function: GotFunction) -> u32
-    ensures { λ r. ⌜ filled r (now (row .exit)) ≡ answered functionRow (functionAnswer function) (now (row .entry)) ⌝ }
+    ensures { λ r. ⌜ filled r (now (row .exit)) ≡ answered functionAnswerWords (functionAnswer function) (now (row .entry)) ⌝ }
 {
     match function {
         GotFunction::Function(f) => {
@@ -85,7 +85,7 @@ pub fn get_function(bytes: &[u8], function_idx: u32, row: &mut [u32]) -> u32
 }
 
 fn put_got_file(row: &mut [u32], file: GotFile) -> u32
-    ensures { λ r. ⌜ filled r (now (row .exit)) ≡ answered fileRow (fileAnswer file) (now (row .entry)) ⌝ }
+    ensures { λ r. ⌜ filled r (now (row .exit)) ≡ answered fileAnswerWords (fileAnswer file) (now (row .entry)) ⌝ }
 {
     match file {
         GotFile::File(f) => {
@@ -109,7 +109,7 @@ pub fn get_file(bytes: &[u8], file_idx: u32, row: &mut [u32]) -> u32
 
 // The index from which on to look; a cursor of no words is at the end.
 fn index_of(cursor: &[u32]) -> u32
-    ensures { λ r. ⌜ r ≡ indexOf (now (cursor .entry)) ⌝ }
+    ensures { λ r. ⌜ r ≡ cursorIndex (now (cursor .entry)) ⌝ }
 {
     if cursor.len() == 0 {
         return u32::MAX;

@@ -16,7 +16,7 @@ use Rattle.memory.specs.Memory.{Memory}
 use Rattle.memory.specs.Record.{usable?}
 use Rattle.memory.specs.declared.Converter.{Converter}
 use Rattle.writer.specs.Calls.{treeOf}
-use Rattle.line_rows.specs.Lines.{words64, words32, lineColumns, linesTexts?, putRows, unpackedTo}
+use Rattle.line_rows.specs.Lines.{words64, words32, lineColumns, linesTexts?, putLines, unpackedTo}
 use Rattle.line_rows.specs.Numbers.{usableBy, numberOf}
 use Rattle.line_rows.specs.Calls.{unpackRoom?, linesOf}
 use Rattle.line_rows.proofs.Packed.{unpacked64-is, unpacked32-is, put-long}
@@ -104,8 +104,8 @@ module _ (r : List ℕ) (m : Memory) (s u v f64 f32 : List ℕ) (ls : List LineR
   unfolding unpackedCall unpackedTo
   is-taken e =
       let h = room-there c m s u v f64 f32 ls t e in
-      let a : length (putRows 3 words64 ls 0 u) ≡ length u = put-long 3 words64 ls 0 u in
-      let b : length (putRows 14 words32 ls 0 v) ≡ length v = put-long 14 words32 ls 0 v in
+      let a : length (putLines 3 words64 ls 0 u) ≡ length u = put-long 3 words64 ls 0 u in
+      let b : length (putLines 14 words32 ls 0 v) ≡ length v = put-long 14 words32 ls 0 v in
       rw (e, unpacked64-is ls u (h .0), unpacked32-is ls v (h .1), a, b, le-leb (length ls) (length u / 3) (omega (arith, h .0)), le-leb (length ls) (length v / 14) (omega (arith, h .1)))
 
   made-is : made ≡ linesCall r m s u v k

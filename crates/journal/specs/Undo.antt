@@ -72,12 +72,12 @@ abbrev pub noted : Change → ℕ → Noted
 noted g m = record { change = g; noted = m }
 
 -- the entry that putting q makes; the row that is read is the one that the put finds
-unfoldable pub entryOf : List ℕ → ℕ → List ℕ → ℕ → Row → Left ℕ
-entryOf t n j m q = noteWas j m (putOf t n q .got .was) n (lookupOf 1 t n q) (rowAt t (lookupOf 1 t n q))
+unfoldable pub entryAfter : List ℕ → ℕ → List ℕ → ℕ → Row → Left ℕ
+entryAfter t n j m q = noteWas j m (putOf t n q .got .was) n (lookupOf 1 t n q) (rowAt t (lookupOf 1 t n q))
 
 -- the location at q's start becomes q's, and the journal says what was there
 unfoldable pub putNotedOf : List ℕ → ℕ → List ℕ → ℕ → Row → Journaled
-putNotedOf t n j m q = journaled (noted (putOf t n q .got) (entryOf t n j m q .got)) (putOf t n q .table) (entryOf t n j m q .table)
+putNotedOf t n j m q = journaled (noted (putOf t n q .got) (entryAfter t n j m q .got)) (putOf t n q .table) (entryAfter t n j m q .table)
 
 -- the same, where any mark is set; without one the journal stays as it is
 unfoldable pub putMarkedOf : Bool → List ℕ → ℕ → List ℕ → ℕ → Row → Journaled

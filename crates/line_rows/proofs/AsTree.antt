@@ -17,7 +17,7 @@ use Rattle.memory.specs.declared.Converter.{Converter}
 use Rattle.writer.specs.Calls.{Called, called, finished, rows-converted, treeOf}
 use Rattle.slices.specs.Slices.{zeros}
 use Rattle.memory.specs.Record.{usable?}
-use Rattle.line_rows.specs.Calls.{LinesCalled, leaves, unpackRoom?, linesOf}
+use Rattle.line_rows.specs.Calls.{LinesCalled, lines-called, unpackRoom?, linesOf}
 
 -- ── Rows that are refused for want of scratch alone ──
 
@@ -42,12 +42,12 @@ module _ (c : Converter) (m : Memory) (s u v : List ℕ) (k : Columns) where
   unfolding linesOf
   lines-equal e = go (usable? c m && eqb (refusalOf k (length s)) 0)
     where
-      go : (b : Bool) → cond b (cond (unpackRoom? k u v) (leaves (treeOf c m s k) (zeros u) (zeros v)) (leaves (called 16 c m s) u v)) (leaves (treeOf c m s k) u v) .called ≡ treeOf c m s k
+      go : (b : Bool) → cond b (cond (unpackRoom? k u v) (lines-called (treeOf c m s k) (zeros u) (zeros v)) (lines-called (called 16 c m s) u v)) (lines-called (treeOf c m s k) u v) .called ≡ treeOf c m s k
       go true = rw e
       go false = refl
 
   -- 16 without room for the rows, where no earlier number is due
-  pub lines-16 : usable? c m ≡ true → refusalOf k (length s) ≡ 0 → unpackRoom? k u v ≡ false → linesOf c m s u v k ≡ leaves (called 16 c m s) u v
+  pub lines-16 : usable? c m ≡ true → refusalOf k (length s) ≡ 0 → unpackRoom? k u v ≡ false → linesOf c m s u v k ≡ lines-called (called 16 c m s) u v
   unfolding linesOf
   lines-16 e f g = rw (e, eq-eqb (refusalOf k (length s)) 0 f, g)
 
@@ -86,12 +86,12 @@ module _ (c : Converter) (m : Memory) (s u v : List ℕ) (k : Columns) where
   -- ── The memory that the rows are unpacked into ──
 
   -- any refusal but 17 changes no lent byte and no state; after acceptance and 17 it is zero
-  pub lines-left : (linesOf c m s u v k ≡ leaves (called (linesOf c m s u v k .called .code) c m s) u v) ⊎ ((linesOf c m s u v k .unpacked64 ≡ zeros u) × (linesOf c m s u v k .unpacked32 ≡ zeros v))
+  pub lines-left : (linesOf c m s u v k ≡ lines-called (called (linesOf c m s u v k .called .code) c m s) u v) ⊎ ((linesOf c m s u v k .unpacked64 ≡ zeros u) × (linesOf c m s u v k .unpacked32 ≡ zeros v))
   unfolding linesOf treeOf
   lines-left = go (usable? c m) (eqb (refusalOf k (length s)) 0) (unpackRoom? k u v) refl refl refl
     where
       go : (a b d : Bool) → usable? c m ≡ a → eqb (refusalOf k (length s)) 0 ≡ b → unpackRoom? k u v ≡ d
-          → (linesOf c m s u v k ≡ leaves (called (linesOf c m s u v k .called .code) c m s) u v) ⊎ ((linesOf c m s u v k .unpacked64 ≡ zeros u) × (linesOf c m s u v k .unpacked32 ≡ zeros v))
+          → (linesOf c m s u v k ≡ lines-called (called (linesOf c m s u v k .called .code) c m s) u v) ⊎ ((linesOf c m s u v k .unpacked64 ≡ zeros u) × (linesOf c m s u v k .unpacked32 ≡ zeros v))
       go true true true p q f = inr (rw (p, q, f), rw (p, q, f))
       go true true false p q f = inl (rw (p, q, f))
       go true false d p q f = inl (rw (p, q))

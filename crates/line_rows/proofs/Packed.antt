@@ -13,7 +13,7 @@ use Rattle.rows.specs.Columns.{Columns, columns, lineFields, lineInColumns, lin
 use Rattle.rows.specs.Refusals.{each, lineTexts?, lineLengths?, refusalOf, refusalWith}
 use Rattle.rows.specs.declared.LineRow.{LineRow}
 use Rattle.rows.proofs.Laws.{line-in, refusal-columns}
-use Rattle.line_rows.specs.Lines.{noLine, words64, words32, packed, lineColumns, linesTexts?, putRow, putRows}
+use Rattle.line_rows.specs.Lines.{noLine, words64, words32, packed, lineColumns, linesTexts?, putRow, putLines}
 
 -- ── Columns of w words a row ──
 
@@ -47,8 +47,8 @@ module _ (w : ℕ) (f : LineRow → List ℕ) (wide : (l : LineRow) → length (
         ∙ ap (λ (x : List ℕ). x ++ (f l ++ drop (j * w + length (f l)) (p ++ t))) (take-at p t (j * w) e)
         ∙ ap (λ (x : List ℕ). p ++ (f l ++ x)) (sym (drop-drop (length (f l)) (j * w) (p ++ t)) ∙ ap (drop (length (f l))) (drop-at p t (j * w) e) ∙ ap (λ (n : ℕ). drop n t) d))
 
-    put-from : (ls : List LineRow) (p t : List ℕ) (j : ℕ) → length p ≡ j * w → length ls * w ≤ length t → putRows w f ls j (p ++ t) ≡ p ++ (packed f ls ++ drop (length ls * w) t)
-    unfolding putRows packed
+    put-from : (ls : List LineRow) (p t : List ℕ) (j : ℕ) → length p ≡ j * w → length ls * w ≤ length t → putLines w f ls j (p ++ t) ≡ p ++ (packed f ls ++ drop (length ls * w) t)
+    unfolding putLines packed
     put-from [] p t j e h = ap (λ (n : ℕ). p ++ drop n t) (sym none)
     put-from (l ∷ ls) p t j e h =
         let s = step (length ls) in
@@ -58,12 +58,12 @@ module _ (w : ℕ) (f : LineRow → List ℕ) (wide : (l : LineRow) → length (
         let long : length (p ++ f l) ≡ suc j * w = length-append p (f l) ∙ omega (arith, e, d, s2) in
         let rest : length (drop w t) ≡ length t - w = length-drop w t in
         let both : w + length ls * w ≡ suc (length ls) * w = omega (arith, s) in
-        ap (putRows w f ls (suc j)) (put-in p t j l e room-left ∙ sym (append-assoc p (f l) (drop w t)))
+        ap (putLines w f ls (suc j)) (put-in p t j l e room-left ∙ sym (append-assoc p (f l) (drop w t)))
         ∙ put-from ls (p ++ f l) (drop w t) (suc j) long (omega (arith, rest, h, s))
         ∙ append-assoc p (f l) (packed f ls ++ drop (length ls * w) (drop w t))
         ∙ ap (λ (x : List ℕ). p ++ x) (sym (append-assoc (f l) (packed f ls) (drop (length ls * w) (drop w t))) ∙ ap (λ (x : List ℕ). f l ++ packed f ls ++ x) (drop-drop (length ls * w) w t ∙ ap (λ (n : ℕ). drop n t) both))
 
-    pub unpacked-is : (ls : List LineRow) (t : List ℕ) → length ls * w ≤ length t → take (length ls * w) (putRows w f ls 0 t) ≡ packed f ls
+    pub unpacked-is : (ls : List LineRow) (t : List ℕ) → length ls * w ≤ length t → take (length ls * w) (putLines w f ls 0 t) ≡ packed f ls
     unpacked-is ls t h = ap (take (length ls * w)) (put-from ls [] t 0 (sym none) h) ∙ take-at (packed f ls) (drop (length ls * w) t) (length ls * w) (packed-length ls)
 
 put-one-long : (w : ℕ) (t : List ℕ) (j : ℕ) (vs : List ℕ) → length (putRow w t j vs) ≡ length t
@@ -74,8 +74,8 @@ put-one-long w t j vs = go (ltb j (length t / w))
     go true = length-sets t (j * w) vs
     go false = refl
 
-pub put-long : (w : ℕ) (f : LineRow → List ℕ) (ls : List LineRow) (j : ℕ) (t : List ℕ) → length (putRows w f ls j t) ≡ length t
-unfolding putRows
+pub put-long : (w : ℕ) (f : LineRow → List ℕ) (ls : List LineRow) (j : ℕ) (t : List ℕ) → length (putLines w f ls j t) ≡ length t
+unfolding putLines
 put-long w f [] j t = refl
 put-long w f (l ∷ ls) j t = put-long w f ls (suc j) (putRow w t j (f l)) ∙ put-one-long w t j (f l)
 
@@ -111,10 +111,10 @@ length64 ls = packed-length 3 words64 wide64 none3 step3 ls
 pub length32 : (ls : List LineRow) → length (packed words32 ls) ≡ length ls * 14
 length32 ls = packed-length 14 words32 wide32 none14 step14 ls
 
-pub unpacked64-is : (ls : List LineRow) (t : List ℕ) → length ls * 3 ≤ length t → take (length ls * 3) (putRows 3 words64 ls 0 t) ≡ packed words64 ls
+pub unpacked64-is : (ls : List LineRow) (t : List ℕ) → length ls * 3 ≤ length t → take (length ls * 3) (putLines 3 words64 ls 0 t) ≡ packed words64 ls
 unpacked64-is ls t h = unpacked-is 3 words64 wide64 none3 step3 room3 ls t h
 
-pub unpacked32-is : (ls : List LineRow) (t : List ℕ) → length ls * 14 ≤ length t → take (length ls * 14) (putRows 14 words32 ls 0 t) ≡ packed words32 ls
+pub unpacked32-is : (ls : List LineRow) (t : List ℕ) → length ls * 14 ≤ length t → take (length ls * 14) (putLines 14 words32 ls 0 t) ≡ packed words32 ls
 unpacked32-is ls t h = unpacked-is 14 words32 wide32 none14 step14 room14 ls t h
 
 -- ── A row of the columns ──

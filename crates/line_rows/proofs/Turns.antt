@@ -11,7 +11,7 @@ use Rattle.rows.specs.Refusals.{each, lineTexts?}
 use Rattle.rows.specs.declared.LineRow.{LineRow}
 use borrow.Author.Tests.{eq-eqb, ne-eqb}
 use Rattle.rows.proofs.Laws.{each-none, each-more, each-not, each-end}
-use Rattle.line_rows.specs.Lines.{noLine, words64, words32, linesTexts?, putRow, putRows, unpackedTo}
+use Rattle.line_rows.specs.Lines.{noLine, words64, words32, linesTexts?, putRow, putLines, unpackedTo}
 
 -- ── The texts: those of the first j rows are in order ──
 
@@ -42,24 +42,24 @@ pub record Unpacked (ys : List LineRow) (u₀ v₀ : List ℕ) : Type 0 where
   pub le : j ≤ length ys
   pub long64 : length u ≡ length u₀
   pub long32 : length v ≡ length v₀
-  pub same64 : putRows 3 words64 (drop j ys) j u ≡ putRows 3 words64 ys 0 u₀
-  pub same32 : putRows 14 words32 (drop j ys) j v ≡ putRows 14 words32 ys 0 v₀
+  pub same64 : putLines 3 words64 (drop j ys) j u ≡ putLines 3 words64 ys 0 u₀
+  pub same32 : putLines 14 words32 (drop j ys) j v ≡ putLines 14 words32 ys 0 v₀
 
 abbrev pub unpack-begin : (ys : List LineRow) (u₀ v₀ : List ℕ) → Unpacked ys u₀ v₀
 unpack-begin ys u₀ v₀ = record { j = 0; u = u₀; v = v₀; le = omega arith; long64 = refl; long32 = refl; same64 = refl; same32 = refl }
 
 -- one row more, in a column of w words a row
-pub put-more : (w : ℕ) (f : LineRow → List ℕ) (ys : List LineRow) (j : ℕ) (t : List ℕ) {u z : List ℕ} → j < length ys → putRows w f (drop j ys) j t ≡ z → u ≡ putRow w t j (f (getD ys j noLine))
-    → putRows w f (drop (j + 1) ys) (j + 1) u ≡ z
-unfolding putRows
+pub put-more : (w : ℕ) (f : LineRow → List ℕ) (ys : List LineRow) (j : ℕ) (t : List ℕ) {u z : List ℕ} → j < length ys → putLines w f (drop j ys) j t ≡ z → u ≡ putRow w t j (f (getD ys j noLine))
+    → putLines w f (drop (j + 1) ys) (j + 1) u ≡ z
+unfolding putLines
 put-more w f ys j t h e d = rw (d, add-one) (rw (drop-cons ys j noLine h) at e)
 
-put-all : (w : ℕ) (f : LineRow → List ℕ) (ys : List LineRow) (j : ℕ) {t z : List ℕ} → length ys ≤ j → putRows w f (drop j ys) j t ≡ z → t ≡ z
-unfolding putRows
+put-all : (w : ℕ) (f : LineRow → List ℕ) (ys : List LineRow) (j : ℕ) {t z : List ℕ} → length ys ≤ j → putLines w f (drop j ys) j t ≡ z → t ≡ z
+unfolding putLines
 put-all w f ys j h e = rw (drop-of-length-le ys h) at e
 
 -- all of them, in a call that isn't refused
-pub unpacked-all : (refused w : ℕ) (f : LineRow → List ℕ) (ys : List LineRow) (j : ℕ) (t₀ : List ℕ) {t : List ℕ} → refused ≡ 0 → length ys ≤ j → putRows w f (drop j ys) j t ≡ putRows w f ys 0 t₀ → t ≡ unpackedTo refused w f ys t₀
+pub unpacked-all : (refused w : ℕ) (f : LineRow → List ℕ) (ys : List LineRow) (j : ℕ) (t₀ : List ℕ) {t : List ℕ} → refused ≡ 0 → length ys ≤ j → putLines w f (drop j ys) j t ≡ putLines w f ys 0 t₀ → t ≡ unpackedTo refused w f ys t₀
 unfolding unpackedTo
 unpacked-all refused w f ys j t₀ z h e = rw (eq-eqb refused 0 z) (put-all w f ys j h e)
 

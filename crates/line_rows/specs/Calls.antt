@@ -18,8 +18,8 @@ pub record LinesCalled : Type 0 where
   pub unpacked64 : List ℕ
   pub unpacked32 : List ℕ
 
-abbrev pub leaves : Called → List ℕ → List ℕ → LinesCalled
-leaves o u v = record { called = o; unpacked64 = u; unpacked32 = v }
+abbrev pub lines-called : Called → List ℕ → List ℕ → LinesCalled
+lines-called o u v = record { called = o; unpacked64 = u; unpacked32 = v }
 
 -- the memory lent for the line rows holds as many rows as there are
 unfoldable pub unpackRoom? : Columns → List ℕ → List ℕ → Bool
@@ -31,5 +31,5 @@ unpackRoom? k u v = leb (length (k .lines64)) (length u) && leb (length (k .line
 unfoldable pub linesOf : Converter → Memory → List ℕ → List ℕ → List ℕ → Columns → LinesCalled
 linesOf c m s u v k =
     cond (usable? c m && eqb (refusalOf k (length s)) 0)
-    (cond (unpackRoom? k u v) (leaves (treeOf c m s k) (zeros u) (zeros v)) (leaves (called 16 c m s) u v))
-    (leaves (treeOf c m s k) u v)
+    (cond (unpackRoom? k u v) (lines-called (treeOf c m s k) (zeros u) (zeros v)) (lines-called (called 16 c m s) u v))
+    (lines-called (treeOf c m s k) u v)

@@ -48,10 +48,10 @@ linesTexts? t ls = each (λ (j : ℕ). lineTexts? t (getD ls j noLine)) (length 
 unfoldable pub putRow : ℕ → List ℕ → ℕ → List ℕ → List ℕ
 putRow w t j vs = cond (ltb j (length t / w)) (sets t (j * w) vs) t
 
-unfoldable pub putRows : ℕ → (LineRow → List ℕ) → List LineRow → ℕ → List ℕ → List ℕ
-putRows w f [] j t = t
-putRows w f (l ∷ ls) j t = putRows w f ls (suc j) (putRow w t j (f l))
+unfoldable pub putLines : ℕ → (LineRow → List ℕ) → List LineRow → ℕ → List ℕ → List ℕ
+putLines w f [] j t = t
+putLines w f (l ∷ ls) j t = putLines w f ls (suc j) (putRow w t j (f l))
 
 -- t after all rows were unpacked to w words each; as it was where the call is refused
 unfoldable pub unpackedTo : ℕ → ℕ → (LineRow → List ℕ) → List LineRow → List ℕ → List ℕ
-unpackedTo refused w f ls t = cond (eqb refused 0) (putRows w f ls 0 t) t
+unpackedTo refused w f ls t = cond (eqb refused 0) (putLines w f ls 0 t) t

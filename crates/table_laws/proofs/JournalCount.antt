@@ -12,7 +12,7 @@ use borrow.Author.Tests.{leb-true, leb-false, le-ltb, ltb-false}
 use Rattle.tables.specs.Table.{rowAt, capacityOf, lookupOf, overOf, left}
 use Rattle.tables.specs.Ranges.{putOf}
 use Rattle.table_laws.specs.Plain.{putRows, wasIn, putAllRows, Pair, pairRow, Holds}
-use Rattle.journal.specs.Undo.{setEntry, noteOf, noteWas, entryOf, putNotedOf}
+use Rattle.journal.specs.Undo.{setEntry, noteOf, noteWas, entryAfter, putNotedOf}
 use Rattle.table_laws.specs.Marked.{putNotedAll, Ranges, rangesOf, changed, changesIn}
 use Rattle.tables.specs.declared.Row.{Row}
 use Rattle.tables.specs.declared.ranges.Was.{Was}
@@ -64,15 +64,15 @@ module _ (j : List ℕ) (m : ℕ) where
 -- ---- one call
 module _ (t : List ℕ) (n : ℕ) (j : List ℕ) (m : ℕ) (q : Row) where
   pub entry-count : (rows : List Row) → Holds 1 t n rows → m ≤ capacityOf (length j) → putNotedOf t n j m q .got .noted ≡ m + changed (wasIn rows q)
-  unfolding putNotedOf entryOf
+  unfolding putNotedOf entryAfter
   entry-count rows H h = was-count j m n (lookupOf 1 t n q) (rowAt t (lookupOf 1 t n q)) (putOf t n q .got .was) h ∙ ap (λ (w : Was). m + changed w) (step t n rows q H .was)
 
   pub entry-stays : capacityOf (length j) < m → putNotedOf t n j m q .got .noted ≡ m
-  unfolding putNotedOf entryOf
+  unfolding putNotedOf entryAfter
   entry-stays h = was-stays j m n (lookupOf 1 t n q) (rowAt t (lookupOf 1 t n q)) (putOf t n q .got .was) h
 
   pub entry-long : length (putNotedOf t n j m q .journal) ≡ length j
-  unfolding putNotedOf entryOf
+  unfolding putNotedOf entryAfter
   entry-long = was-long j m n (lookupOf 1 t n q) (rowAt t (lookupOf 1 t n q)) (putOf t n q .got .was)
 
   -- the ranges are those of the put without a journal

@@ -13,7 +13,7 @@ use Rattle.tables.specs.Table.{wordsAt, rowWords, rowOf, rowAt, setRow, headAt,
 use Rattle.tables.specs.Ranges.{putOf, putAt, replaceOf, change}
 use Rattle.table_laws.specs.Plain.{Pair, pairRow}
 use Rattle.table_laws.specs.Marked.{Clear, ClearJournal, putNotedAll, Ranges, ranges, rangesOf}
-use Rattle.journal.specs.Undo.{rowHashOf, offOf, zeroRow, setEntry, noteOf, noteWas, entryOf, putNotedOf, undoEntry, undoAt, Undone, undone, undoneRanges}
+use Rattle.journal.specs.Undo.{rowHashOf, offOf, zeroRow, setEntry, noteOf, noteWas, entryAfter, putNotedOf, undoEntry, undoAt, Undone, undone, undoneRanges}
 use Rattle.tables.specs.declared.Row.{Row}
 use Rattle.tables.specs.declared.ranges.Was.the-variants.{Vacant, Same, Changed}
 use Rattle.tables.proofs.Room.{room-is}
@@ -219,7 +219,7 @@ module _ (t : List ℕ) (n : ℕ) (q : Row) where
 
     -- one call
     pub put-noted : (j : List ℕ) (m : ℕ) → ClearJournal j m → Put (ranges t n j m) (rangesOf (putNotedOf t n j m q))
-    unfolding putNotedOf entryOf noteWas
+    unfolding putNotedOf entryAfter noteWas
     put-noted j m J = go (ltb (capacityOf (length t)) n) refl (ltb at n) refl (sameRow (rowAt t at) q) refl
       where
         added : (t′ : List ℕ) → offOf 1 t′ n ≡ t → undoEntry t′ n 1 zeroRow ≡ t

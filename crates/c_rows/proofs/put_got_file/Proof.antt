@@ -7,7 +7,7 @@ use lib.Seq.{sets}
 use Rattle.raw.specs.Rows.{fileWords}
 use Rattle.symcache.specs.Answers.{refusalOf}
 use Rattle.lookup.specs.Answers.{fileAnswer}
-use Rattle.c_reading.specs.Reading.{fileRow}
+use Rattle.c_reading.specs.Reading.{fileAnswerWords}
 use Rattle.c_reading.proofs.ReadLaws.{given, declined}
 use borrow.Author.Needs.{needs}
 use Rattle.c_rows.proofs.put_got_file.Statement.{statement}
@@ -20,15 +20,15 @@ returns c =
     let after-file = after-put .before .before .before in
     let start = after-file .before .before .before in
     let a = start .args in
-    given fileRow (fileAnswer (a .file)) (some (after-file .file .given .0 .0)) (a .row .now) (ap fileAnswer (after-file .file .given .1)) ((after-put-file .put-file .ensures) ∙ ap (λ (t : List ℕ). sets t 1 (fileWords (after-file .file .given .0 .0))) (after-put .put .ensures))
+    given fileAnswerWords (fileAnswer (a .file)) (some (after-file .file .given .0 .0)) (a .row .now) (ap fileAnswer (after-file .file .given .1)) ((after-put-file .put-file .ensures) ∙ ap (λ (t : List ℕ). sets t 1 (fileWords (after-file .file .given .0 .0))) (after-put .put .ensures))
 
 returns-2 : tie.Need-returns-2
 returns-2 c = let a = c .before .before .before .before .before .before .before .args in
-    given fileRow (fileAnswer (a .file)) none (a .row .now) (ap fileAnswer (c .before .before .before .before .enum-told .given .1)) (c .before .before .put2 .ensures)
+    given fileAnswerWords (fileAnswer (a .file)) none (a .row .now) (ap fileAnswer (c .before .before .before .before .enum-told .given .1)) (c .before .before .put2 .ensures)
 
 returns-3 : tie.Need-returns-3
 returns-3 c = let a = c .before .before .before .before .before .args in
-    declined fileRow (fileAnswer (a .file)) (refusalOf (c .before .before .file2 .given .0 .0)) (c .number .result) (a .row .now) (ap fileAnswer (c .before .before .file2 .given .1)) (c .number .ensures)
+    declined fileAnswerWords (fileAnswer (a .file)) (refusalOf (c .before .before .file2 .given .0 .0)) (c .number .result) (a .row .now) (ap fileAnswer (c .before .before .file2 .given .1)) (c .number .ensures)
 
 pub put-got-file-spec : {M : Type 1} → statement M
 put-got-file-spec =

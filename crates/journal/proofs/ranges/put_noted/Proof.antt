@@ -4,7 +4,7 @@ use mathlib.Core.List.{List}
 use Rattle.tables.specs.Table.{rowAt, lookupOf, Left, left}
 use Rattle.tables.specs.Kinds.{rangeRow}
 use Rattle.tables.specs.Ranges.{putOf}
-use Rattle.journal.specs.Undo.{noteWas, entryOf, putNotedOf, journaled, noted}
+use Rattle.journal.specs.Undo.{noteWas, entryAfter, putNotedOf, journaled, noted}
 use Rattle.tables.specs.declared.Row.{Row}
 use Rattle.tables.specs.declared.ranges.Change.{Change}
 use borrow.Author.Needs.{needs}
@@ -14,7 +14,7 @@ use Rattle.journal.proofs.ranges.put_noted.Tie as tie
 law : (t : List ℕ) (n : ℕ) (j : List ℕ) (m : ℕ) (q : Row) {row : Row} {i : ℕ} {old : Row} {x : Left Change} {y : Left ℕ}
     → row ≡ q → i ≡ lookupOf 1 t n row → old ≡ rowAt t i → x ≡ putOf t n q → y ≡ noteWas j m (x .got .was) n i old
     → journaled (noted (x .got) (y .got)) (x .table) (y .table) ≡ putNotedOf t n j m q
-unfolding putNotedOf entryOf
+unfolding putNotedOf entryAfter
 law t n j m q {row} {i} e0 e1 e2 e3 e4 = let e : i ≡ lookupOf 1 t n q = rw e0 at e1 in rw (← e3, ← e, ← e2, ← e4)
 
 -- the places of the calls, from the last one back
