@@ -29,7 +29,7 @@ use Rattle.writer.specs.Calls.{Called, called, setup, finished, rows-converted,
 use Rattle.memory.specs.Record.{words-of, usable?, beginOf}
 use Rattle.steps.specs.Symbols.{symbolRow}
 use Rattle.line_rows.specs.Calls.{LinesCalled, unpackRoom?, linesOf}
-use Rattle.c_reading.proofs.StoreLaws.{sets-at}
+use Rattle.slices.proofs.Runs.{sets-in}
 use Rattle.c_reading.specs.Stored.{stored}
 use Rattle.slices.specs.Slices.{yes, flagOf}
 use Rattle.c_words.specs.Record.{lastOf, idOf, stateOf, converterOf, lastWords, idWords, countWords, switchWords, wordsOf, Bytes, IdFits}
@@ -155,7 +155,7 @@ words-length c = rw (last-length (c .state .«last_addr») (flagOf (c .«open»)
 pub stored-back : (r : List ℕ) (c : Converter) → 20 ≤ length r → IdFits (c .«debug_id») → converterOf (stored (wordsOf c) r) ≡ c
 stored-back r c h f =
     record-same (stored (wordsOf c) r) (wordsOf c)
-    (λ i p. let e : length (wordsOf c) ≡ 20 = words-length c in sets-at (wordsOf c) r 0 i i (omega arith) (omega arith) (omega arith))
+    (λ i p. let e : length (wordsOf c) ≡ 20 = words-length c in sets-in (wordsOf c) r 0 i i (omega arith) (omega arith) (omega arith))
     ∙ words-back c f
 
 -- ── Calls ──────────────────────────────────────────────────────────────────────────────────────────────────────────────

@@ -27,7 +27,7 @@ use Rattle.c_words.specs.Record.{Bytes}
 use Rattle.c_reading.specs.Reading.{filled, answered, stepsTo, cacheWords, cacheOf, cached, openCall, findCall, walkWords, walkOf, walkCall, lookupCall, frameWords, nextCall, indexOf}
 use Rattle.exports.specs.Walks.{WalkedByCalls, FoundByCalls}
 use Rattle.exports.specs.Walks as words
-use Rattle.c_reading.proofs.StoreLaws.{sets-at}
+use Rattle.slices.proofs.Runs.{sets-in}
 use Rattle.exports.proofs.Carried.{byte-below}
 
 -- ── Cursors ────────────────────────────────────────────────────────────────────────────────────────────────────────────
@@ -38,16 +38,16 @@ cursor-back k w h =
     let l : length (stored (walkWords w) k) ≡ length k = length-sets k 0 (walkWords w) in
     rw (
       le-ltb (length (stored (walkWords w) k)) 3 (omega arith),
-      sets-at (walkWords w) k 0 0 0 refl (omega arith) (omega arith),
-      sets-at (walkWords w) k 0 1 1 refl (omega arith) (omega arith),
-      sets-at (walkWords w) k 0 2 2 refl (omega arith) (omega arith),
+      sets-in (walkWords w) k 0 0 0 refl (omega arith) (omega arith),
+      sets-in (walkWords w) k 0 1 1 refl (omega arith) (omega arith),
+      sets-in (walkWords w) k 0 2 2 refl (omega arith) (omega arith),
     )
 
 pub index-back : (k : List ℕ) (i : ℕ) → 0 < length k → indexOf (stored (i ∷ []) k) ≡ i
 unfolding indexOf
 index-back k i h =
     let l : length (stored (i ∷ []) k) ≡ length k = length-sets k 0 (i ∷ []) in
-    rw (ne-eqb (length (stored (i ∷ []) k)) 0 (λ e. omega arith), sets-at (i ∷ []) k 0 0 0 refl (omega arith) (omega arith))
+    rw (ne-eqb (length (stored (i ∷ []) k)) 0 (λ e. omega arith), sets-in (i ∷ []) k 0 0 0 refl (omega arith) (omega arith))
 
 -- ── Frames ─────────────────────────────────────────────────────────────────────────────────────────────────────────────
 
@@ -87,16 +87,16 @@ pub cache-back : (t : List ℕ) (c : SymCache) → 10 ≤ length t → CountsFit
 unfolding cacheOf
 cache-back t c h f =
     rw (
-      sets-at (cacheWords c) t 0 0 0 refl (omega arith) (omega arith),
-      sets-at (cacheWords c) t 0 1 1 refl (omega arith) (omega arith),
-      sets-at (cacheWords c) t 0 2 2 refl (omega arith) (omega arith),
-      sets-at (cacheWords c) t 0 3 3 refl (omega arith) (omega arith),
-      sets-at (cacheWords c) t 0 4 4 refl (omega arith) (omega arith),
-      sets-at (cacheWords c) t 0 5 5 refl (omega arith) (omega arith),
-      sets-at (cacheWords c) t 0 6 6 refl (omega arith) (omega arith),
-      sets-at (cacheWords c) t 0 7 7 refl (omega arith) (omega arith),
-      sets-at (cacheWords c) t 0 8 8 refl (omega arith) (omega arith),
-      sets-at (cacheWords c) t 0 9 9 refl (omega arith) (omega arith),
+      sets-in (cacheWords c) t 0 0 0 refl (omega arith) (omega arith),
+      sets-in (cacheWords c) t 0 1 1 refl (omega arith) (omega arith),
+      sets-in (cacheWords c) t 0 2 2 refl (omega arith) (omega arith),
+      sets-in (cacheWords c) t 0 3 3 refl (omega arith) (omega arith),
+      sets-in (cacheWords c) t 0 4 4 refl (omega arith) (omega arith),
+      sets-in (cacheWords c) t 0 5 5 refl (omega arith) (omega arith),
+      sets-in (cacheWords c) t 0 6 6 refl (omega arith) (omega arith),
+      sets-in (cacheWords c) t 0 7 7 refl (omega arith) (omega arith),
+      sets-in (cacheWords c) t 0 8 8 refl (omega arith) (omega arith),
+      sets-in (cacheWords c) t 0 9 9 refl (omega arith) (omega arith),
       cut-none (c .«num_files») (f .files),
       cut-none (c .«num_functions») (f .functions),
       cut-none (c .«num_source_locations») (f .locations),

@@ -19,7 +19,7 @@ use Rattle.lookup.specs.Lookup.{gotFunction}
 use Rattle.symcache.specs.Reader.{functionIn}
 use Rattle.file_texts.specs.Strings.{Part, sectionOf, placed, gotString, orElse, textOr, nameIn, nameOf}
 use Rattle.c_reading.specs.Reading.{answered, partWords, nameAfter, gotName, nameCall, nameBytes}
-use Rattle.c_reading.proofs.StoreLaws.{sets-at}
+use Rattle.slices.proofs.Runs.{sets-in}
 
 -- ── No refusal has number 0 ────────────────────────────────────────────────────────────────────────────────────────────
 
@@ -103,9 +103,9 @@ name-is s d i = go (parsed s) refl
 
 words-shown : (s d t : List ℕ) (o : Answer (Option Part)) → 3 ≤ length t → Positive o → answered partWords o t .code ≡ 0 → nameBytes s d (answered partWords o t .slice) ≡ shown s d o
 unfolding answered nameBytes
-words-shown s d t (gives none) h p e = rw (sets-at (0 ∷ []) t 0 0 0 refl (omega arith) (omega arith))
+words-shown s d t (gives none) h p e = rw (sets-in (0 ∷ []) t 0 0 0 refl (omega arith) (omega arith))
 words-shown s d t (gives (some q)) h p e =
-    rw (sets-at (1 ∷ q .start ∷ q .len ∷ []) t 0 0 0 refl (omega arith) (omega arith), sets-at (1 ∷ q .start ∷ q .len ∷ []) t 0 1 1 refl (omega arith) (omega arith), sets-at (1 ∷ q .start ∷ q .len ∷ []) t 0 2 2 refl (omega arith) (omega arith))
+    rw (sets-in (1 ∷ q .start ∷ q .len ∷ []) t 0 0 0 refl (omega arith) (omega arith), sets-in (1 ∷ q .start ∷ q .len ∷ []) t 0 1 1 refl (omega arith) (omega arith), sets-in (1 ∷ q .start ∷ q .len ∷ []) t 0 2 2 refl (omega arith) (omega arith))
 words-shown s d t (refuses r) h p e = absurd (omega arith)
 
 -- for every file, stand-in and index, and three words lent: where the answer is 0, they name the function's name

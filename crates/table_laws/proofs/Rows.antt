@@ -10,6 +10,7 @@ use lib.Dec.{eqb, ltb}
 use lib.ListN.{length, getD, set, length-set}
 use lib.Seq.{sets, length-sets, getD-set-same, getD-set-other}
 use borrow.Author.Tests.{eq-eqb, ltb-true, ltb-false}
+use Rattle.slices.proofs.Runs.{sets-low, sets-high}
 use Rattle.tables.specs.Table.{wordsAt, rowWords, rowOf, rowAt, rowsFrom, linkAt, headAt, setRow, appendOf, sameWords, sameRow, keyOf}
 use Rattle.tables.specs.Ranges.{startRow}
 use Rattle.table_laws.specs.Plain.{sameKey}
@@ -39,14 +40,6 @@ same-one x q = rw (key-one x, key-one q) (go (eqb (x .a) (q .a)))
     go false = refl
 
 -- ---- words of any width
-pub sets-low : (vs t : List ℕ) (k j : ℕ) → j < k → getD (sets t k vs) j 0 ≡ getD t j 0
-sets-low [] t k j h = refl
-sets-low (v ∷ vs) t k j h = sets-low vs (set t k v) (suc k) j (omega arith) ∙ getD-set-other t k j v 0 (omega arith)
-
-pub sets-high : (vs t : List ℕ) (k j : ℕ) → k + length vs ≤ j → getD (sets t k vs) j 0 ≡ getD t j 0
-sets-high [] t k j h = refl
-sets-high (v ∷ vs) t k j h = sets-high vs (set t k v) (suc k) j (omega arith) ∙ getD-set-other t k j v 0 (omega arith)
-
 pub sets-at : (vs t : List ℕ) (k : ℕ) → k + length vs ≤ length t → wordsAt (sets t k vs) k (length vs) ≡ vs
 sets-at [] t k h = refl
 sets-at (v ∷ vs) t k h =

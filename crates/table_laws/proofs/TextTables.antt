@@ -17,6 +17,7 @@ use Rattle.text.specs.Utf8.{utf8}
 use Rattle.text.specs.Texts.{text-part}
 use Rattle.text.proofs.Leb128Laws.{decoded-past}
 use Rattle.text.proofs.TextLaws.{stored-bytes, part-stored, part-absent, absent-prefix}
+use Rattle.slices.proofs.Cases.{and-left}
 use Rattle.tables.specs.Table.{rowAt, rowsFrom, rowsOf, capacityOf, overOf, sameWords}
 use Rattle.strings.specs.Strings.{textCapacityOf, storedText, textSize, textHash, textRow, isText, textAt, newestText, findText, indexOf, fullOf, storeOf, insertTextAt, insertTextOf, StringsLeft, stringsLeft, stored}
 use Rattle.table_laws.specs.Plain.{intern, Chained}
@@ -34,9 +35,6 @@ use Rattle.table_laws.proofs.Sections.{size-is, stored-length, section-
 abbrev Text : Type 0
 Text = List ℕ
 
-and-first : (x y : Bool) → (x && y) ≡ true → x ≡ true
-and-first true y e = refl
-and-first false y e = absurd (false≢true e)
 
 -- ---- a row of the index tells its text
 -- the bytes of text u stand in the section; then the row of u is hit by t exactly where u is t
@@ -84,7 +82,7 @@ module _ (text strings : List ℕ) (bytes count : ℕ) (ts : List Text) (T : Tex
 
   hashed : (t : Text) (i : ℕ) → textAt text strings t i ≡ true → rowHash (rowAt strings i) ≡ textHash t
   unfolding textAt isText
-  hashed t i e = eqb-true _ _ (and-first _ _ e)
+  hashed t i e = eqb-true _ _ (and-left _ _ e)
 
   looked : (t : Text) → Look (textAt text strings t) count (findText text strings count t)
   unfolding findText newestText

@@ -18,7 +18,8 @@ use Rattle.tables.specs.declared.Row.{Row}
 use Rattle.tables.specs.declared.ranges.Was.the-variants.{Vacant, Same, Changed}
 use Rattle.tables.proofs.Room.{room-is}
 use Rattle.journal.proofs.Undone.{ranges-done, ranges-more}
-use Rattle.table_laws.proofs.Rows.{sets-low, sets-high, sets-at, length-setRow}
+use Rattle.slices.proofs.Runs.{sets-low, sets-high}
+use Rattle.table_laws.proofs.Rows.{sets-at, length-setRow}
 use Rattle.table_laws.proofs.Sets.{over-above, over-most}
 use Rattle.table_laws.proofs.Steps.{zeros}
 use Rattle.table_laws.proofs.UndoRows.{off-none, off-append, insert-added}

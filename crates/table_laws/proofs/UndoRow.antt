@@ -13,7 +13,8 @@ use borrow.Author.Tests.{eqb-true, eqb-false, leb-true, leb-false, ltb-true, ltb
 use Rattle.tables.specs.Table.{rowWords, linkAt, headAt, setRow, appendOf}
 use Rattle.journal.specs.Undo.{undoOf}
 use Rattle.tables.specs.declared.Row.{Row}
-use Rattle.table_laws.proofs.Rows.{sets-low, sets-high, length-append, append-link-top}
+use Rattle.slices.proofs.Runs.{sets-low, sets-high}
+use Rattle.table_laws.proofs.Rows.{length-append, append-link-top}
 
 pub sets-zero : (m : ℕ) (t : List ℕ) (k j : ℕ) → k ≤ j → j < k + m → j < length t → getD (sets t k (replicate m 0)) j 0 ≡ 0
 sets-zero zero t k j a b r = absurd (omega arith)

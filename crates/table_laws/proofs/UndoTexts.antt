@@ -13,7 +13,7 @@ use Rattle.strings.specs.Strings.{textCapacityOf, storedText, textSize, textRow
 use Rattle.table_laws.specs.PlainTexts.{insertTexts}
 use Rattle.journal.specs.Undo.{rowHashOf, undoneTo, cutTo}
 use Rattle.table_laws.specs.Marked.{Clear, ClearText}
-use Rattle.table_laws.proofs.Rows.{sets-low, sets-high}
+use Rattle.slices.proofs.Runs.{sets-low, sets-high}
 use Rattle.table_laws.proofs.Sections.{stored-length}
 use Rattle.table_laws.proofs.Sets.{over-above, over-most}
 use Rattle.table_laws.proofs.Steps.{zeros}

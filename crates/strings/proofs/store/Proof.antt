@@ -8,6 +8,7 @@ use lib.ListN.{length}
 use lib.Seq.{sets}
 use borrow.Author.Needs.{needs}
 use borrow.Author.Tests.{leb-true, ltb-true, lt-ltb}
+use Rattle.slices.proofs.Cases.{both-true}
 use Rattle.text.specs.Leb128.{encoded}
 use Rattle.tables.specs.Table.{capacityOf, pushOf, Left, left}
 use Rattle.tables.specs.Kinds.{rowOfText}
@@ -24,16 +25,13 @@ record Inside (text : List ℕ) (bytes count prefix len cap : ℕ) : Type 0 wher
   small : bytes + (prefix + len) ≤ maxBytes
   few : count < cap
 
-both : (x y : Bool) → (x && y) ≡ true → (x ≡ true) × (y ≡ true)
-both true y e = (refl, e)
-both false y e = absurd (false≢true e)
 
 module _ (text strings : List ℕ) (bytes count : ℕ) (t : List ℕ) {cap limit prefix : ℕ} {f : Bool}
     (e1 : cap ≡ capacityOf (length strings)) (e2 : limit ≡ textCapacityOf (length text)) (e3 : prefix ≡ length (encoded (length t)))
     (e4 : f ≡ (leb (bytes + (prefix + length t)) limit && ltb count cap)) where
   inside : f ≡ true → Inside text bytes count prefix (length t) cap
   inside h =
-      let b = both (leb (bytes + (prefix + length t)) limit) (ltb count cap) (sym e4 ∙ h) in
+      let b = both-true (leb (bytes + (prefix + length t)) limit) (ltb count cap) (sym e4 ∙ h) in
       let x : bytes + (prefix + length t) ≤ limit = leb-true _ _ (b .0) in
       let r : TextRoom (length text) (textCapacityOf (length text)) = text-room (length text) in
       record { within = omega arith; small = omega arith; few = ltb-true _ _ (b .1) }
