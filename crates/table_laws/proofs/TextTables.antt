@@ -35,7 +35,6 @@ use Rattle.table_laws.proofs.Sections.{size-is, stored-length, section-
 abbrev Text : Type 0
 Text = List ℕ
 
-
 -- ---- a row of the index tells its text
 -- the bytes of text u stand in the section; then the row of u is hit by t exactly where u is t
 is-text-of : (text t u : Text) (o : ℕ) → take (length u) (drop (o + length (encoded (length u))) text) ≡ u → isText text t (textRow o u) ≡ sameWords u t

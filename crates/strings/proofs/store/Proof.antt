@@ -25,7 +25,6 @@ record Inside (text : List ℕ) (bytes count prefix len cap : ℕ) : Type 0 wher
   small : bytes + (prefix + len) ≤ maxBytes
   few : count < cap
 
-
 module _ (text strings : List ℕ) (bytes count : ℕ) (t : List ℕ) {cap limit prefix : ℕ} {f : Bool}
     (e1 : cap ≡ capacityOf (length strings)) (e2 : limit ≡ textCapacityOf (length text)) (e3 : prefix ≡ length (encoded (length t)))
     (e4 : f ≡ (leb (bytes + (prefix + length t)) limit && ltb count cap)) where
