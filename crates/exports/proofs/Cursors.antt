@@ -24,7 +24,7 @@ use Rattle.read_back.specs.Shown.{Shown, ends, goes}
 use Rattle.read_back.specs.Shown.{Walked, Found}
 use Rattle.c_reading.specs.Stored.{stored}
 use Rattle.c_words.specs.Record.{Bytes}
-use Rattle.c_reading.specs.Reading.{filled, answered, stepsTo, cacheWords, cacheOf, cached, openCall, findCall, walkWords, walkOf, walkCall, lookupCall, frameWords, nextCall, indexOf}
+use Rattle.c_reading.specs.Reading.{filled, answered, stepsTo, cacheWords, cacheOf, cached, openCall, findCall, walkWords, walkOf, walkCall, lookupCall, frameWords, nextCall, cursorIndex}
 use Rattle.exports.specs.Walks.{WalkedByCalls, FoundByCalls}
 use Rattle.exports.specs.Walks as words
 use Rattle.slices.proofs.Runs.{sets-in}
@@ -43,8 +43,8 @@ cursor-back k w h =
       sets-in (walkWords w) k 0 2 2 refl (omega arith) (omega arith),
     )
 
-pub index-back : (k : List ℕ) (i : ℕ) → 0 < length k → indexOf (stored (i ∷ []) k) ≡ i
-unfolding indexOf
+pub index-back : (k : List ℕ) (i : ℕ) → 0 < length k → cursorIndex (stored (i ∷ []) k) ≡ i
+unfolding cursorIndex
 index-back k i h =
     let l : length (stored (i ∷ []) k) ≡ length k = length-sets k 0 (i ∷ []) in
     rw (ne-eqb (length (stored (i ∷ []) k)) 0 (λ e. omega arith), sets-in (i ∷ []) k 0 0 0 refl (omega arith) (omega arith))
