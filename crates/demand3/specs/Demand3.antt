@@ -1,6 +1,6 @@
 -- DEMAND 3: what every reopened file shows. One claim about a whole list of calls after one beginning, in any order, refused ones included.
--- The steps of the list are the definitions that the contracts of `begin`, `process_symbolic_function`, `process_function_lines`,
--- `process_symbolic_symbol` and `serialize` cite (Calls, Lists; serialize's File), and a file is read by those that `lookup`, `next`,
+-- The steps of the list are the definitions that the contracts of `begin`, `process_symbolic_function`, `process_symbolic_symbol` and `serialize` cite,
+-- and the exported call over a list of line rows (Calls, Lists; serialize's File); and a file is read by those that `lookup`, `next`,
 -- `function_name` and `read_string` cite (read_back's Shown). The premises are document 01's words, on the rows as they were given.
 use mathlib.Core.Path.{_≡_}
 use mathlib.Core.Bool.{Bool, true, false}
