@@ -317,12 +317,21 @@ pub fn lookup(t: &[u32], n: u32, row: Row, width: u32) -> u32
 fn insert(t: &mut [u32], n: u32, row: Row, width: u32) -> Inserted
     ensures { λ r. ⌜ left r (now (t .exit)) ≡ insertOf width (now (t .entry)) n row ⌝ }
 {
+    let cap = capacity(t);
     let k = key(row, width);
-    let hash = hash(k);
-    let i = find(t, n, head_of(t, hash), k, width);
+    let h = bucket(hash(k), cap);
+    let l = head_at(t, cap, h);
+    let i = find(t, n, l, k, width);
     if i < n {
         return Inserted { index: i, count: n };
     }
-    let count = push(t, n, row, hash);
+    if n < cap {
+        append(t, cap, n, row, l, h);
+        return Inserted {
+            index: i,
+            count: n + 1,
+        };
+    }
+    let count = over(t, n);
     Inserted { index: i, count }
 }
