@@ -10,7 +10,7 @@ use lib.ListN.{length, take}
 use borrow.Author.Tests.{eq-eqb, ne-eqb, le-leb, lt-leb, eqb-false}
 use Rattle.slices.specs.Slices.{zeros}
 use Rattle.rows.specs.Columns.{Columns, columns}
-use Rattle.rows.specs.Refusals.{shaped?, texts?, ends?, room?, refusalOf}
+use Rattle.refusals.specs.Refusals.{shaped?, texts?, ends?, room?, refusalOf}
 use Rattle.rows.specs.declared.LineRow.{LineRow}
 use Rattle.memory.specs.Memory.{Memory}
 use Rattle.memory.specs.Record.{usable?}

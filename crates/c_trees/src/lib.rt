@@ -11,7 +11,7 @@ use c_words::record::load;
 use c_words::record::store_answer;
 use memory::Lengths;
 use memory::is_usable;
-use rows::SYMCACHE_SCRATCH_TOO_SMALL;
+use refusals::SYMCACHE_SCRATCH_TOO_SMALL;
 use slices::zero;
 use slices::zero64;
 

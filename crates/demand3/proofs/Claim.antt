@@ -23,8 +23,8 @@ use Rattle.model.proofs.Spans.{∈-elim, ∈-append, ∈-left}
 use Rattle.model.proofs.Demand.{demand-root, demand-stack, alone}
 use Rattle.model.proofs.Sections.{sections}
 use Rattle.rows.specs.Columns.{Columns}
-use Rattle.rows.specs.Refusals.{refusalOf}
-use Rattle.rows.proofs.Accepted.{accepted}
+use Rattle.refusals.specs.Refusals.{refusalOf}
+use Rattle.refusals.proofs.Accepted.{accepted}
 use Rattle.memory.specs.declared.Converter.{Converter}
 use Rattle.steps.proofs.Lengths.{Lens}
 use Rattle.serialize.specs.File.{Wrote, wrote, serializeOf}

@@ -22,10 +22,10 @@ use Rattle.model.proofs.Spans.{∈-elim, ∈-append}
 use Rattle.model.proofs.Compact.{GivenFits, SymbolFits}
 use Rattle.model.proofs.Grown.{room}
 use Rattle.rows.specs.Columns.{Columns, treeRows, textOf, rootRow, laterRows}
-use Rattle.rows.specs.Refusals.{refusalOf, shaped?, texts?, ends?, room?, inside?, optional?, readable?}
+use Rattle.refusals.specs.Refusals.{refusalOf, shaped?, texts?, ends?, room?, inside?, optional?, readable?}
 use Rattle.rows.specs.declared.OptionalPart.{OptionalPart}
 use Rattle.rows.specs.declared.LineRow.{LineRow}
-use Rattle.rows.proofs.Accepted.{Accepted, accepted, given-fits}
+use Rattle.refusals.proofs.Accepted.{Accepted, accepted, given-fits}
 use Rattle.memory.specs.Memory.{Memory, Words}
 use Rattle.steps.specs.Steps.{over-words}
 use Rattle.memory.specs.declared.Converter.{Converter}

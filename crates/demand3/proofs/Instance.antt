@@ -24,7 +24,7 @@ use Rattle.model.specs.Frames.{callers, frames-of, better, best, frames-at}
 use Rattle.model.specs.Premises.{inlinees, line-at, nested-at}
 use Rattle.model.proofs.Worked.{trk, pos, ars, prs, src, b, line, inlinee-row}
 use Rattle.rows.specs.Columns.{Columns, functionInColumns, lineInColumns, partOf, lineAt, linesFrom, functionAt, rowsFrom}
-use Rattle.rows.specs.Refusals.{each, total, lengths?, count?, depth?, shaped?, inside?, readable?, optional?, functionTexts?, lineTexts?, texts?, end?, ends?, room?, refusalOf}
+use Rattle.refusals.specs.Refusals.{each, total, lengths?, count?, depth?, shaped?, inside?, readable?, optional?, functionTexts?, lineTexts?, texts?, end?, ends?, room?, refusalOf}
 use Rattle.tables.specs.Table.{rowAt, linkAt, headAt, setRow, appendOf, overOf, bucketOf, walk, keyOf, sameRow, hashOf, hitAt, newestOf, lookupOf, insertAt, insertOf, capacityOf}
 use Rattle.tables.specs.Ranges.{getOf, replaceOf, putAt, putOf}
 use Rattle.strings.specs.Strings.{textCapacityOf, storedText, textSize, hashFrom, textHash, textRow, isText, textAt, newestText, findText, indexOf, fullOf, storeOf, insertTextAt, insertTextOf}

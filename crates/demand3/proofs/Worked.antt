@@ -19,8 +19,8 @@ use Rattle.model.specs.Frames.{Frame}
 use Rattle.model.specs.Premises.{inlinees, line-at, nested-at}
 use Rattle.model.proofs.Worked.{plain-setup, trk, pos, ars, prs, src, b, line, root-row, inlinee-row, worked, worked-file}
 use Rattle.rows.specs.Columns.{functionInColumns, lineInColumns, partOf, lineAt, linesFrom, functionAt, rowsFrom}
-use Rattle.rows.specs.Refusals.{each, total, lengths?, count?, depth?, shaped?, inside?, readable?, optional?, functionTexts?, lineTexts?, texts?, end?, ends?, room?, refusalOf}
-use Rattle.rows.proofs.Examples.{worked-columns}
+use Rattle.refusals.specs.Refusals.{each, total, lengths?, count?, depth?, shaped?, inside?, readable?, optional?, functionTexts?, lineTexts?, texts?, end?, ends?, room?, refusalOf}
+use Rattle.refusals.proofs.Examples.{worked-columns}
 use Rattle.tables.specs.Table.{rowAt, linkAt, headAt, setRow, appendOf, overOf, bucketOf, walk, keyOf, sameRow, hashOf, hitAt, newestOf, lookupOf, insertAt, insertOf, capacityOf}
 use Rattle.tables.specs.Ranges.{getOf, replaceOf, putAt, putOf}
 use Rattle.strings.specs.Strings.{textCapacityOf, storedText, textSize, hashFrom, textHash, textRow, isText, textAt, newestText, findText, indexOf, fullOf, storeOf, insertTextAt, insertTextOf}

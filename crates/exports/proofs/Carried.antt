@@ -14,7 +14,7 @@ use Rattle.slices.proofs.Cases.{both-true}
 use Rattle.slices.specs.Bytes.{le, leAt, bytesAt, wordBytes}
 use Rattle.slices.proofs.Bytes.{length-words, length-bytesAt, getD-bytesAt}
 use Rattle.rows.specs.Columns.{Columns}
-use Rattle.rows.specs.Refusals.{refusalOf, optional?}
+use Rattle.refusals.specs.Refusals.{refusalOf, optional?}
 use Rattle.rows.specs.declared.OptionalPart.{OptionalPart}
 use Rattle.model.specs.Machine.{convert-symbolM}
 use Rattle.model.specs.Converter.{input}

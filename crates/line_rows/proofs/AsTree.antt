@@ -10,8 +10,8 @@ use lib.Dec.{eqb, leb}
 use lib.ListN.{length}
 use borrow.Author.Tests.{lt-leb, eq-eqb, eqb-true}
 use Rattle.rows.specs.Columns.{Columns, functionRows, lineRows}
-use Rattle.rows.specs.Refusals.{shaped?, texts?, ends?, room?, refusalOf}
-use Rattle.rows.proofs.Accepted.{some-row}
+use Rattle.refusals.specs.Refusals.{shaped?, texts?, ends?, room?, refusalOf}
+use Rattle.refusals.proofs.Accepted.{some-row}
 use Rattle.memory.specs.Memory.{Memory}
 use Rattle.memory.specs.declared.Converter.{Converter}
 use Rattle.writer.specs.Calls.{Called, called, finished, rows-converted, treeOf}

@@ -4,7 +4,7 @@ use mathlib.Core.Path.{_≡_}
 use mathlib.Core.Bool.{Bool, true, false}
 use mathlib.Core.List.{List}
 use borrow.Author.Tests.{eq-eqb, ne-eqb, le-leb, lt-leb}
-use Rattle.rows.specs.Refusals.{refusalWith}
+use Rattle.refusals.specs.Refusals.{refusalWith}
 use Rattle.line_rows.specs.Numbers.{numberOf}
 
 module _ (usable : Bool) (s u v : ℕ) (f64 f32 : List ℕ) (n : ℕ) (b : Bool) (t : List ℕ) where

@@ -10,9 +10,10 @@ use Rattle.slices.specs.Slices.{flagOf}
 use lib.Seq.{sets, sets-eq, length-sets, take-at, drop-at, drop-drop, getD-append-add}
 use borrow.Author.Tests.{lt-ltb, le-ltb, eq-eqb, ne-eqb}
 use Rattle.rows.specs.Columns.{Columns, columns, lineFields, lineInColumns, lineRows, lineStruct}
-use Rattle.rows.specs.Refusals.{each, lineTexts?, lineLengths?, refusalOf, refusalWith}
+use Rattle.refusals.specs.Refusals.{each, lineTexts?, lineLengths?, refusalOf, refusalWith}
 use Rattle.rows.specs.declared.LineRow.{LineRow}
-use Rattle.rows.proofs.Laws.{line-in, refusal-columns}
+use Rattle.rows.proofs.Laws.{line-in}
+use Rattle.refusals.proofs.Laws.{refusal-columns}
 use Rattle.line_rows.specs.Lines.{noLine, words64, words32, packed, lineColumns, linesTexts?, putRow, putLines}
 
 -- ── Columns of w words a row ──

@@ -7,10 +7,10 @@ use native.Mathlib.Omega.{arith}
 use native.Mathlib.Numerals.{add-one}
 use lib.ListN.{length, getD, drop, drop-of-length-le}
 use lib.Seq.{drop-cons}
-use Rattle.rows.specs.Refusals.{each, lineTexts?}
+use Rattle.refusals.specs.Refusals.{each, lineTexts?}
 use Rattle.rows.specs.declared.LineRow.{LineRow}
 use borrow.Author.Tests.{eq-eqb, ne-eqb}
-use Rattle.rows.proofs.Laws.{each-none, each-more, each-not, each-end}
+use Rattle.refusals.proofs.Laws.{each-none, each-more, each-not, each-end}
 use Rattle.line_rows.specs.Lines.{noLine, words64, words32, linesTexts?, putRow, putLines, unpackedTo}
 
 -- ── The texts: those of the first j rows are in order ──

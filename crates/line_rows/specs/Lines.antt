@@ -9,7 +9,7 @@ use lib.ListN.{length, getD}
 use lib.Seq.{sets}
 use Rattle.slices.specs.Slices.{flagOf}
 use Rattle.rows.specs.Columns.{Columns, columns, lineFields}
-use Rattle.rows.specs.Refusals.{each, lineTexts?}
+use Rattle.refusals.specs.Refusals.{each, lineTexts?}
 use Rattle.rows.specs.declared.LineRow.{LineRow}
 
 -- ── A row as words ──

@@ -3,7 +3,7 @@ use mathlib.Core.Bool.{Bool, cond, _&&_}
 use mathlib.Core.List.{List}
 use Prim.Native.Nat.{ℕ, _/_}
 use lib.Dec.{eqb, leb}
-use Rattle.rows.specs.Refusals.{refusalWith}
+use Rattle.refusals.specs.Refusals.{refusalWith}
 use Rattle.memory.specs.Record.{usableIn}
 use Rattle.memory.specs.declared.Converter.{Converter}
 

@@ -5,8 +5,8 @@ ghost use Rattle.line_rows.specs.Lines.{words64, words32, linesTexts?, p
 ghost use Rattle.line_rows.specs.Numbers.{numberOf};
 use memory::SYMCACHE_CLOSED;
 use rows::LineRow;
-use rows::SYMCACHE_SCRATCH_TOO_SMALL;
-use rows::line_texts;
+use refusals::SYMCACHE_SCRATCH_TOO_SMALL;
+use refusals::line_texts;
 use slices::flag;
 
 // 14: the texts of all line rows, up to the first row whose texts aren't in order.
@@ -104,7 +104,7 @@ pub fn refusal(
     ensures { λ r. ⌜ r ≡ numberOf usable scratch unpacked64 unpacked32 (now (functions64 .entry)) (now (functions32 .entry)) lines texts (now (text .entry)) ⌝ }
 {
     if usable {
-        let refused = rows::refusal_with(functions64, functions32, lines, texts, text, scratch);
+        let refused = refusals::refusal_with(functions64, functions32, lines, texts, text, scratch);
         if refused == 0 {
             if lines <= unpacked64 / 3 {
                 if lines <= unpacked32 / 14 {

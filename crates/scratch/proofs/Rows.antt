@@ -16,7 +16,7 @@ use Rattle.model.specs.Converter.{input, deep}
 use Rattle.model.specs.Premises.{Legal}
 use Rattle.model.proofs.Depths.{Steps}
 use Rattle.rows.specs.Columns.{Columns, functionRows, functionStruct, linesFrom, functionAt, rowsFrom}
-use Rattle.rows.specs.Refusals.{firstLine, total}
+use Rattle.refusals.specs.Refusals.{firstLine, total}
 use Rattle.rows.proofs.RowLaws.{rowsFrom-more, functionAt-lines}
 use Rattle.scratch.specs.Scratch.{ref-of, startAt, lenAt, callsOf, topOf}
 use Rattle.scratch.proofs.Pairs.{pairs-same}

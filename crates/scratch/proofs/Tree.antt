@@ -13,9 +13,9 @@ use Rattle.model.specs.Machine.{Machine, LoopedM, set-atM, kid-spansM, rowM, co
 use Rattle.model.specs.Converter.{input, deep}
 use Rattle.model.proofs.Depths.{Steps}
 use Rattle.rows.specs.Columns.{Columns, functionRows, lineRows, functionStruct, functionAt, treeRows, laterRows}
-use Rattle.rows.specs.Refusals.{firstLine, total}
+use Rattle.refusals.specs.Refusals.{firstLine, total}
 use Rattle.rows.proofs.RowLaws.{functionAt-depth, functionAt-lines}
-use Rattle.rows.proofs.Accepted.{Accepted}
+use Rattle.refusals.proofs.Accepted.{Accepted}
 use Rattle.scratch.specs.Scratch.{startAt, callsOf, topOf, kid-spans, RowDone}
 use Rattle.scratch.proofs.Rows.{kids, kids-suc, kids-row, convert-agree, first-line, rows-left, rows-next, rows-none, kids-fit, length-lines, steps-of, start-kept, top-kept, calls-kept}
 

@@ -10,7 +10,7 @@ use Rattle.model.specs.Rows.{MAX, boundaries}
 use Rattle.model.specs.Machine.{Ref, LoopedM, kid-spansM}
 use Rattle.model.specs.Converter.{input, deep}
 use Rattle.rows.specs.Columns.{Columns, functionRows, functionInColumns, linesFrom, rowsFrom}
-use Rattle.rows.specs.Refusals.{total}
+use Rattle.refusals.specs.Refusals.{total}
 
 -- ── Pairs ──────────────────────────────────────────────────────────────────────────────────────────────────────────────
 

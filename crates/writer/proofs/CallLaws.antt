@@ -8,7 +8,7 @@ use borrow.Author.Tests.{eq-eqb, ne-eqb}
 use Rattle.model.specs.Machine.{convert-symbolM}
 use Rattle.model.specs.Converter.{input}
 use Rattle.rows.specs.Columns.{Columns}
-use Rattle.rows.specs.Refusals.{refusalOf, optional?}
+use Rattle.refusals.specs.Refusals.{refusalOf, optional?}
 use Rattle.rows.specs.declared.OptionalPart.{OptionalPart}
 use Rattle.memory.specs.declared.State.{State}
 use Rattle.memory.specs.declared.Converter.{Converter}

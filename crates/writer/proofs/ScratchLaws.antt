@@ -14,7 +14,7 @@ use Rattle.rows.specs.declared.FunctionRow.{FunctionRow as FunctionStruct}
 use Rattle.rows.specs.declared.LineRow.{LineRow as LineStruct}
 use Rattle.rows.specs.declared.Boundaries.{Boundaries}
 use Rattle.rows.specs.Columns.{Columns, functionRows, functionStruct, lineStruct, boundariesOf}
-use Rattle.rows.specs.Refusals.{firstLine}
+use Rattle.refusals.specs.Refusals.{firstLine}
 use Rattle.scratch.specs.Scratch.{two32, setCalls, line-spans, kid-spans}
 use Rattle.scratch.proofs.Rows.{first-line}
 use Rattle.scratch.proofs.Gathered.{Pushed, pushed-more, Gathering, gathered, gather-deeper, gather-here, spans-end, spans-none}

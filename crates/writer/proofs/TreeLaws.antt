@@ -17,7 +17,7 @@ use Rattle.sorting.specs.Pairs.{pairWords, sortedOf}
 use Rattle.rows.specs.declared.FunctionRow.{FunctionRow as FunctionStruct}
 use Rattle.rows.specs.Columns.{Columns, columns, functionRows, lineRows, functionInColumns, functionStruct, functionAt, textOf}
 use Rattle.rows.proofs.RowLaws.{functionAt-lines, functionAt-skipped}
-use Rattle.rows.proofs.Accepted.{Accepted}
+use Rattle.refusals.proofs.Accepted.{Accepted}
 use Rattle.memory.specs.Memory.{Words}
 use Rattle.steps.specs.Steps.{put-range, location, begin-named, over-words}
 use Rattle.steps.proofs.RowTexts.{begin-is}

@@ -8,7 +8,7 @@ use lib.ListN.{length}
 use Rattle.model.specs.Machine.{convertM, startM, convert-symbolM}
 use Rattle.model.specs.Converter.{Setup, input, deep}
 use Rattle.rows.specs.Columns.{Columns, treeRows}
-use Rattle.rows.specs.Refusals.{refusalOf, optional?}
+use Rattle.refusals.specs.Refusals.{refusalOf, optional?}
 use Rattle.rows.specs.declared.OptionalPart.{OptionalPart}
 use Rattle.memory.specs.Memory.{Memory, Words, zeroed}
 use Rattle.memory.specs.Record.{fits?, usable?, with-state, words-of, unused, begun}

@@ -10,7 +10,7 @@ use Rattle.model.specs.Machine.{Ref, CursorM, loopM, rowM, convertM, startM}
 use Rattle.model.specs.Converter.{Setup, input, deep}
 use Rattle.rows.specs.Columns.{Columns, functionRows, functionStruct, functionAt, linesFrom, treeRows}
 use Rattle.rows.specs.declared.FunctionRow.{FunctionRow as FunctionStruct}
-use Rattle.rows.specs.Refusals.{firstLine}
+use Rattle.refusals.specs.Refusals.{firstLine}
 use Rattle.memory.specs.Memory.{Words}
 use Rattle.steps.specs.Steps.{over-words}
 use Rattle.scratch.specs.Scratch.{pairsAt, refsAt, callsOf, topOf, kid-spans, LinesWithin, Lined, RowDone}

@@ -6,7 +6,7 @@ ghost use Prim.Native.Nat.{ℕ};
 ghost use Rattle.slices.specs.Slices.{zeros};
 ghost use Rattle.memory.specs.Memory.{memory};
 ghost use Rattle.rows.specs.Columns.{columns};
-ghost use Rattle.rows.specs.Refusals.{optional?};
+ghost use Rattle.refusals.specs.Refusals.{optional?};
 ghost use Rattle.writer.specs.Calls.{called, finished, treeOf, symbolOf};
 use crate::tree::process_tree;
 use memory::Converter;
@@ -81,7 +81,7 @@ fn is_readable(text: &[u8], name: OptionalPart) -> bool
     ensures { λ r. ⌜ r ≡ optional? (now (text .entry)) name ⌝ }
 {
     if name.present {
-        return rows::readable(text, name.part);
+        return refusals::readable(text, name.part);
     }
     true
 }
@@ -124,7 +124,7 @@ pub fn process_symbolic_symbol(
     }
     if !is_readable(text, name) {
         return Answer {
-            code: rows::SYMCACHE_INVALID_TEXT,
+            code: refusals::SYMCACHE_INVALID_TEXT,
             converter,
         };
     }
@@ -192,7 +192,7 @@ pub fn process_symbolic_function(
             converter,
         };
     }
-    let refused = rows::refusal(
+    let refused = refusals::refusal(
         functions64,
         functions32,
         lines64,

@@ -27,7 +27,7 @@ ghost use Rattle.model.specs.Rows.{FunctionRow as ModelRow};
 ghost use Rattle.model.specs.Machine.{entryM, closingM};
 ghost use Rattle.model.specs.Converter.{Setup, input};
 ghost use Rattle.rows.specs.Columns.{columns, textOf};
-ghost use Rattle.rows.specs.Refusals.{refusalOf};
+ghost use Rattle.refusals.specs.Refusals.{refusalOf};
 ghost use Rattle.memory.specs.Memory.{words};
 ghost use Rattle.steps.specs.Steps.{gave, begin-named, over-words};
 ghost use Rattle.scratch.specs.Scratch.{topOf, kid-spans};

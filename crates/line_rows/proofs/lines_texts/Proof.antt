@@ -46,16 +46,16 @@ use denote.Triple.Clauses.{ensured, lasts}
 use denote.Triple.Table.{entered, cited}
 use denote.Triple.Walked.{says, Stays, stay-none-slice, walkOf, goes-none-slice, Walks, ends-at, walked, walk-meets}
 use denote.Exit.{yes}
-use Rattle.rows.specs.Refusals.{lineTexts?}
+use Rattle.refusals.specs.Refusals.{lineTexts?}
 use Rattle.rows.specs.declared.LineRow.{LineRow}
 use Rattle.rows.proofs.LineRow as T
 use Rattle.rows.proofs.LineRow.Laws as T′
 use Rattle.line_rows.specs.Lines.{noLine, linesTexts?}
 use Rattle.line_rows.proofs.Turns.{Tested, tests-begin, tested-more, tested-bad, tested-all}
-use Rattle.rows.proofs.line_texts as line-texts
-use Rattle.rows.proofs.line_texts.Symbol as line-texts-def
-use Rattle.rows.proofs.line_texts.Symbol.{name as #rows·line-texts}
-use Rattle.rows.proofs.line_texts.Met as line-texts-thm
+use Rattle.refusals.proofs.line_texts as line-texts
+use Rattle.refusals.proofs.line_texts.Symbol as line-texts-def
+use Rattle.refusals.proofs.line_texts.Symbol.{name as #rows·line-texts}
+use Rattle.refusals.proofs.line_texts.Met as line-texts-thm
 use Rattle.line_rows.proofs.lines_texts.Key.{name as #line-rows·lines-texts}
 use Rattle.line_rows.proofs.lines_texts as lines-texts
 use Rattle.line_rows.proofs.lines_texts.Statement as stated

@@ -1,7 +1,7 @@
 -- `is_readable` meets its contract, by the flag.
 use mathlib.Core.Path.{sym, _∙_}
 use borrow.Author.Needs.{needs}
-use Rattle.rows.proofs.Laws.{optional-present, optional-absent}
+use Rattle.refusals.proofs.Laws.{optional-present, optional-absent}
 use Rattle.writer.proofs.calls.is_readable.Statement.{statement}
 use Rattle.writer.proofs.calls.is_readable.Tie as tie
 

@@ -6,7 +6,7 @@ use native.Mathlib.Omega.{arith}
 use lib.ListN.{length}
 use borrow.Author.Needs.{needs}
 use Rattle.rows.specs.Columns.{Columns, columns}
-use Rattle.rows.proofs.Accepted.{Accepted, accepted}
+use Rattle.refusals.proofs.Accepted.{Accepted, accepted}
 use Rattle.memory.specs.Memory.{Words, words}
 use Rattle.steps.specs.Steps.{over-words}
 use Rattle.scratch.proofs.Tree.{Rowing, starts, ends}

@@ -3,7 +3,7 @@ use Prim.Native.Nat.{ℕ}
 use mathlib.Core.Path.{_≡_}
 use borrow.Author.Needs.{needs}
 use Rattle.rows.specs.Columns.{Columns, columns}
-use Rattle.rows.specs.Refusals.{refusalOf}
+use Rattle.refusals.specs.Refusals.{refusalOf}
 use Rattle.writer.proofs.tree.process_tree.Statement.{statement}
 use Rattle.writer.proofs.tree.process_tree.Tie as tie
 
