@@ -4,7 +4,7 @@ ghost use mathlib.Core.Path.{_≡_};
 ghost use mathlib.Core.List.{[]};
 ghost use Rattle.slices.specs.Bytes.{bytesAt};
 ghost use Rattle.memory.specs.Memory.{memory};
-ghost use Rattle.c_words.specs.Writing.{left, beginCall};
+ghost use Rattle.c_words.specs.Writing.{callLeft, beginCall};
 use c_words::record::store;
 use memory::SYMCACHE_CLOSED;
 use slices::is_set;
@@ -36,7 +36,7 @@ pub fn begin(
         (now («call_locations» .entry)) (now (ranges .entry)) in
         let after = memory (now («string_bytes» .exit)) (now (strings .exit)) (now (files .exit)) (now (functions .exit))
         (now («call_locations» .exit)) (now (ranges .exit)) in
-        left r (now («record» .exit)) after []
+        callLeft r (now («record» .exit)) after []
         ≡ beginCall (now («record» .entry)) (now («debug_id» .entry)) arch «undecorate_functions» «undecorate_symbols» before
         ) ⌝ }
 {

@@ -10,7 +10,7 @@ use lib.ListN.{length, take}
 use borrow.Author.Tests.{eq-eqb, ne-eqb, le-leb, lt-leb, eqb-false}
 use Rattle.slices.specs.Slices.{zeros}
 use Rattle.rows.specs.Columns.{Columns, columns}
-use Rattle.refusals.specs.Refusals.{shaped?, texts?, ends?, room?, refusalOf}
+use Rattle.refusals.specs.Refusals.{shaped?, texts?, ends?, room?, treeRefusal}
 use Rattle.rows.specs.declared.LineRow.{LineRow}
 use Rattle.memory.specs.Memory.{Memory}
 use Rattle.memory.specs.Record.{usable?}
@@ -22,7 +22,7 @@ use Rattle.line_rows.specs.Calls.{unpackRoom?, linesOf}
 use Rattle.line_rows.proofs.Packed.{unpacked64-is, unpacked32-is, put-long}
 use Rattle.line_rows.proofs.Entry.{number, number-is, room-there}
 use Rattle.c_words.specs.Record.{converterOf, kept}
-use Rattle.c_words.specs.Writing.{Left, left, treeCall, LinesLeft, linesLeft, linesCall}
+use Rattle.c_words.specs.Writing.{CallLeft, callLeft, treeCall, LinesCallLeft, linesLeft, linesCall}
 use Rattle.c_trees.specs.Unpacked.{unpackedCall}
 
 -- ── `lines_refusal` ──
@@ -35,20 +35,20 @@ decided r x i f g k q s u v f64 f32 n b t ec ew e =
 -- ── `process_unpacked` ──
 
 module _ (refused n : ℕ) (r : List ℕ) (m : Memory) (s u v f64 f32 t : List ℕ) where
-  pub unpacked-refused : (refused ≡ 0 → ⊥) → linesLeft (left refused r m s) u v ≡ unpackedCall refused n r m s u v f64 f32 t
+  pub unpacked-refused : (refused ≡ 0 → ⊥) → linesLeft (callLeft refused r m s) u v ≡ unpackedCall refused n r m s u v f64 f32 t
   unfolding unpackedCall
   unpacked-refused e = rw (ne-eqb refused 0 e)
 
   module _ (e : refused ≡ 0) where
-    pub unpacked-16-64 : length u / 3 < n → linesLeft (left 16 r m s) u v ≡ unpackedCall refused n r m s u v f64 f32 t
+    pub unpacked-16-64 : length u / 3 < n → linesLeft (callLeft 16 r m s) u v ≡ unpackedCall refused n r m s u v f64 f32 t
     unfolding unpackedCall
     unpacked-16-64 h = rw (eq-eqb refused 0 e, lt-leb n (length u / 3) h)
 
-    pub unpacked-16-32 : n ≤ length u / 3 → length v / 14 < n → linesLeft (left 16 r m s) u v ≡ unpackedCall refused n r m s u v f64 f32 t
+    pub unpacked-16-32 : n ≤ length u / 3 → length v / 14 < n → linesLeft (callLeft 16 r m s) u v ≡ unpackedCall refused n r m s u v f64 f32 t
     unfolding unpackedCall
     unpacked-16-32 g h = rw (eq-eqb refused 0 e, le-leb n (length u / 3) g, lt-leb n (length v / 14) h)
 
-    pub unpacked-taken : n ≤ length u / 3 → n ≤ length v / 14 → {o : Left} → o ≡ treeCall r m s (columns f64 f32 (take (n * 3) u) (take (n * 14) v) t) → {u₁ v₁ : List ℕ} → u₁ ≡ zeros u → v₁ ≡ zeros v
+    pub unpacked-taken : n ≤ length u / 3 → n ≤ length v / 14 → {o : CallLeft} → o ≡ treeCall r m s (columns f64 f32 (take (n * 3) u) (take (n * 14) v) t) → {u₁ v₁ : List ℕ} → u₁ ≡ zeros u → v₁ ≡ zeros v
         → linesLeft o u₁ v₁ ≡ unpackedCall refused n r m s u v f64 f32 t
     unfolding unpackedCall
     unpacked-taken g h d x y = rw (eq-eqb refused 0 e, le-leb n (length u / 3) g, le-leb n (length v / 14) h, d, x, y)
@@ -62,8 +62,8 @@ fits32 n m h = omega arith
 
 -- ── A refusal leaves the record ──
 
-rows-kept : (k : Columns) (s : ℕ) (c : Converter) (r : List ℕ) → eqb (refusalOf k s) 0 ≡ false → kept (refusalOf k s) c r ≡ r
-unfolding refusalOf kept
+rows-kept : (k : Columns) (s : ℕ) (c : Converter) (r : List ℕ) → eqb (treeRefusal k s) 0 ≡ false → kept (treeRefusal k s) c r ≡ r
+unfolding treeRefusal kept
 rows-kept k s c r = go (shaped? k) (texts? k) (ends? k) (room? k s)
   where
     go : (a b d e : Bool) → eqb (cond a (cond b (cond d (cond e 0 16) 15) 14) 13) 0 ≡ false → kept (cond a (cond b (cond d (cond e 0 16) 15) 14) 13) c r ≡ r
@@ -93,10 +93,10 @@ module _ (r : List ℕ) (m : Memory) (s u v f64 f32 : List ℕ) (ls : List LineR
   abbrev n : ℕ
   n = number c m s u v f64 f32 ls t
 
-  abbrev made : LinesLeft
+  abbrev made : LinesCallLeft
   made = unpackedCall n (length ls) r m s (unpackedTo n 3 words64 ls u) (unpackedTo n 14 words32 ls v) f64 f32 t
 
-  is-refused : (x : ℕ) → n ≡ x → (x ≡ 0 → ⊥) → made ≡ linesLeft (left x r m s) u v
+  is-refused : (x : ℕ) → n ≡ x → (x ≡ 0 → ⊥) → made ≡ linesLeft (callLeft x r m s) u v
   unfolding unpackedCall unpackedTo
   is-refused x e h = rw (e, ne-eqb x 0 h)
 
@@ -110,16 +110,16 @@ module _ (r : List ℕ) (m : Memory) (s u v f64 f32 : List ℕ) (ls : List LineR
 
   made-is : made ≡ linesCall r m s u v k
   unfolding linesCall linesOf treeOf treeCall
-  made-is = go (usable? c m) (eqb (refusalOf k (length s)) 0) (unpackRoom? k u v) refl refl refl
+  made-is = go (usable? c m) (eqb (treeRefusal k (length s)) 0) (unpackRoom? k u v) refl refl refl
     where
-      go : (a b x : Bool) → usable? c m ≡ a → eqb (refusalOf k (length s)) 0 ≡ b → unpackRoom? k u v ≡ x → made ≡ linesCall r m s u v k
+      go : (a b x : Bool) → usable? c m ≡ a → eqb (treeRefusal k (length s)) 0 ≡ b → unpackRoom? k u v ≡ x → made ≡ linesCall r m s u v k
       go true true true p q f = is-taken (number-is c m s u v f64 f32 ls t ∙ rw (p, q, f)) ∙ rw (p, q, f)
       go true true false p q f = is-refused 16 (number-is c m s u v f64 f32 ls t ∙ rw (p, q, f)) (λ z. omega arith) ∙ rw (p, q, f, kept-16 c r)
-      go true false x p q f = is-refused (refusalOf k (length s)) (number-is c m s u v f64 f32 ls t ∙ rw (p, q)) (eqb-false (refusalOf k (length s)) 0 q) ∙ rw (p, q, rows-kept k (length s) c r q)
+      go true false x p q f = is-refused (treeRefusal k (length s)) (number-is c m s u v f64 f32 ls t ∙ rw (p, q)) (eqb-false (treeRefusal k (length s)) 0 q) ∙ rw (p, q, rows-kept k (length s) c r q)
       go false b x p q f = is-refused 19 (number-is c m s u v f64 f32 ls t ∙ rw p) (λ z. omega arith) ∙ rw (p, kept-19 c r)
 
   -- with a name for what each call of the exported function gives
-  pub lines-made : {texts : Bool} {refused : ℕ} {u₁ v₁ r₁ : List ℕ} {o : LinesLeft} → texts ≡ linesTexts? t ls
+  pub lines-made : {texts : Bool} {refused : ℕ} {u₁ v₁ r₁ : List ℕ} {o : LinesCallLeft} → texts ≡ linesTexts? t ls
       → refused ≡ numberOf (usableBy c (length (m .text)) (length (m .strings)) (length (m .files)) (length (m .functions)) (length (m .calls)) (length (m .ranges))) (length s) (length u) (length v) f64 f32 (length ls) texts t
       → r₁ ≡ r → u₁ ≡ unpackedTo refused 3 words64 ls u → v₁ ≡ unpackedTo refused 14 words32 ls v → o ≡ unpackedCall refused (length ls) r₁ m s u₁ v₁ f64 f32 t → o ≡ linesCall r m s u v k
   lines-made {texts} {refused} a b d x y e =

@@ -7,9 +7,9 @@ use Rattle.memory.specs.Memory.{Memory}
 use Rattle.memory.specs.declared.Converter.{Converter}
 use Rattle.writer.specs.Calls.{called, treeOf}
 use Rattle.c_words.specs.Record.{converterOf, kept}
-use Rattle.c_words.specs.Writing.{left, leaves, treeCall}
+use Rattle.c_words.specs.Writing.{callLeft, leaves, treeCall}
 
 pub tree-law : (r : List ℕ) (m : Memory) (s : List ℕ) (k : Columns) (n : ℕ) (c : Converter) (m₁ : Memory) (s₁ : List ℕ) {w : Converter} {r₁ : List ℕ}
-    → w ≡ converterOf r → called n c m₁ s₁ ≡ treeOf w m s k → r₁ ≡ kept n c r → left n r₁ m₁ s₁ ≡ treeCall r m s k
+    → w ≡ converterOf r → called n c m₁ s₁ ≡ treeOf w m s k → r₁ ≡ kept n c r → callLeft n r₁ m₁ s₁ ≡ treeCall r m s k
 unfolding treeCall
 tree-law r m s k n c m₁ s₁ ew e er = rw er (ap (leaves r) (e ∙ ap (λ (x : Converter). treeOf x m s k) ew))

@@ -5,7 +5,7 @@ ghost use Rattle.rows.specs.Columns.{columns};
 ghost use Rattle.memory.specs.Memory.{memory};
 ghost use Rattle.line_rows.specs.Numbers.{usableBy, numberOf};
 ghost use Rattle.c_words.specs.Record.{converterOf};
-ghost use Rattle.c_words.specs.Writing.{left, treeCall, linesLeft};
+ghost use Rattle.c_words.specs.Writing.{callLeft, treeCall, linesLeft};
 ghost use Rattle.c_trees.specs.Unpacked.{unpackedCall};
 use c_words::record::load;
 use c_words::record::store_answer;
@@ -38,7 +38,7 @@ pub fn process_symbolic_function(
         (now («call_locations» .entry)) (now (ranges .entry)) in
         let after = memory (now («string_bytes» .exit)) (now (strings .exit)) (now (files .exit)) (now (functions .exit))
         (now («call_locations» .exit)) (now (ranges .exit)) in
-        left r (now («record» .exit)) after (now (scratch .exit)) ≡ treeCall (now («record» .entry)) before (now (scratch .entry)) given
+        callLeft r (now («record» .exit)) after (now (scratch .exit)) ≡ treeCall (now («record» .entry)) before (now (scratch .entry)) given
         ) ⌝ }
 {
     let answer = writer::calls::process_symbolic_function(
@@ -133,7 +133,7 @@ pub fn process_unpacked(
         (now («call_locations» .entry)) (now (ranges .entry)) in
         let after = memory (now («string_bytes» .exit)) (now (strings .exit)) (now (files .exit)) (now (functions .exit))
         (now («call_locations» .exit)) (now (ranges .exit)) in
-        linesLeft (left r (now («record» .exit)) after (now (scratch .exit))) (now (unpacked64 .exit)) (now (unpacked32 .exit))
+        linesLeft (callLeft r (now («record» .exit)) after (now (scratch .exit))) (now (unpacked64 .exit)) (now (unpacked32 .exit))
         ≡ unpackedCall refused lines (now («record» .entry)) before (now (scratch .entry)) (now (unpacked64 .entry)) (now (unpacked32 .entry))
         (now (functions64 .entry)) (now (functions32 .entry)) (now (text .entry))
         ) ⌝ }

@@ -19,47 +19,47 @@ use Rattle.slices.specs.Slices.{yes}
 use Rattle.c_words.specs.Record.{converterOf, wordsOf, kept, lenWords}
 
 -- what a call leaves: document 01's number, the record's words, the six tables, scratch
-pub record Left : Type 0 where
+pub record CallLeft : Type 0 where
   pub code : ℕ
   pub words : List ℕ
   pub memory : Memory
   pub scratch : List ℕ
 
-abbrev pub left : ℕ → List ℕ → Memory → List ℕ → Left
-left n r m s = record { code = n; words = r; memory = m; scratch = s }
+abbrev pub callLeft : ℕ → List ℕ → Memory → List ℕ → CallLeft
+callLeft n r m s = record { code = n; words = r; memory = m; scratch = s }
 
-abbrev pub leaves : List ℕ → Called → Left
-leaves r o = left (o .code) (kept (o .code) (o .converter) r) (o .memory) (o .scratch)
+abbrev pub leaves : List ℕ → Called → CallLeft
+leaves r o = callLeft (o .code) (kept (o .code) (o .converter) r) (o .memory) (o .scratch)
 
 -- "debug_id: its first 32 bytes; missing ones are 0. Begin answers 0, or 19 where the record has fewer than 20 words (then nothing changes)"
-unfoldable pub beginCall : List ℕ → List ℕ → ℕ → ℕ → ℕ → Memory → Left
+unfoldable pub beginCall : List ℕ → List ℕ → ℕ → ℕ → ℕ → Memory → CallLeft
 beginCall r id arch f s m =
     let b = beginOf (bytesAt 32 id 0) arch (yes f) (yes s) m in
-    cond (ltb (length r) 20) (left 19 r m []) (left 0 (stored (wordsOf (b .0)) r) (b .1) [])
+    cond (ltb (length r) 20) (callLeft 19 r m []) (callLeft 0 (stored (wordsOf (b .0)) r) (b .1) [])
 
-unfoldable pub treeCall : List ℕ → Memory → List ℕ → Columns → Left
+unfoldable pub treeCall : List ℕ → Memory → List ℕ → Columns → CallLeft
 treeCall r m s k = leaves r (treeOf (converterOf r) m s k)
 
 -- a tree whose line rows are one lent list: what a tree call leaves, and the memory that the line rows are unpacked into
-pub record LinesLeft : Type 0 where
-  pub tree : Left
+pub record LinesCallLeft : Type 0 where
+  pub tree : CallLeft
   pub unpacked64 : List ℕ
   pub unpacked32 : List ℕ
 
-abbrev pub linesLeft : Left → List ℕ → List ℕ → LinesLeft
+abbrev pub linesLeft : CallLeft → List ℕ → List ℕ → LinesCallLeft
 linesLeft l u v = record { tree = l; unpacked64 = u; unpacked32 = v }
 
-abbrev pub linesLeave : List ℕ → LinesCalled → LinesLeft
+abbrev pub linesLeave : List ℕ → LinesCalled → LinesCallLeft
 linesLeave r o = linesLeft (leaves r (o .called)) (o .unpacked64) (o .unpacked32)
 
-unfoldable pub linesCall : List ℕ → Memory → List ℕ → List ℕ → List ℕ → Columns → LinesLeft
+unfoldable pub linesCall : List ℕ → Memory → List ℕ → List ℕ → List ℕ → Columns → LinesCallLeft
 linesCall r m s u v k = linesLeave r (linesOf (converterOf r) m s u v k)
 
 -- a symbol's name, where it is named
 abbrev pub nameAt : ℕ → ℕ → ℕ → OptionalPart
 nameAt named start len = record { present = yes named; part = record { start = start; len = len } }
 
-unfoldable pub symbolCall : List ℕ → Memory → List ℕ → ℕ → ℕ → OptionalPart → Left
+unfoldable pub symbolCall : List ℕ → Memory → List ℕ → ℕ → ℕ → OptionalPart → CallLeft
 symbolCall r m t address size name = leaves r (symbolOf (converterOf r) m t address size name)
 
 -- ── Writing ────────────────────────────────────────────────────────────────────────────────────────────────────────────

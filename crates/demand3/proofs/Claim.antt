@@ -23,7 +23,7 @@ use Rattle.model.proofs.Spans.{∈-elim, ∈-append, ∈-left}
 use Rattle.model.proofs.Demand.{demand-root, demand-stack, alone}
 use Rattle.model.proofs.Sections.{sections}
 use Rattle.rows.specs.Columns.{Columns}
-use Rattle.refusals.specs.Refusals.{refusalOf}
+use Rattle.refusals.specs.Refusals.{treeRefusal}
 use Rattle.refusals.proofs.Accepted.{accepted}
 use Rattle.memory.specs.declared.Converter.{Converter}
 use Rattle.steps.proofs.Lengths.{Lens}
@@ -50,16 +50,16 @@ abbrev Shaped : Given → Type 0
 Shaped (tree-rows q rs) = (q .depth ≡ 0) × Legal 0 rs
 Shaped (symbol-row y) = Unit {0}
 
-accepted-tree : (r : Standing Converter) (k : Columns) (s : List ℕ) → treeOf (r .carrier) (r .memory) s k .code ≡ 0 → refusalOf k (length s) ≡ 0
+accepted-tree : (r : Standing Converter) (k : Columns) (s : List ℕ) → treeOf (r .carrier) (r .memory) s k .code ≡ 0 → treeRefusal k (length s) ≡ 0
 unfolding treeOf
-accepted-tree r k s e = go (usable? (r .carrier) (r .memory)) (eqb (refusalOf k (length s)) 0) refl refl
+accepted-tree r k s e = go (usable? (r .carrier) (r .memory)) (eqb (treeRefusal k (length s)) 0) refl refl
   where
-    go : (a b : Bool) → usable? (r .carrier) (r .memory) ≡ a → eqb (refusalOf k (length s)) 0 ≡ b → refusalOf k (length s) ≡ 0
-    go true true u v = eqb-true (refusalOf k (length s)) 0 v
+    go : (a b : Bool) → usable? (r .carrier) (r .memory) ≡ a → eqb (treeRefusal k (length s)) 0 ≡ b → treeRefusal k (length s) ≡ 0
+    go true true u v = eqb-true (treeRefusal k (length s)) 0 v
     go true false u v = rw (u, v, treeOf) at e
     go false b u v = let bad : _≡_ {A = ℕ} 19 0 = rw (u, treeOf) at e in absurd (omega arith)
 
-tree-shaped : (k : Columns) (s : ℕ) → refusalOf k s ≡ 0 → Shaped (givenTree k)
+tree-shaped : (k : Columns) (s : ℕ) → treeRefusal k s ≡ 0 → Shaped (givenTree k)
 tree-shaped k s e = let a = accepted k s e in (a .first, a .legal)
 
 one-more : (gs : List Given) (g : Given) → ((h : Given) → h ∈ gs → Shaped h) → Shaped g → (h : Given) → h ∈ (gs ++ (g ∷ [])) → Shaped h

@@ -22,7 +22,7 @@ use Rattle.model.proofs.Spans.{∈-elim, ∈-append}
 use Rattle.model.proofs.Compact.{GivenFits, SymbolFits}
 use Rattle.model.proofs.Grown.{room}
 use Rattle.rows.specs.Columns.{Columns, treeRows, textOf, rootRow, laterRows}
-use Rattle.refusals.specs.Refusals.{refusalOf, shaped?, texts?, ends?, room?, inside?, optional?, readable?}
+use Rattle.refusals.specs.Refusals.{treeRefusal, shaped?, texts?, ends?, room?, inside?, optional?, readable?}
 use Rattle.rows.specs.declared.OptionalPart.{OptionalPart}
 use Rattle.rows.specs.declared.LineRow.{LineRow}
 use Rattle.refusals.proofs.Accepted.{Accepted, accepted, given-fits}
@@ -142,8 +142,8 @@ due-17 : (f : Bool) → _≡_ {A = ℕ} (cond f 0 17) 17 → f ≡ false
 due-17 true e = absurd (omega arith)
 due-17 false e = refl
 
-other-refusals : (k : Columns) (s : ℕ) → refusalOf k s ≢ 17
-unfolding refusalOf
+other-refusals : (k : Columns) (s : ℕ) → treeRefusal k s ≢ 17
+unfolding treeRefusal
 other-refusals k s = go (shaped? k) (texts? k) (ends? k) (room? k s)
   where
     go : (a b c d : Bool) → _≢_ {A = ℕ} (cond a (cond b (cond c (cond d 0 16) 15) 14) 13) 17
@@ -154,13 +154,13 @@ other-refusals k s = go (shaped? k) (texts? k) (ends? k) (room? k s)
     go true true true true e = absurd (omega arith)
 
 tree-usable : (c : Converter) (m : Memory) (s : List ℕ) (k : Columns) → usable? c m ≡ true
-    → treeOf c m s k ≡ cond (eqb (refusalOf k (length s)) 0) (finished c s (rows-converted c m k)) (called (refusalOf k (length s)) c m s)
+    → treeOf c m s k ≡ cond (eqb (treeRefusal k (length s)) 0) (finished c s (rows-converted c m k)) (called (treeRefusal k (length s)) c m s)
 unfolding treeOf
 tree-usable c m s k e = rw e
 
 module _ (n : Lens) (b : Converter) (r : Standing Converter) (k : Columns) (s : List ℕ) (h : Open n b r) where
   abbrev refusal : ℕ
-  refusal = refusalOf k (length s)
+  refusal = treeRefusal k (length s)
 
   -- "Every other refusal changes no lent byte and no state"
   pub tree-refused : refusal ≢ 0 → treeOf (r .carrier) (r .memory) s k ≡ called refusal (r .carrier) (r .memory) s
@@ -230,11 +230,11 @@ module _ (f64 f32 : List ℕ) (ls : List LineRow) (x s u v : List ℕ) (r : Stan
 
   -- its number, and 17 exactly where it is due
   pub lines-number : (n : Lens) (b : Converter) → Open n b r → Typed (lines-tree f64 f32 ls x s u v)
-      → lines-outcome .code ≡ cond (eqb (refusalOf cols (length scratch-of)) 0) (due (capacities n) (setup b) (r .counted) (givenTree cols)) (refusalOf cols (length scratch-of))
+      → lines-outcome .code ≡ cond (eqb (treeRefusal cols (length scratch-of)) 0) (due (capacities n) (setup b) (r .counted) (givenTree cols)) (treeRefusal cols (length scratch-of))
   lines-number n b h t = (λ i. same-kept i .0) ∙ tree-number n b r cols scratch-of h t
 
   pub lines-17 : (n : Lens) (b : Converter) → Open n b r → Typed (lines-tree f64 f32 ls x s u v) → lines-outcome .code ≡ 17
-      → (refusalOf cols (length scratch-of) ≡ 0) × (plain-fits? (capacities n) (converted (setup b) (r .counted ++ (givenTree cols ∷ []))) ≡ false)
+      → (treeRefusal cols (length scratch-of) ≡ 0) × (plain-fits? (capacities n) (converted (setup b) (r .counted ++ (givenTree cols ∷ []))) ≡ false)
   lines-17 n b h t e = tree-17 n b r cols scratch-of h t (sym (ap (λ (x : ℕ × (Converter × Memory)). x .0) same-kept) ∙ e)
 
 -- ── A symbol ──

@@ -23,8 +23,8 @@ use Rattle.model.specs.Converter as model
 use Rattle.model.specs.Frames.{callers, frames-of, better, best, frames-at}
 use Rattle.model.specs.Premises.{inlinees, line-at, nested-at}
 use Rattle.model.proofs.Worked.{trk, pos, ars, prs, src, b, line, inlinee-row}
-use Rattle.rows.specs.Columns.{Columns, functionInColumns, lineInColumns, partOf, lineAt, linesFrom, functionAt, rowsFrom}
-use Rattle.refusals.specs.Refusals.{each, total, lengths?, count?, depth?, shaped?, inside?, readable?, optional?, functionTexts?, lineTexts?, texts?, end?, ends?, room?, refusalOf}
+use Rattle.rows.specs.Columns.{Columns, functionInColumns, lineInColumns, partOf, lineAt, linesFrom, treeRow, treeRowsFrom}
+use Rattle.refusals.specs.Refusals.{each, total, lengths?, count?, depth?, shaped?, inside?, readable?, optional?, functionTexts?, lineTexts?, texts?, end?, ends?, room?, treeRefusal}
 use Rattle.tables.specs.Table.{rowAt, linkAt, headAt, setRow, appendOf, overOf, bucketOf, walk, keyOf, sameRow, hashOf, hitAt, newestOf, lookupOf, insertAt, insertOf, capacityOf}
 use Rattle.tables.specs.Ranges.{getOf, replaceOf, putAt, putOf}
 use Rattle.strings.specs.Strings.{textCapacityOf, storedText, textSize, hashFrom, textHash, textRow, isText, textAt, newestText, findText, indexOf, fullOf, storeOf, insertTextAt, insertTextOf}
@@ -229,7 +229,7 @@ pub record Computed : Type 0 where
   pub second-met : premises? second-counted ≡ true
 
 pub computed : Computed
-unfolding every? some? typed? numbers next run usableIn finished beginOf treeOf symbolOf functionInColumns lineInColumns partOf lineAt linesFrom functionAt rowsFrom each total lengths? count? depth? shaped? inside? readable? optional? functionTexts? lineTexts? texts? end? ends? room? refusalOf utf8 chars charLen UTF8-char fits within names.starts-with names.special names.contains names.rfind names.digit names.digits names.value names.number names.parses names.sized names.cut names.prefixed names.undecorated before place sort advanceM set-atM kid-spansM unless-held put-end walkM loopM entryM closingM rowM convertM startM named-symbolM convert-symbolM isNoSourceLocation rowAt linkAt headAt setRow appendOf overOf bucketOf walk keyOf sameRow hashOf hitAt newestOf lookupOf insertAt insertOf capacityOf getOf replaceOf putAt putOf textCapacityOf encoded-in encoded storedText textSize hashFrom textHash textRow isText textAt newestText findText indexOf fullOf storeOf insertTextAt insertTextOf fitsIn store add-function add-file-row add-call put-range store-six locate-six begin-named serializeOf written-file versionInfoBytes headerBytes bytes.wordBytes bytes.le bytes.tableBytes file-row fileBytes function-row functionBytes call-row locationBytes location-row entry-location start-row rangeBytes padding in-order entries table.rowsFrom inlinees asc? row-well? last-at? holds? inlinee-well? disjoint? apart? rows-well? nested? not-in? symbol-clear? separate? all-separate? premises?
+unfolding every? some? typed? numbers next run usableIn finished beginOf treeOf symbolOf functionInColumns lineInColumns partOf lineAt linesFrom treeRow treeRowsFrom each total lengths? count? depth? shaped? inside? readable? optional? functionTexts? lineTexts? texts? end? ends? room? treeRefusal utf8 chars charLen UTF8-char fits within names.starts-with names.special names.contains names.rfind names.digit names.digits names.value names.number names.parses names.sized names.cut names.prefixed names.undecorated before place sort advanceM set-atM kid-spansM unless-held put-end walkM loopM entryM closingM rowM convertM startM named-symbolM convert-symbolM isNoSourceLocation rowAt linkAt headAt setRow appendOf overOf bucketOf walk keyOf sameRow hashOf hitAt newestOf lookupOf insertAt insertOf capacityOf getOf replaceOf putAt putOf textCapacityOf encoded-in encoded storedText textSize hashFrom textHash textRow isText textAt newestText findText indexOf fullOf storeOf insertTextAt insertTextOf fitsIn store add-function add-file-row add-call put-range store-six locate-six begin-named serializeOf written-file versionInfoBytes headerBytes bytes.wordBytes bytes.le bytes.tableBytes file-row fileBytes function-row functionBytes call-row locationBytes location-row entry-location start-row rangeBytes padding in-order entries table.rowsFrom inlinees asc? row-well? last-at? holds? inlinee-well? disjoint? apart? rows-well? nested? not-in? symbol-clear? separate? all-separate? premises?
 computed = record {
   words-typed = refl;
   answers = refl;
@@ -243,11 +243,11 @@ computed = record {
 
 -- the tree that was refused for a word of scratch would else be taken, and with it the premises fail: it overlaps the first root
 pub record Refused : Type 0 where
-  pub taken : refusalOf across 8 ≡ 0
+  pub taken : treeRefusal across 8 ≡ 0
   pub crosses : Premises (first-counted ++ (givenTree across ∷ [])) → ⊥
 
 pub refused : Refused
-unfolding functionInColumns lineInColumns partOf lineAt linesFrom functionAt rowsFrom each total lengths? count? depth? shaped? inside? readable? optional? functionTexts? lineTexts? texts? end? ends? room? refusalOf utf8 chars charLen UTF8-char fits within
+unfolding functionInColumns lineInColumns partOf lineAt linesFrom treeRow treeRowsFrom each total lengths? count? depth? shaped? inside? readable? optional? functionTexts? lineTexts? texts? end? ends? room? treeRefusal utf8 chars charLen UTF8-char fits within
 refused = record {
   taken = refl;
   crosses = λ p. let clear = p .separate .1 .0 (givenTree across) (there (there (there (there (there here))))) in ⊎-elim (λ (h : 0x1010 ≤ 0x1008). omega arith) (λ (h : 0x1018 ≤ 0x1000). omega arith) clear;

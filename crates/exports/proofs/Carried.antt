@@ -14,7 +14,7 @@ use Rattle.slices.proofs.Cases.{both-true}
 use Rattle.slices.specs.Bytes.{le, leAt, bytesAt, wordBytes}
 use Rattle.slices.proofs.Bytes.{length-words, length-bytesAt, getD-bytesAt}
 use Rattle.rows.specs.Columns.{Columns}
-use Rattle.refusals.specs.Refusals.{refusalOf, optional?}
+use Rattle.refusals.specs.Refusals.{treeRefusal, optional?}
 use Rattle.rows.specs.declared.OptionalPart.{OptionalPart}
 use Rattle.model.specs.Machine.{convert-symbolM}
 use Rattle.model.specs.Converter.{input}
@@ -211,19 +211,19 @@ pub tree-carried : (r : List ℕ) (m : Memory) (s : List ℕ) (k : Columns) → 
 unfolding treeCall treeOf
 tree-carried r m s k =
     by-cond (Carries r) (usable? (converterOf r) m) _ _
-    (λ h. by-cond (Carries r) (eqb (refusalOf k (length s)) 0) _ _
+    (λ h. by-cond (Carries r) (eqb (treeRefusal k (length s)) 0) _ _
     (λ _. finished-carried r s (rows-converted (converterOf r) m k) (usable-long r m h))
-    (λ _. refused-carried r m s (refusalOf k (length s)) (usable-long r m h)))
+    (λ _. refused-carried r m s (treeRefusal k (length s)) (usable-long r m h)))
     (λ _. closed-carried r m s)
 
 pub lines-carried : (r : List ℕ) (m : Memory) (s u v : List ℕ) (k : Columns) → converterOf (linesCall r m s u v k .tree .words) ≡ linesOf (converterOf r) m s u v k .called .converter
 unfolding linesCall linesOf treeCall
 lines-carried r m s u v k =
     let P : LinesCalled → Type 0 = λ o. Carries r (o .called) in
-    by-cond P (usable? (converterOf r) m && eqb (refusalOf k (length s)) 0) _ _
+    by-cond P (usable? (converterOf r) m && eqb (treeRefusal k (length s)) 0) _ _
     (λ h. by-cond P (unpackRoom? k u v) _ _
     (λ _. tree-carried r m s k)
-    (λ _. refused-carried r m s 16 (usable-long r m (both-true (usable? (converterOf r) m) (eqb (refusalOf k (length s)) 0) h .0))))
+    (λ _. refused-carried r m s 16 (usable-long r m (both-true (usable? (converterOf r) m) (eqb (treeRefusal k (length s)) 0) h .0))))
     (λ _. tree-carried r m s k)
 
 pub symbol-carried : (r : List ℕ) (m : Memory) (t : List ℕ) (address size : ℕ) (name : OptionalPart)

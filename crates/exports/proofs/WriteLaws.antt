@@ -9,11 +9,11 @@ use Rattle.memory.specs.declared.Converter.{Converter}
 use Rattle.writer.specs.Calls.{called, symbolOf}
 use Rattle.serialize.specs.File.{Wrote, wrote, serializeOf}
 use Rattle.c_words.specs.Record.{converterOf, kept, lenWords}
-use Rattle.c_words.specs.Writing.{left, leaves, nameAt, symbolCall, leftFile, serializeCall}
+use Rattle.c_words.specs.Writing.{callLeft, leaves, nameAt, symbolCall, leftFile, serializeCall}
 
 pub symbol-law : (r : List ℕ) (m : Memory) (t : List ℕ) (address size named start len : ℕ) (n : ℕ) (c : Converter) (m₁ : Memory) {w : Converter} {p : Bool} {r₁ : List ℕ}
     → w ≡ converterOf r → p ≡ yes named → called n c m₁ [] ≡ symbolOf w m t address size (record { present = p; part = record { start = start; len = len } }) → r₁ ≡ kept n c r
-    → left n r₁ m₁ [] ≡ symbolCall r m t address size (nameAt named start len)
+    → callLeft n r₁ m₁ [] ≡ symbolCall r m t address size (nameAt named start len)
 unfolding symbolCall
 symbol-law r m t address size named start len n c m₁ {p = p} ew ep e er =
     rw er

@@ -12,9 +12,9 @@ use Rattle.demand3.specs.Lists.{Call, tree, lines-tree, symbol, write, Outcome,
 use Rattle.demand3.specs.Demand3.{Reopened}
 use Rattle.slices.specs.Slices.{yes}
 use Rattle.c_words.specs.Record.{Bytes}
-use Rattle.c_words.specs.Writing.{Left, beginCall, treeCall, linesCall, symbolCall, LeftFile, serializeCall}
+use Rattle.c_words.specs.Writing.{CallLeft, beginCall, treeCall, linesCall, symbolCall, LeftFile, serializeCall}
 
-abbrev pub of-left : Left → Outcome (List ℕ)
+abbrev pub of-left : CallLeft → Outcome (List ℕ)
 of-left o = outcome (o .code) (o .words) (o .memory)
 
 -- what each call leaves. A write leaves the record and the tables as they were; its number is the same whatever words are lent for the length

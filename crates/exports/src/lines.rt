@@ -2,7 +2,7 @@
 ghost use mathlib.Core.Path.{_≡_};
 ghost use Rattle.memory.specs.Memory.{memory};
 ghost use Rattle.line_rows.specs.Lines.{lineColumns};
-ghost use Rattle.c_words.specs.Writing.{left, linesLeft, linesCall};
+ghost use Rattle.c_words.specs.Writing.{callLeft, linesLeft, linesCall};
 use c_trees::lines_refusal;
 use c_trees::process_unpacked;
 use line_rows::lines_texts;
@@ -33,7 +33,7 @@ pub extern "C" fn symcache_process_symbolic_function_lines(
         (now («call_locations» .entry)) (now (ranges .entry)) in
         let after = memory (now («string_bytes» .exit)) (now (strings .exit)) (now (files .exit)) (now (functions .exit))
         (now («call_locations» .exit)) (now (ranges .exit)) in
-        linesLeft (left r (now («record» .exit)) after (now (scratch .exit))) (now (unpacked64 .exit)) (now (unpacked32 .exit))
+        linesLeft (callLeft r (now («record» .exit)) after (now (scratch .exit))) (now (unpacked64 .exit)) (now (unpacked32 .exit))
         ≡ linesCall (now («record» .entry)) before (now (scratch .entry)) (now (unpacked64 .entry)) (now (unpacked32 .entry)) given
         ) ⌝ }
 {

@@ -3,7 +3,7 @@ ghost use mathlib.Core.Path.{_≡_};
 ghost use mathlib.Core.List.{[]};
 ghost use Rattle.rows.specs.Columns.{columns};
 ghost use Rattle.memory.specs.Memory.{memory};
-ghost use Rattle.c_words.specs.Writing.{left, beginCall, treeCall, nameAt, symbolCall, leftFile, serializeCall};
+ghost use Rattle.c_words.specs.Writing.{callLeft, beginCall, treeCall, nameAt, symbolCall, leftFile, serializeCall};
 use c_words::file::put_len;
 use c_words::record::load;
 use c_words::record::store_answer;
@@ -31,7 +31,7 @@ pub extern "C" fn symcache_begin(
         (now («call_locations» .entry)) (now (ranges .entry)) in
         let after = memory (now («string_bytes» .exit)) (now (strings .exit)) (now (files .exit)) (now (functions .exit))
         (now («call_locations» .exit)) (now (ranges .exit)) in
-        left r (now («record» .exit)) after []
+        callLeft r (now («record» .exit)) after []
         ≡ beginCall (now («record» .entry)) (now («debug_id» .entry)) arch «undecorate_functions» «undecorate_symbols» before
         ) ⌝ }
 {
@@ -74,7 +74,7 @@ pub extern "C" fn symcache_process_symbolic_function(
         (now («call_locations» .entry)) (now (ranges .entry)) in
         let after = memory (now («string_bytes» .exit)) (now (strings .exit)) (now (files .exit)) (now (functions .exit))
         (now («call_locations» .exit)) (now (ranges .exit)) in
-        left r (now («record» .exit)) after (now (scratch .exit)) ≡ treeCall (now («record» .entry)) before (now (scratch .entry)) given
+        callLeft r (now («record» .exit)) after (now (scratch .exit)) ≡ treeCall (now («record» .entry)) before (now (scratch .entry)) given
         ) ⌝ }
 {
     c_trees::process_symbolic_function(
@@ -116,7 +116,7 @@ pub extern "C" fn symcache_process_symbolic_symbol(
         (now («call_locations» .entry)) (now (ranges .entry)) in
         let after = memory (now («string_bytes» .exit)) (now (strings .exit)) (now (files .exit)) (now (functions .exit))
         (now («call_locations» .exit)) (now (ranges .exit)) in
-        left r (now («record» .exit)) after []
+        callLeft r (now («record» .exit)) after []
         ≡ symbolCall (now («record» .entry)) before (now (text .entry)) address size (nameAt named «name_start» «name_len»)
         ) ⌝ }
 {

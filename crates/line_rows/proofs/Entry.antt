@@ -8,7 +8,7 @@ use lib.Dec.{eqb, leb}
 use lib.ListN.{length}
 use borrow.Author.Tests.{le-leb, lt-leb, leb-true, leb-false, eqb-false}
 use Rattle.rows.specs.Columns.{Columns}
-use Rattle.refusals.specs.Refusals.{refusalOf}
+use Rattle.refusals.specs.Refusals.{treeRefusal}
 use Rattle.rows.specs.declared.LineRow.{LineRow}
 use Rattle.memory.specs.Memory.{Memory}
 use Rattle.memory.specs.declared.Converter.{Converter}
@@ -45,19 +45,19 @@ module _ (c : Converter) (m : Memory) (s u v f64 f32 : List ℕ) (ls : List Line
           go true e = e ∙ sym (le-leb x₁ y₁ (f (leb-true x y e)))
           go false e = e ∙ sym (lt-leb x₁ y₁ (g (leb-false x y e)))
 
-  pub number-is : number ≡ cond (usable? c m) (cond (eqb (refusalOf k (length s)) 0) (cond (unpackRoom? k u v) 0 16) (refusalOf k (length s))) 19
+  pub number-is : number ≡ cond (usable? c m) (cond (eqb (treeRefusal k (length s)) 0) (cond (unpackRoom? k u v) 0 16) (treeRefusal k (length s))) 19
   unfolding numberOf
   number-is = λ i. cond (usable-is i) (cond (eqb (refusal-lines f64 f32 ls t (length s) i) 0) (cond (room-is i) 0 16) (refusal-lines f64 f32 ls t (length s) i)) 19
 
   -- where it is 0 there is room for all rows
   pub room-there : number ≡ 0 → (length ls * 3 ≤ length u) × (length ls * 14 ≤ length v)
   unfolding unpackRoom?
-  room-there e = go (usable? c m) (eqb (refusalOf k (length s)) 0) (leb (length (packed words64 ls)) (length u)) (leb (length (packed words32 ls)) (length v)) refl refl refl refl
+  room-there e = go (usable? c m) (eqb (treeRefusal k (length s)) 0) (leb (length (packed words64 ls)) (length u)) (leb (length (packed words32 ls)) (length v)) refl refl refl refl
     where
       bad : (n : ℕ) → n ≡ 0 → 1 ≤ n → ⊥
       bad n a b = omega arith
 
-      go : (a b x y : Bool) → usable? c m ≡ a → eqb (refusalOf k (length s)) 0 ≡ b → leb (length (packed words64 ls)) (length u) ≡ x → leb (length (packed words32 ls)) (length v) ≡ y
+      go : (a b x y : Bool) → usable? c m ≡ a → eqb (treeRefusal k (length s)) 0 ≡ b → leb (length (packed words64 ls)) (length u) ≡ x → leb (length (packed words32 ls)) (length v) ≡ y
           → (length ls * 3 ≤ length u) × (length ls * 14 ≤ length v)
       go true true true true p q f g =
           let a = length64 ls in
@@ -67,5 +67,5 @@ module _ (c : Converter) (m : Memory) (s u v f64 f32 : List ℕ) (ls : List Line
           (omega (arith, a, h), omega (arith, b, i))
       go true true true false p q f g = absurd (bad 16 (sym (number-is ∙ rw (p, q, f, g)) ∙ e) (omega arith))
       go true true false y p q f g = absurd (bad 16 (sym (number-is ∙ rw (p, q, f)) ∙ e) (omega arith))
-      go true false x y p q f g = absurd (eqb-false (refusalOf k (length s)) 0 q (sym (number-is ∙ rw (p, q)) ∙ e))
+      go true false x y p q f g = absurd (eqb-false (treeRefusal k (length s)) 0 q (sym (number-is ∙ rw (p, q)) ∙ e))
       go false b x y p q f g = absurd (bad 19 (sym (number-is ∙ rw p) ∙ e) (omega arith))

@@ -10,7 +10,7 @@ use Rattle.slices.specs.Slices.{flagOf}
 use lib.Seq.{sets, sets-eq, length-sets, take-at, drop-at, drop-drop, getD-append-add}
 use borrow.Author.Tests.{lt-ltb, le-ltb, eq-eqb, ne-eqb}
 use Rattle.rows.specs.Columns.{Columns, columns, lineFields, lineInColumns, lineRows, lineStruct}
-use Rattle.refusals.specs.Refusals.{each, lineTexts?, lineLengths?, refusalOf, refusalWith}
+use Rattle.refusals.specs.Refusals.{each, lineTexts?, lineLengths?, treeRefusal, refusalWith}
 use Rattle.rows.specs.declared.LineRow.{LineRow}
 use Rattle.rows.proofs.Laws.{line-in}
 use Rattle.refusals.proofs.Laws.{refusal-columns}
@@ -191,7 +191,7 @@ module _ (f64 f32 : List ℕ) (ls : List LineRow) (t : List ℕ) where
   texts-same : each (λ (j : ℕ). lineTexts? t (lineInColumns (packed words64 ls) (packed words32 ls) j)) (length ls) ≡ linesTexts? t ls
   texts-same = each-same (λ (j : ℕ). lineTexts? t (lineInColumns (packed words64 ls) (packed words32 ls) j)) (λ (j : ℕ). lineTexts? t (getD ls j noLine)) (length ls) (λ j h. ap (lineTexts? t) (line-back ls j h))
 
-  pub refusal-lines : (s : ℕ) → refusalWith f64 f32 (length ls) (linesTexts? t ls) t s ≡ refusalOf k s
+  pub refusal-lines : (s : ℕ) → refusalWith f64 f32 (length ls) (linesTexts? t ls) t s ≡ treeRefusal k s
   refusal-lines s =
       sym (ap (λ (n : ℕ). refusalWith f64 f32 n (each (λ (j : ℕ). lineTexts? t (lineInColumns (packed words64 ls) (packed words32 ls) j)) n) t s) count
       ∙ ap (λ (b : Bool). refusalWith f64 f32 (length ls) b t s) texts-same)

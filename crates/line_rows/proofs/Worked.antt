@@ -5,7 +5,7 @@ use mathlib.Core.List.{List, [], _∷_}
 use Prim.Native.Nat.{ℕ}
 use lib.ListN.{replicate}
 use Rattle.model.proofs.Worked.{root-row, inlinee-row}
-use Rattle.rows.specs.Columns.{Columns, columns, functionInColumns, lineInColumns, partOf, lineAt, linesFrom, functionAt, rowsFrom, treeRows}
+use Rattle.rows.specs.Columns.{Columns, columns, functionInColumns, lineInColumns, partOf, lineAt, linesFrom, treeRow, treeRowsFrom, treeRows}
 use Rattle.rows.specs.declared.LineRow.{LineRow}
 use Rattle.rows.specs.declared.OptionalPart.{OptionalPart}
 use Rattle.line_rows.specs.Lines.{packed, lineColumns}
@@ -60,5 +60,5 @@ pub record Examples : Type 0 where
   pub short32 : unpackRoom? worked (replicate 9 7) (replicate 41 7) ≡ false
 
 pub examples : Examples
-unfolding packed functionInColumns lineInColumns partOf lineAt linesFrom functionAt rowsFrom unpackRoom?
+unfolding packed functionInColumns lineInColumns partOf lineAt linesFrom treeRow treeRowsFrom unpackRoom?
 examples = record { stand-for = refl; rows = refl; room = refl; short64 = refl; short32 = refl }

@@ -5,7 +5,7 @@ use Prim.Native.Nat.{ℕ}
 use lib.Dec.{eqb, leb}
 use lib.ListN.{length}
 use Rattle.rows.specs.Columns.{Columns}
-use Rattle.refusals.specs.Refusals.{refusalOf}
+use Rattle.refusals.specs.Refusals.{treeRefusal}
 use Rattle.memory.specs.Memory.{Memory}
 use Rattle.memory.specs.declared.Converter.{Converter}
 use Rattle.writer.specs.Calls.{Called, called, treeOf}
@@ -30,6 +30,6 @@ unpackRoom? k u v = leb (length (k .lines64)) (length u) && leb (length (k .line
 -- "Trees: 19, 13, 14, 15, 16, 17"
 unfoldable pub linesOf : Converter → Memory → List ℕ → List ℕ → List ℕ → Columns → LinesCalled
 linesOf c m s u v k =
-    cond (usable? c m && eqb (refusalOf k (length s)) 0)
+    cond (usable? c m && eqb (treeRefusal k (length s)) 0)
     (cond (unpackRoom? k u v) (lines-called (treeOf c m s k) (zeros u) (zeros v)) (lines-called (called 16 c m s) u v))
     (lines-called (treeOf c m s k) u v)

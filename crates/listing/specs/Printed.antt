@@ -38,13 +38,13 @@ refusedLine number =
     82 ∷ 69 ∷ 70 ∷ 85 ∷ 83 ∷ 69 ∷ 68 ∷ 32 ∷ (48 + number / 10 % 10) ∷ (48 + number % 10) ∷ 10 ∷ []
 
 -- what a function that prints a line to a lent buffer answers, and what it leaves there
-pub record Wrote : Type 0 where
+pub record WroteLine : Type 0 where
   pub next : ℕ
   pub out : List ℕ
 
-abbrev pub wrote-line : ℕ → List ℕ → Wrote
+abbrev pub wrote-line : ℕ → List ℕ → WroteLine
 wrote-line n s = record { next = n; out = s }
 
 -- the line from `at` on, and the place after it; where it has no room, nothing changes and the answer is `at`
-unfoldable pub putLine : List ℕ → ℕ → List ℕ → Wrote
+unfoldable pub putLine : List ℕ → ℕ → List ℕ → WroteLine
 putLine out at line = cond (leb (at + length line) (length out)) (wrote-line (at + length line) (sets out at line)) (wrote-line at out)

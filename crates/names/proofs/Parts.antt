@@ -7,7 +7,7 @@ use mathlib.Core.Option.{Option, none, some, Option·map, Option·getD}
 use native.Mathlib.Omega.{arith}
 use lib.ListN.{length, take, drop, length-drop}
 use lib.Seq.{take-length}
-use Rattle.names.specs.Names.{starts-with, contains, cut, before, prefixed, undecorated}
+use Rattle.names.specs.Names.{starts-with, contains, cut, text-before, prefixed, undecorated}
 use Rattle.names.proofs.Laws.{rest, prefixed-within}
 use Rattle.names.proofs.Sizes.{cut-within}
 
@@ -28,19 +28,19 @@ module _ (P : List ℕ → Type 0) (s : List ℕ) where
         single (some n) e f = stdcall f n e
 
         first : (t : Bool) → prefixed s ≡ t
-            → P (cond t (Option·getD (before (64 ∷ []) (drop 1 s)) (cond (starts-with (95 ∷ []) s) (drop 1 s) s)) s)
+            → P (cond t (Option·getD (text-before (64 ∷ []) (drop 1 s)) (cond (starts-with (95 ∷ []) s) (drop 1 s) s)) s)
         first true f = single (cut (64 ∷ []) (drop 1 s)) refl f
         first false f = kept
 
         double : (o : Option ℕ) → cut (64 ∷ 64 ∷ []) s ≡ o
             → P (Option·getD (Option·map (λ n. take n s) o)
-            (cond (prefixed s) (Option·getD (before (64 ∷ []) (drop 1 s)) (cond (starts-with (95 ∷ []) s) (drop 1 s) s)) s))
+            (cond (prefixed s) (Option·getD (text-before (64 ∷ []) (drop 1 s)) (cond (starts-with (95 ∷ []) s) (drop 1 s) s)) s))
         double none e = first (prefixed s) refl
         double (some n) e = vectorcall n e
 
         alone : (t : Bool) → P (cond t s
-            (Option·getD (before (64 ∷ 64 ∷ []) s)
-            (cond (prefixed s) (Option·getD (before (64 ∷ []) (drop 1 s)) (cond (starts-with (95 ∷ []) s) (drop 1 s) s)) s)))
+            (Option·getD (text-before (64 ∷ 64 ∷ []) s)
+            (cond (prefixed s) (Option·getD (text-before (64 ∷ []) (drop 1 s)) (cond (starts-with (95 ∷ []) s) (drop 1 s) s)) s)))
         alone true = kept
         alone false = double (cut (64 ∷ 64 ∷ []) s) refl
 

@@ -58,8 +58,8 @@ unfoldable pub cut : List ℕ → List ℕ → Option ℕ
 cut p s = sized p s (rfind p s (length s))
 
 -- The bytes before p, where cut finds it.
-abbrev pub before : List ℕ → List ℕ → Option (List ℕ)
-before p s = Option·map (λ n. take n s) (cut p s)
+abbrev pub text-before : List ℕ → List ℕ → Option (List ℕ)
+text-before p s = Option·map (λ n. take n s) (cut p s)
 
 -- `strip_prefix(['@', '_'])` finds one of the two.
 unfoldable pub prefixed : List ℕ → Bool
@@ -70,7 +70,7 @@ prefixed s = starts-with (64 ∷ []) s || starts-with (95 ∷ []) s
 unfoldable pub undecorated : List ℕ → List ℕ
 undecorated s =
     cond (starts-with (63 ∷ []) s || contains s) s
-    (Option·getD (before (64 ∷ 64 ∷ []) s)
+    (Option·getD (text-before (64 ∷ 64 ∷ []) s)
     (cond (prefixed s)
-    (Option·getD (before (64 ∷ []) (drop 1 s)) (cond (starts-with (95 ∷ []) s) (drop 1 s) s))
+    (Option·getD (text-before (64 ∷ []) (drop 1 s)) (cond (starts-with (95 ∷ []) s) (drop 1 s) s))
     s))

@@ -20,8 +20,8 @@ use Rattle.rows.specs.declared.TextPart.{TextPart}
 use Rattle.rows.specs.declared.OptionalPart.{OptionalPart}
 use Rattle.rows.specs.declared.FunctionRow.{FunctionRow as FunctionStruct}
 use Rattle.rows.specs.declared.LineRow.{LineRow as LineStruct}
-use Rattle.rows.specs.Columns.{Columns, functionRows, lineRows, functionStruct, lineStruct, textOf, optionalOf, lineAt, linesFrom, functionAt, rowsFrom, treeRows, rootRow, laterRows}
-use Rattle.refusals.specs.Refusals.{each, total, lengths?, count?, depth?, firstLine, shaped?, inside?, readable?, optional?, functionTexts?, lineTexts?, texts?, end?, ends?, room?, refusalOf}
+use Rattle.rows.specs.Columns.{Columns, functionRows, lineRows, functionStruct, lineStruct, textOf, optionalOf, lineAt, linesFrom, treeRow, treeRowsFrom, treeRows, rootRow, laterRows}
+use Rattle.refusals.specs.Refusals.{each, total, lengths?, count?, depth?, firstLine, shaped?, inside?, readable?, optional?, functionTexts?, lineTexts?, texts?, end?, ends?, room?, treeRefusal}
 use Rattle.rows.proofs.Laws.{function-in}
 use Rattle.refusals.proofs.Laws.{each-at, optional-present}
 use Rattle.rows.proofs.RowLaws.{linesFrom-append}
@@ -49,8 +49,8 @@ six : (a b c d x y : Bool) → a && (b && (c && (d && (x && y)))) ≡ true → (
 six a b c d x y e = let (p, r) = both-true a (b && (c && (d && (x && y)))) e in let (q, m, n, o, l) = five b c d x y r in (p, q, m, n, o, l)
 
 -- no number: each of the four tests passes
-pub tests : (k : Columns) (s : ℕ) → refusalOf k s ≡ 0 → (shaped? k ≡ true) × (texts? k ≡ true) × (ends? k ≡ true) × (room? k s ≡ true)
-unfolding refusalOf
+pub tests : (k : Columns) (s : ℕ) → treeRefusal k s ≡ 0 → (shaped? k ≡ true) × (texts? k ≡ true) × (ends? k ≡ true) × (room? k s ≡ true)
+unfolding treeRefusal
 tests k s e = zero-only (shaped? k) (texts? k) (ends? k) (room? k s) e
 
 -- ── 13 ──
@@ -85,8 +85,8 @@ module _ (k : Columns) where
   depth-at i = functionStruct k i .depth
 
   -- the rows after row p
-  legal-from : (n p j : ℕ) → ((r : ℕ) → r < suc p + n → depth? depth-at r ≡ true) → Legal (depth-at p) (rowsFrom k (suc p) n j)
-  unfolding rowsFrom functionAt
+  legal-from : (n p j : ℕ) → ((r : ℕ) → r < suc p + n → depth? depth-at r ≡ true) → Legal (depth-at p) (treeRowsFrom k (suc p) n j)
+  unfolding treeRowsFrom treeRow
   legal-from zero p j h = tt
   legal-from (suc n) p j h =
       let e = stepped depth-at p (h (suc p) (omega arith)) in
@@ -96,8 +96,8 @@ module _ (k : Columns) where
   unfolding total
   first-more i = refl
 
-  rows-lines : (n i : ℕ) → lines-of (rowsFrom k i n (firstLine k i)) ≡ linesFrom k (firstLine k i) (firstLine k (i + n) - firstLine k i)
-  unfolding rowsFrom functionAt linesFrom
+  rows-lines : (n i : ℕ) → lines-of (treeRowsFrom k i n (firstLine k i)) ≡ linesFrom k (firstLine k i) (firstLine k (i + n) - firstLine k i)
+  unfolding treeRowsFrom treeRow linesFrom
   rows-lines zero i = let z : firstLine k (i + 0) - firstLine k i ≡ 0 = rw (add-zero i) (omega arith) in rw z
   rows-lines (suc n) i =
       let c = functionStruct k i .lines in
@@ -139,20 +139,20 @@ module _ (k : Columns) where
     sum = eqb-true _ _ (shape-parts .3)
 
     pub rows-are : treeRows k ≡ rootRow k ∷ laterRows k
-    unfolding rowsFrom
+    unfolding treeRowsFrom
     rows-are = go (functionRows k) some-row
       where
-        go : (n : ℕ) → 0 < n → rowsFrom k 0 n 0 ≡ functionAt k 0 0 ∷ rowsFrom k 1 (n - 1) (functionStruct k 0 .lines)
+        go : (n : ℕ) → 0 < n → treeRowsFrom k 0 n 0 ≡ treeRow k 0 0 ∷ treeRowsFrom k 1 (n - 1) (functionStruct k 0 .lines)
         go zero h = absurd (omega arith)
         go (suc n) h = let z : suc n - 1 ≡ n = omega arith in rw (z, zero-add)
 
     pub first : rootRow k .depth ≡ 0
-    unfolding functionAt depth?
+    unfolding treeRow depth?
     first = eqb-true _ _ (each-at (depth? depth-at) (functionRows k) 0 some-row (shape-parts .2))
 
     -- "a later depth 0 or above its predecessor's plus 1": none
     pub legal : Legal 0 (laterRows k)
-    unfolding functionAt
+    unfolding treeRow
     legal =
         subst (λ (d : ℕ). Legal d (laterRows k)) first
         (legal-from (functionRows k - 1) 0 (functionStruct k 0 .lines) (λ r l. each-at (depth? depth-at) (functionRows k) r (let h = some-row in omega arith) (shape-parts .2)))
@@ -262,8 +262,8 @@ module _ (k : Columns) (right : texts? k ≡ true) where
         let g : i < length (k .functions32) / 8 = omega arith in
         subst (λ (q : FunctionStruct). q .language ≤ MAX) (function-in (k .functions64) (k .functions32) i h g) (words (i * 8 + 2))
 
-    rows-fit : (n i : ℕ) → i + n ≤ functionRows k → (q : FunctionRow) → q ∈ rowsFrom k i n (firstLine k i) → RowFits q
-    unfolding rowsFrom functionAt
+    rows-fit : (n i : ℕ) → i + n ≤ functionRows k → (q : FunctionRow) → q ∈ treeRowsFrom k i n (firstLine k i) → RowFits q
+    unfolding treeRowsFrom treeRow
     rows-fit zero i h q m = elim m [ ]
     rows-fit (suc n) i h q m =
         ∈-elim RowFits
@@ -272,7 +272,7 @@ module _ (k : Columns) (right : texts? k ≡ true) where
           language = language-low i (omega arith);
           lines = lines-fit (functionStruct k i .lines) (firstLine k i) (lines-within k shape i (omega arith));
         })
-        (λ p o. rows-fit n (suc i) (omega arith) p (subst (λ (j : ℕ). p ∈ rowsFrom k (suc i) n j) (sym (first-more k i)) o))
+        (λ p o. rows-fit n (suc i) (omega arith) p (subst (λ (j : ℕ). p ∈ treeRowsFrom k (suc i) n j) (sym (first-more k i)) o))
         q m
 
     -- what the model asks of an accepted call's texts
@@ -317,7 +317,7 @@ room-enough : (k : Columns) (s : ℕ) → room? k s ≡ true → 4 * (functionRo
 unfolding room?
 room-enough k s e = leb-true _ _ e
 
-pub accepted : (k : Columns) (s : ℕ) → refusalOf k s ≡ 0 → Accepted k s
+pub accepted : (k : Columns) (s : ℕ) → treeRefusal k s ≡ 0 → Accepted k s
 accepted k s e =
     let (shape, right, low, room) = tests k s e in
     record {

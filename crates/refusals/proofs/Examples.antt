@@ -5,8 +5,8 @@ use Prim.Native.Nat.{ℕ}
 use lib.ListN.{set}
 use Rattle.text.specs.Utf8.{utf8, chars, charLen, UTF8-char, fits, within}
 use Rattle.model.proofs.Worked.{root-row, inlinee-row}
-use Rattle.rows.specs.Columns.{Columns, functionInColumns, lineInColumns, partOf, lineAt, linesFrom, functionAt, rowsFrom, treeRows}
-use Rattle.refusals.specs.Refusals.{each, total, lengths?, count?, depth?, shaped?, inside?, readable?, optional?, functionTexts?, lineTexts?, texts?, end?, ends?, room?, refusalOf}
+use Rattle.rows.specs.Columns.{Columns, functionInColumns, lineInColumns, partOf, lineAt, linesFrom, treeRow, treeRowsFrom, treeRows}
+use Rattle.refusals.specs.Refusals.{each, total, lengths?, count?, depth?, shaped?, inside?, readable?, optional?, functionTexts?, lineTexts?, texts?, end?, ends?, room?, treeRefusal}
 
 -- trk, /b, a.rs, src, pos, p.rs
 abbrev words : List ℕ
@@ -35,30 +35,30 @@ worked-columns = with f64 f32 l32
 
 pub record Examples : Type 0 where
   pub rows : treeRows worked-columns ≡ root-row ∷ inlinee-row ∷ []
-  pub taken : refusalOf (with f64 f32 l32) 20 ≡ 0
-  pub scratch-short : refusalOf (with f64 f32 l32) 19 ≡ 16
-  pub no-rows : refusalOf (record { functions64 = []; functions32 = []; lines64 = []; lines32 = []; text = [] }) 20 ≡ 13
-  pub first-deep : refusalOf (with f64 (set f32 0 1) l32) 20 ≡ 13
-  pub later-zero : refusalOf (with f64 (set f32 8 0) l32) 20 ≡ 13
-  pub later-deep : refusalOf (with f64 (set f32 8 2) l32) 20 ≡ 13
-  pub lines-fewer : refusalOf (with f64 (set f32 15 0) l32) 20 ≡ 13
-  pub lines-more : refusalOf (with f64 (set f32 15 2) l32) 20 ≡ 13
-  pub half-row : refusalOf (with f64 (0 ∷ f32) l32) 20 ≡ 13
-  pub row-short : refusalOf (with (0x1000 ∷ 16 ∷ []) f32 l32) 20 ≡ 13
-  pub name-outside : refusalOf (with f64 (set (set f32 11 16) 12 4) l32) 20 ≡ 14
-  pub name-at-end : refusalOf (with f64 (set (set f32 11 16) 12 3) l32) 20 ≡ 0
-  pub empty-at-end : refusalOf (with f64 (set (set f32 11 19) 12 0) l32) 20 ≡ 0
-  pub empty-outside : refusalOf (with f64 (set (set f32 11 20) 12 0) l32) 20 ≡ 14
-  pub directory-outside : refusalOf (with f64 (set f32 14 17) l32) 20 ≡ 14
-  pub name-not-utf8 : refusalOf (record { functions64 = f64; functions32 = f32; lines64 = l64; lines32 = l32; text = set words 12 0xff }) 20 ≡ 14
-  pub directory-not-utf8 : refusalOf (record { functions64 = f64; functions32 = f32; lines64 = l64; lines32 = l32; text = set words 3 0xff }) 20 ≡ 0
-  pub absent-outside : refusalOf (with f64 f32 (set l32 6 99)) 20 ≡ 0
-  pub present-outside : refusalOf (with f64 f32 (set (set l32 6 99) 5 1)) 20 ≡ 14
-  pub end-highest : refusalOf (with (set f64 2 0xffff_ffff_ffff_fffb) f32 l32) 20 ≡ 0
-  pub end-wraps : refusalOf (with (set f64 2 0xffff_ffff_ffff_fffc) f32 l32) 20 ≡ 15
+  pub taken : treeRefusal (with f64 f32 l32) 20 ≡ 0
+  pub scratch-short : treeRefusal (with f64 f32 l32) 19 ≡ 16
+  pub no-rows : treeRefusal (record { functions64 = []; functions32 = []; lines64 = []; lines32 = []; text = [] }) 20 ≡ 13
+  pub first-deep : treeRefusal (with f64 (set f32 0 1) l32) 20 ≡ 13
+  pub later-zero : treeRefusal (with f64 (set f32 8 0) l32) 20 ≡ 13
+  pub later-deep : treeRefusal (with f64 (set f32 8 2) l32) 20 ≡ 13
+  pub lines-fewer : treeRefusal (with f64 (set f32 15 0) l32) 20 ≡ 13
+  pub lines-more : treeRefusal (with f64 (set f32 15 2) l32) 20 ≡ 13
+  pub half-row : treeRefusal (with f64 (0 ∷ f32) l32) 20 ≡ 13
+  pub row-short : treeRefusal (with (0x1000 ∷ 16 ∷ []) f32 l32) 20 ≡ 13
+  pub name-outside : treeRefusal (with f64 (set (set f32 11 16) 12 4) l32) 20 ≡ 14
+  pub name-at-end : treeRefusal (with f64 (set (set f32 11 16) 12 3) l32) 20 ≡ 0
+  pub empty-at-end : treeRefusal (with f64 (set (set f32 11 19) 12 0) l32) 20 ≡ 0
+  pub empty-outside : treeRefusal (with f64 (set (set f32 11 20) 12 0) l32) 20 ≡ 14
+  pub directory-outside : treeRefusal (with f64 (set f32 14 17) l32) 20 ≡ 14
+  pub name-not-utf8 : treeRefusal (record { functions64 = f64; functions32 = f32; lines64 = l64; lines32 = l32; text = set words 12 0xff }) 20 ≡ 14
+  pub directory-not-utf8 : treeRefusal (record { functions64 = f64; functions32 = f32; lines64 = l64; lines32 = l32; text = set words 3 0xff }) 20 ≡ 0
+  pub absent-outside : treeRefusal (with f64 f32 (set l32 6 99)) 20 ≡ 0
+  pub present-outside : treeRefusal (with f64 f32 (set (set l32 6 99) 5 1)) 20 ≡ 14
+  pub end-highest : treeRefusal (with (set f64 2 0xffff_ffff_ffff_fffb) f32 l32) 20 ≡ 0
+  pub end-wraps : treeRefusal (with (set f64 2 0xffff_ffff_ffff_fffc) f32 l32) 20 ≡ 15
 
 pub examples : Examples
-unfolding functionInColumns lineInColumns partOf lineAt linesFrom functionAt rowsFrom each total lengths? count? depth? shaped? inside? readable? optional? functionTexts? lineTexts? texts? end? ends? room? refusalOf utf8 chars charLen UTF8-char fits within
+unfolding functionInColumns lineInColumns partOf lineAt linesFrom treeRow treeRowsFrom each total lengths? count? depth? shaped? inside? readable? optional? functionTexts? lineTexts? texts? end? ends? room? treeRefusal utf8 chars charLen UTF8-char fits within
 examples = record {
   rows = refl;
   taken = refl;

@@ -15,7 +15,7 @@ pub use Rattle.slices.proofs.Cases.{and-stop, and-then}
 use Rattle.rows.specs.declared.FunctionRow.{FunctionRow}
 use Rattle.rows.specs.declared.OptionalPart.{OptionalPart}
 use Rattle.rows.specs.Columns.{Columns, functionRows, lineRows, lineStruct, functionInColumns}
-use Rattle.refusals.specs.Refusals.{each, total, lengths?, count?, depth?, shaped?, readable?, optional?, functionTexts?, lineTexts?, texts?, end?, ends?, room?, refusalOf, functionLengths?, lineLengths?, shapedWith?, refusalWith}
+use Rattle.refusals.specs.Refusals.{each, total, lengths?, count?, depth?, shaped?, readable?, optional?, functionTexts?, lineTexts?, texts?, end?, ends?, room?, treeRefusal, functionLengths?, lineLengths?, shapedWith?, refusalWith}
 
 -- ── Loops over rows ──
 
@@ -185,10 +185,10 @@ module _ (k : Columns) where
       (eqb (length (k .lines32) / 14) (lineRows k))
 
   pub refusal-columns : (s : ℕ) → lineLengths? (k .lines64) (k .lines32) ≡ true
-      → refusalWith (k .functions64) (k .functions32) (lineRows k) (each (λ (j : ℕ). lineTexts? (k .text) (lineStruct k j)) (lineRows k)) (k .text) s ≡ refusalOf k s
-  unfolding refusalWith refusalOf shapedWith? shaped? texts? ends? room?
+      → refusalWith (k .functions64) (k .functions32) (lineRows k) (each (λ (j : ℕ). lineTexts? (k .text) (lineStruct k j)) (lineRows k)) (k .text) s ≡ treeRefusal k s
+  unfolding refusalWith treeRefusal shapedWith? shaped? texts? ends? room?
   refusal-columns s e = rw (lengths-two, e, and-true)
 
-  pub refusal-lengths : (s : ℕ) → lineLengths? (k .lines64) (k .lines32) ≡ false → 13 ≡ refusalOf k s
-  unfolding refusalOf shaped?
+  pub refusal-lengths : (s : ℕ) → lineLengths? (k .lines64) (k .lines32) ≡ false → 13 ≡ treeRefusal k s
+  unfolding treeRefusal shaped?
   refusal-lengths s e = rw (lengths-two, e, and-false)

@@ -95,8 +95,8 @@ unfoldable pub room? : Columns → ℕ → Bool
 room? k s = leb (4 * (functionRows k + lineRows k)) s
 
 -- "13, 14, 15, 16": 0 where there is nothing to refuse
-unfoldable pub refusalOf : Columns → ℕ → ℕ
-refusalOf k s = cond (shaped? k) (cond (texts? k) (cond (ends? k) (cond (room? k s) 0 16) 15) 14) 13
+unfoldable pub treeRefusal : Columns → ℕ → ℕ
+treeRefusal k s = cond (shaped? k) (cond (texts? k) (cond (ends? k) (cond (room? k s) 0 16) 15) 14) 13
 
 -- ── The same where of the line rows their count is given, n, and whether their texts are in order, b ──
 

@@ -17,7 +17,7 @@ ghost use Rattle.refusals.specs.Refusals.{
   lineTexts?,
   end?,
   refusalWith,
-  refusalOf,
+  treeRefusal,
 };
 use rows::FunctionRow;
 use rows::LineRow;
@@ -276,7 +276,7 @@ pub fn refusal(
         let f32 = now (functions32 .entry) in
         let l64 = now (lines64 .entry) in
         let l32 = now (lines32 .entry) in
-        ⌜ r ≡ refusalOf (columns f64 f32 l64 l32 (now (text .entry))) scratch ⌝ }
+        ⌜ r ≡ treeRefusal (columns f64 f32 l64 l32 (now (text .entry))) scratch ⌝ }
 {
     if !line_lengths(lines64, lines32) {
         return SYMCACHE_INVALID_ROWS;

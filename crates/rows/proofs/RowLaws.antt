@@ -7,48 +7,48 @@ use Prim.Native.Nat.{ℕ, zero, suc, _+_, min}
 use native.Mathlib.Nat.{zero-add, add-zero, suc-add, add-suc}
 use lib.Dec.{eqb, ltb}
 use Rattle.model.specs.Rows.{MAX, cut32, LineRow, boundaries, skipped, function-end}
-use Rattle.rows.specs.Columns.{Columns, functionStruct, lineStruct, boundariesOf, textOf, optionalOf, lineAt, linesFrom, functionAt, rowsFrom}
+use Rattle.rows.specs.Columns.{Columns, functionStruct, lineStruct, boundariesOf, textOf, optionalOf, lineAt, linesFrom, treeRow, treeRowsFrom}
 
 module _ (k : Columns) (i j : ℕ) where
-  pub functionAt-depth : functionAt k i j .depth ≡ functionStruct k i .depth
-  unfolding functionAt
-  functionAt-depth = refl
+  pub treeRow-depth : treeRow k i j .depth ≡ functionStruct k i .depth
+  unfolding treeRow
+  treeRow-depth = refl
 
-  pub functionAt-address : functionAt k i j .address ≡ functionStruct k i .address
-  unfolding functionAt
-  functionAt-address = refl
+  pub treeRow-address : treeRow k i j .address ≡ functionStruct k i .address
+  unfolding treeRow
+  treeRow-address = refl
 
-  pub functionAt-size : functionAt k i j .size ≡ functionStruct k i .size
-  unfolding functionAt
-  functionAt-size = refl
+  pub treeRow-size : treeRow k i j .size ≡ functionStruct k i .size
+  unfolding treeRow
+  treeRow-size = refl
 
-  pub functionAt-inline : functionAt k i j .inline ≡ functionStruct k i .inline
-  unfolding functionAt
-  functionAt-inline = refl
+  pub treeRow-inline : treeRow k i j .inline ≡ functionStruct k i .inline
+  unfolding treeRow
+  treeRow-inline = refl
 
-  pub functionAt-language : functionAt k i j .language ≡ functionStruct k i .language
-  unfolding functionAt
-  functionAt-language = refl
+  pub treeRow-language : treeRow k i j .language ≡ functionStruct k i .language
+  unfolding treeRow
+  treeRow-language = refl
 
-  pub functionAt-name : functionAt k i j .name ≡ textOf (k .text) (functionStruct k i .name)
-  unfolding functionAt
-  functionAt-name = refl
+  pub treeRow-name : treeRow k i j .name ≡ textOf (k .text) (functionStruct k i .name)
+  unfolding treeRow
+  treeRow-name = refl
 
-  pub functionAt-comp-dir : functionAt k i j .comp-dir ≡ textOf (k .text) (functionStruct k i .«comp_dir»)
-  unfolding functionAt
-  functionAt-comp-dir = refl
+  pub treeRow-comp-dir : treeRow k i j .comp-dir ≡ textOf (k .text) (functionStruct k i .«comp_dir»)
+  unfolding treeRow
+  treeRow-comp-dir = refl
 
-  pub functionAt-lines : functionAt k i j .lines ≡ linesFrom k j (functionStruct k i .lines)
-  unfolding functionAt
-  functionAt-lines = refl
+  pub treeRow-lines : treeRow k i j .lines ≡ linesFrom k j (functionStruct k i .lines)
+  unfolding treeRow
+  treeRow-lines = refl
 
-  pub functionAt-skipped : skipped (functionAt k i j) ≡ cond (eqb (functionStruct k i .size) 0) true (ltb MAX (functionStruct k i .address))
-  unfolding functionAt
-  functionAt-skipped = refl
+  pub treeRow-skipped : skipped (treeRow k i j) ≡ cond (eqb (functionStruct k i .size) 0) true (ltb MAX (functionStruct k i .address))
+  unfolding treeRow
+  treeRow-skipped = refl
 
-  pub functionAt-end : function-end (functionAt k i j) ≡ cut32 (functionStruct k i .address + functionStruct k i .size)
-  unfolding functionAt
-  functionAt-end = refl
+  pub treeRow-end : function-end (treeRow k i j) ≡ cut32 (functionStruct k i .address + functionStruct k i .size)
+  unfolding treeRow
+  treeRow-end = refl
 
 module _ (k : Columns) (j : ℕ) where
   pub lineAt-address : lineAt k j .address ≡ lineStruct k j .address
@@ -114,13 +114,13 @@ module _ (k : Columns) where
   unfolding linesFrom
   linesFrom-more j n = refl
 
-  pub rowsFrom-none : (i j : ℕ) → rowsFrom k i 0 j ≡ []
-  unfolding rowsFrom
-  rowsFrom-none i j = refl
+  pub treeRowsFrom-none : (i j : ℕ) → treeRowsFrom k i 0 j ≡ []
+  unfolding treeRowsFrom
+  treeRowsFrom-none i j = refl
 
-  pub rowsFrom-more : (i n j : ℕ) → rowsFrom k i (suc n) j ≡ functionAt k i j ∷ rowsFrom k (suc i) n (j + functionStruct k i .lines)
-  unfolding rowsFrom
-  rowsFrom-more i n j = refl
+  pub treeRowsFrom-more : (i n j : ℕ) → treeRowsFrom k i (suc n) j ≡ treeRow k i j ∷ treeRowsFrom k (suc i) n (j + functionStruct k i .lines)
+  unfolding treeRowsFrom
+  treeRowsFrom-more i n j = refl
 
   pub linesFrom-append : (j m n : ℕ) → linesFrom k j (m + n) ≡ linesFrom k j m ++ linesFrom k (j + m) n
   unfolding linesFrom

@@ -112,8 +112,8 @@ linesFrom k j zero = []
 linesFrom k j (suc n) = lineAt k j ∷ linesFrom k (suc j) n
 
 -- function row i, whose line rows begin at row j
-unfoldable pub functionAt : Columns → ℕ → ℕ → FunctionRow
-functionAt k i j = let q = functionStruct k i in record {
+unfoldable pub treeRow : Columns → ℕ → ℕ → FunctionRow
+treeRow k i j = let q = functionStruct k i in record {
   depth = q .depth;
   address = q .address;
   size = q .size;
@@ -125,17 +125,17 @@ functionAt k i j = let q = functionStruct k i in record {
 }
 
 -- n function rows, from row i on, whose line rows begin at row j
-unfoldable pub rowsFrom : Columns → ℕ → ℕ → ℕ → List FunctionRow
-rowsFrom k i zero j = []
-rowsFrom k i (suc n) j = functionAt k i j ∷ rowsFrom k (suc i) n (j + functionStruct k i .lines)
+unfoldable pub treeRowsFrom : Columns → ℕ → ℕ → ℕ → List FunctionRow
+treeRowsFrom k i zero j = []
+treeRowsFrom k i (suc n) j = treeRow k i j ∷ treeRowsFrom k (suc i) n (j + functionStruct k i .lines)
 
 -- all of them
 abbrev pub treeRows : Columns → List FunctionRow
-treeRows k = rowsFrom k 0 (functionRows k) 0
+treeRows k = treeRowsFrom k 0 (functionRows k) 0
 
 -- the tree's root, and the rows after it (13 leaves a root)
 abbrev pub rootRow : Columns → FunctionRow
-rootRow k = functionAt k 0 0
+rootRow k = treeRow k 0 0
 
 abbrev pub laterRows : Columns → List FunctionRow
-laterRows k = rowsFrom k 1 (functionRows k - 1) (functionStruct k 0 .lines)
+laterRows k = treeRowsFrom k 1 (functionRows k - 1) (functionStruct k 0 .lines)

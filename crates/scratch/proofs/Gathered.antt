@@ -14,8 +14,8 @@ use Rattle.model.specs.Converter.{input, deep}
 use Rattle.sorting.specs.Pairs.{pairWords, sortedOf}
 use Rattle.sorting.proofs.Order.{sort-length}
 use Rattle.sorting.proofs.Pairs.{length-pairWords, sorted-pairWords}
-use Rattle.rows.specs.Columns.{Columns, columns, functionRows, functionStruct, lineStruct, boundariesOf, lineAt, linesFrom, functionAt, rowsFrom}
-use Rattle.rows.proofs.RowLaws.{lineAt-boundaries, rowsFrom-none, rowsFrom-more, functionAt-depth, functionAt-lines}
+use Rattle.rows.specs.Columns.{Columns, columns, functionRows, functionStruct, lineStruct, boundariesOf, lineAt, linesFrom, treeRow, treeRowsFrom}
+use Rattle.rows.proofs.RowLaws.{lineAt-boundaries, treeRowsFrom-none, treeRowsFrom-more, treeRow-depth, treeRow-lines}
 use Rattle.scratch.specs.Scratch.{pairsAt, line-spans, kid-spans}
 use Rattle.scratch.proofs.Rows.{kids-end, kids-here, kids-deeper, length-lines}
 use Rattle.scratch.proofs.Lines.{lines-next, lines-done}
@@ -61,23 +61,23 @@ module _ (k : Columns) (first count b : ℕ) (s₀ : List ℕ) where
 
 module _ (k : Columns) (d : ℕ) where
   module _ (i j : ℕ) (h : i < functionRows k) where
-    spans-row : kid-spans k d i j ≡ kid-spansM input d (deep (functionAt k i j) ∷ map deep (rowsFrom k (i + 1) (functionRows k - (i + 1)) (j + functionStruct k i .lines)))
+    spans-row : kid-spans k d i j ≡ kid-spansM input d (deep (treeRow k i j) ∷ map deep (treeRowsFrom k (i + 1) (functionRows k - (i + 1)) (j + functionStruct k i .lines)))
     spans-row =
         let e : functionRows k - i ≡ suc (functionRows k - (i + 1)) = omega arith in
-        rw (e, rowsFrom-more k i (functionRows k - (i + 1)) j, add-one i)
+        rw (e, treeRowsFrom-more k i (functionRows k - (i + 1)) j, add-one i)
 
     pub spans-end : functionStruct k i .depth ≤ d → kid-spans k d i j ≡ []
-    spans-end g = spans-row ∙ kids-end input d _ _ (rw (functionAt-depth k i j) g)
+    spans-end g = spans-row ∙ kids-end input d _ _ (rw (treeRow-depth k i j) g)
 
     pub spans-here : functionStruct k i .depth ≡ suc d → kid-spans k d i j ≡ line-spans k j (functionStruct k i .lines) ++ kid-spans k d (i + 1) (j + functionStruct k i .lines)
-    spans-here g = spans-row ∙ kids-here input d _ _ (functionAt-depth k i j ∙ g) ∙ rw (functionAt-lines k i j) refl
+    spans-here g = spans-row ∙ kids-here input d _ _ (treeRow-depth k i j ∙ g) ∙ rw (treeRow-lines k i j) refl
 
     pub spans-deeper : suc d < functionStruct k i .depth → kid-spans k d i j ≡ kid-spans k d (i + 1) (j + functionStruct k i .lines)
-    spans-deeper g = spans-row ∙ kids-deeper input d _ _ (rw (functionAt-depth k i j) g)
+    spans-deeper g = spans-row ∙ kids-deeper input d _ _ (rw (treeRow-depth k i j) g)
 
   pub spans-none : (i j : ℕ) → functionRows k ≤ i → kid-spans k d i j ≡ []
   unfolding kid-spansM
-  spans-none i j h = let e : functionRows k - i ≡ 0 = omega arith in rw (e, rowsFrom-none k i j)
+  spans-none i j h = let e : functionRows k - i ≡ 0 = omega arith in rw (e, treeRowsFrom-none k i j)
 
   -- n pairs are stored, of the rows up to i, whose line rows begin at j
   module _ (b : ℕ) (s₀ : List ℕ) (all : List Span) where
@@ -128,8 +128,8 @@ module _ (f64 f32 l64 l32 t : List ℕ) where
       let f : boundaries (lineAt without j) ≡ record { from = p .start; to = p .end } = lineAt-boundaries without j in
       ap (λ (x : Span). x ∷ line-spans with-text (suc j) n) (e ∙ sym f) ∙ ap (λ (x : List Span). boundaries (lineAt without j) ∷ x) (lines-text n (suc j))
 
-  spans-text-from : (d n i j : ℕ) → kid-spansM input d (map deep (rowsFrom with-text i n j)) ≡ kid-spansM input d (map deep (rowsFrom without i n j))
-  unfolding kid-spansM rowsFrom functionAt
+  spans-text-from : (d n i j : ℕ) → kid-spansM input d (map deep (treeRowsFrom with-text i n j)) ≡ kid-spansM input d (map deep (treeRowsFrom without i n j))
+  unfolding kid-spansM treeRowsFrom treeRow
   spans-text-from d zero i j = refl
   spans-text-from d (suc n) i j = rw (lines-text (functionStruct without i .lines) j, spans-text-from d n (suc i) (j + functionStruct without i .lines))
 

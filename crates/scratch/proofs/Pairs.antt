@@ -9,7 +9,7 @@ use lib.ListN.{length, getD, set, take}
 use lib.Seq.{getD-set-other, getD-take, length-sets}
 use Rattle.slices.proofs.Runs.{sets-low, sets-high, sets-in}
 use Rattle.model.specs.Basics.{Span}
-use Rattle.scratch.specs.Scratch.{pairsAt, ref-of, refsAt, two32, startAt, lenAt, setCalls}
+use Rattle.scratch.specs.Scratch.{pairsAt, ref-of, refsAt, two32, callsStart, lenAt, setCalls}
 
 -- the pair at word b
 abbrev pub pairAt : List ℕ → ℕ → Span
@@ -100,7 +100,7 @@ module _ (s : List ℕ) (d start len : ℕ) where
     unfolding setCalls
     words-at i h = sets-in (start % two32 ∷ start / two32 ∷ len % two32 ∷ len / two32 ∷ []) s (d * 4) i (d * 4 + i) refl h room
 
-    pub start-set : startAt (setCalls s d start len) d ≡ start
+    pub start-set : callsStart (setCalls s d start len) d ≡ start
     start-set =
         let z : d * 4 + 0 ≡ d * 4 = omega arith in
         let a : getD (setCalls s d start len) (d * 4) 0 ≡ start % two32 = ap (λ (j : ℕ). getD (setCalls s d start len) j 0) (sym z) ∙ words-at 0 (omega arith) in

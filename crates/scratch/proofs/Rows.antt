@@ -15,10 +15,10 @@ use Rattle.model.specs.Machine.{Input, Machine, Ref, set-atM, kid-spansM, rowM,
 use Rattle.model.specs.Converter.{input, deep}
 use Rattle.model.specs.Premises.{Legal}
 use Rattle.model.proofs.Depths.{Steps}
-use Rattle.rows.specs.Columns.{Columns, functionRows, functionStruct, linesFrom, functionAt, rowsFrom}
+use Rattle.rows.specs.Columns.{Columns, functionRows, functionStruct, linesFrom, treeRow, treeRowsFrom}
 use Rattle.refusals.specs.Refusals.{firstLine, total}
-use Rattle.rows.proofs.RowLaws.{rowsFrom-more, functionAt-lines}
-use Rattle.scratch.specs.Scratch.{ref-of, startAt, lenAt, callsOf, topOf}
+use Rattle.rows.proofs.RowLaws.{treeRowsFrom-more, treeRow-lines}
+use Rattle.scratch.specs.Scratch.{ref-of, callsStart, lenAt, callsOf, topOf}
 use Rattle.scratch.proofs.Pairs.{pairs-same}
 
 -- ── How many inlinee ranges there are ──
@@ -109,28 +109,28 @@ module _ (k : Columns) where
 
   -- the rows from i on
   abbrev pub rows-left : ℕ → List (Deep FunctionRow)
-  rows-left i = map deep (rowsFrom k i (functionRows k - i) (firstLine k i))
+  rows-left i = map deep (treeRowsFrom k i (functionRows k - i) (firstLine k i))
 
-  pub rows-next : (i : ℕ) → i < functionRows k → rows-left i ≡ deep (functionAt k i (firstLine k i)) ∷ rows-left (i + 1)
+  pub rows-next : (i : ℕ) → i < functionRows k → rows-left i ≡ deep (treeRow k i (firstLine k i)) ∷ rows-left (i + 1)
   rows-next i h =
       let e : functionRows k - i ≡ suc (functionRows k - (i + 1)) = omega arith in
-      rw (e, rowsFrom-more k i (functionRows k - (i + 1)) (firstLine k i), first-line k i, add-one i)
+      rw (e, treeRowsFrom-more k i (functionRows k - (i + 1)) (firstLine k i), first-line k i, add-one i)
 
   pub rows-none : (i : ℕ) → functionRows k ≤ i → rows-left i ≡ []
-  unfolding rowsFrom
+  unfolding treeRowsFrom
   rows-none i h = let e : functionRows k - i ≡ 0 = omega arith in rw e
 
   -- the inlinee ranges of the rows to come are no more than their lines
-  kids-of : (n i d : ℕ) → kids input d (map deep (rowsFrom k i n (firstLine k i))) + firstLine k i ≤ firstLine k (i + n)
-  unfolding rowsFrom
+  kids-of : (n i d : ℕ) → kids input d (map deep (treeRowsFrom k i n (firstLine k i))) + firstLine k i ≤ firstLine k (i + n)
+  unfolding treeRowsFrom
   kids-of zero i d = let e : i + 0 ≡ i = omega arith in let h : kids input d [] ≡ 0 = kids-none input d in rw e (omega arith)
   kids-of (suc n) i d =
-      let r = functionAt k i (firstLine k i) in
-      let rs = map deep (rowsFrom k (suc i) n (firstLine k i + functionStruct k i .lines)) in
+      let r = treeRow k i (firstLine k i) in
+      let rs = map deep (treeRowsFrom k (suc i) n (firstLine k i + functionStruct k i .lines)) in
       let z : firstLine k (suc i) ≡ firstLine k i + functionStruct k i .lines = rw (add-one i) at (first-line k i) in
       let g : kids input d rs + (firstLine k i + functionStruct k i .lines) ≤ firstLine k (suc i + n) = rw z at (kids-of n (suc i) d) in
       let a : kids input d (deep r ∷ rs) ≤ kids input d rs + length (r .lines) = kids-row input d (deep r) rs in
-      let b : length (r .lines) ≡ functionStruct k i .lines = ap length (functionAt-lines k i (firstLine k i)) ∙ length-lines (firstLine k i) (functionStruct k i .lines) in
+      let b : length (r .lines) ≡ functionStruct k i .lines = ap length (treeRow-lines k i (firstLine k i)) ∙ length-lines (firstLine k i) (functionStruct k i .lines) in
       rw (add-suc i n, ← suc-add i n) (omega arith)
 
   pub kids-fit : (i d : ℕ) → i ≤ functionRows k → kids input d (rows-left i) + firstLine k i ≤ firstLine k (functionRows k)
@@ -146,7 +146,7 @@ module _ (s s′ : List ℕ) (base d top : ℕ) (low : d * 4 + 4 ≤ base) (kept
   word-kept : (j i : ℕ) → j < d → i < 4 → getD s′ (j * 4 + i) 0 ≡ getD s (j * 4 + i) 0
   word-kept j i h g = kept (j * 4 + i) (omega arith) (inl (omega arith))
 
-  pub start-kept : (j : ℕ) → j < d → startAt s′ j ≡ startAt s j
+  pub start-kept : (j : ℕ) → j < d → callsStart s′ j ≡ callsStart s j
   start-kept j h =
       let z : j * 4 + 0 ≡ j * 4 = omega arith in
       let a : getD s′ (j * 4) 0 ≡ getD s (j * 4) 0 = rw z at (word-kept j 0 h (omega arith)) in
@@ -163,7 +163,7 @@ module _ (s s′ : List ℕ) (base d top : ℕ) (low : d * 4 + 4 ≤ base) (kept
   unfolding topOf
   top-kept zero h = refl
   top-kept (suc j) h =
-      let a : startAt s′ j ≡ startAt s j = start-kept j (omega arith) in
+      let a : callsStart s′ j ≡ callsStart s j = start-kept j (omega arith) in
       let b : lenAt s′ j ≡ lenAt s j = len-kept j (omega arith) in
       omega arith
 
@@ -172,4 +172,4 @@ module _ (s s′ : List ℕ) (base d top : ℕ) (low : d * 4 + 4 ≤ base) (kept
   calls-kept zero h g = refl
   calls-kept (suc j) h g =
       rw (start-kept j (omega arith), len-kept j (omega arith))
-      (ap (map ref-of) (pairs-same s s′ (base + startAt s j * 2) (lenAt s j) (λ i p q. kept i (omega arith) (inr (omega arith)))))
+      (ap (map ref-of) (pairs-same s s′ (base + callsStart s j * 2) (lenAt s j) (λ i p q. kept i (omega arith) (inr (omega arith)))))

@@ -12,11 +12,11 @@ use Rattle.model.specs.Rows.{MAX, LineRow, FunctionRow, SymbolRow}
 use Rattle.model.specs.Machine.{Machine, LoopedM, set-atM, kid-spansM, rowM, convertM, startM}
 use Rattle.model.specs.Converter.{input, deep}
 use Rattle.model.proofs.Depths.{Steps}
-use Rattle.rows.specs.Columns.{Columns, functionRows, lineRows, functionStruct, functionAt, treeRows, laterRows}
+use Rattle.rows.specs.Columns.{Columns, functionRows, lineRows, functionStruct, treeRow, treeRows, laterRows}
 use Rattle.refusals.specs.Refusals.{firstLine, total}
-use Rattle.rows.proofs.RowLaws.{functionAt-depth, functionAt-lines}
+use Rattle.rows.proofs.RowLaws.{treeRow-depth, treeRow-lines}
 use Rattle.refusals.proofs.Accepted.{Accepted}
-use Rattle.scratch.specs.Scratch.{startAt, callsOf, topOf, kid-spans, RowDone}
+use Rattle.scratch.specs.Scratch.{callsStart, callsOf, topOf, kid-spans, RowDone}
 use Rattle.scratch.proofs.Rows.{kids, kids-suc, kids-row, convert-agree, first-line, rows-left, rows-next, rows-none, kids-fit, length-lines, steps-of, start-kept, top-kept, calls-kept}
 
 module _ {R P L S : Type 0} (M : Machine FunctionRow LineRow SymbolRow R P L ℕ S) (k : Columns) (size : ℕ) (w₀ : S) where
@@ -35,7 +35,7 @@ module _ {R P L S : Type 0} (M : Machine FunctionRow LineRow SymbolRow R P L ℕ
     pub first-is : first ≡ firstLine k i
     pub steps : Steps bound (rows-left k i)
     pub low : bound ≤ i
-    pub above : (j : ℕ) → j < bound → topOf s j ≤ startAt s j
+    pub above : (j : ℕ) → j < bound → topOf s j ≤ callsStart s j
     pub tops : (j : ℕ) → j ≤ bound → topOf s j ≤ firstLine k i + kids input j (rows-left k i)
     pub len : length s ≡ size
 
@@ -65,7 +65,7 @@ module _ {R P L S : Type 0} (M : Machine FunctionRow LineRow SymbolRow R P L ℕ
 
     module _ (s : List ℕ) (i first : ℕ) (w : S) (r : Rowing s i first w) (h : i < functionRows k) where
       abbrev q : FunctionRow
-      q = functionAt k i first
+      q = treeRow k i first
 
       abbrev d : ℕ
       d = functionStruct k i .depth
@@ -77,16 +77,16 @@ module _ {R P L S : Type 0} (M : Machine FunctionRow LineRow SymbolRow R P L ℕ
       later = rw (r .first-is, first-line k i)
 
       next-steps : (d ≤ r .bound) × Steps (suc d) (rows-left k (i + 1))
-      next-steps = rw (← functionAt-depth k i (firstLine k i)) (rw (rows-next k i h) at (r .steps))
+      next-steps = rw (← treeRow-depth k i (firstLine k i)) (rw (rows-next k i h) at (r .steps))
 
       -- what is stacked and what the next row brings, against all line rows
       stacked : (j : ℕ) → j ≤ d → topOf s j ≤ firstLine k (i + 1) + kids input j (rows-left k (i + 1))
       stacked j g =
-          let p = functionAt k i (firstLine k i) in
+          let p = treeRow k i (firstLine k i) in
           let a : topOf s j ≤ firstLine k i + kids input j (rows-left k i) = r .tops j (omega (arith, next-steps .0)) in
           let b : kids input j (rows-left k i) ≤ kids input j (rows-left k (i + 1)) + length (p .lines) =
           rw (rows-next k i h) (kids-row input j (deep p) (rows-left k (i + 1))) in
-          let c : length (p .lines) ≡ functionStruct k i .lines = ap length (functionAt-lines k i (firstLine k i)) ∙ length-lines k (firstLine k i) (functionStruct k i .lines) in
+          let c : length (p .lines) ≡ functionStruct k i .lines = ap length (treeRow-lines k i (firstLine k i)) ∙ length-lines k (firstLine k i) (functionStruct k i .lines) in
           let e : firstLine k (i + 1) ≡ firstLine k i + functionStruct k i .lines = first-line k i in
           omega arith
 
@@ -111,7 +111,7 @@ module _ {R P L S : Type 0} (M : Machine FunctionRow LineRow SymbolRow R P L ℕ
       tops-grow (suc n) j g =
           let z : j + suc n ≡ suc (j + n) = omega arith in
           let a : topOf s j ≤ topOf s (j + n) = tops-grow n j (omega arith) in
-          let b : topOf s (j + n) ≤ startAt s (j + n) = r .above (j + n) (omega (arith, next-steps .0)) in
+          let b : topOf s (j + n) ≤ callsStart s (j + n) = r .above (j + n) (omega (arith, next-steps .0)) in
           rw z (omega arith)
 
       below-top : (j : ℕ) → j ≤ d → topOf s j ≤ topOf s d
@@ -121,7 +121,7 @@ module _ {R P L S : Type 0} (M : Machine FunctionRow LineRow SymbolRow R P L ℕ
           (done : RowDone base d (topOf s d) spans (rowM input M q (kid-spans k d (i + 1) (first + functionStruct k i .lines)) (callsOf s base d) w) s s′ w′)
           (same : length s′ ≡ length s) where
         abbrev o : LoopedM ℕ S
-        o = rowM input M (functionAt k i (firstLine k i)) (kid-spansM input d (rows-left k (i + 1))) (callsOf s base d) w
+        o = rowM input M (treeRow k i (firstLine k i)) (kid-spansM input d (rows-left k (i + 1))) (callsOf s base d) w
 
         o-is : rowM input M q (kid-spans k d (i + 1) (first + functionStruct k i .lines)) (callsOf s base d) w ≡ o
         o-is = rw (later, r .first-is)
@@ -139,7 +139,7 @@ module _ {R P L S : Type 0} (M : Machine FunctionRow LineRow SymbolRow R P L ℕ
 
         one-row : convertM input M (rows-left k i) (callsOf s base) w ≡ convertM input M (rows-left k (i + 1)) (set-atM (suc d) (o .calls) (callsOf s base)) (o .state)
         unfolding convertM
-        one-row = rw (rows-next k i h, convertM, functionAt-depth k i (firstLine k i))
+        one-row = rw (rows-next k i h, convertM, treeRow-depth k i (firstLine k i))
 
         top-next : topOf s′ (suc d) ≤ topOf s d + spans
         unfolding topOf

@@ -9,7 +9,7 @@ use lib.ListN.{length, take}
 use Rattle.model.specs.Basics.{Span, sort}
 use Rattle.model.specs.Rows.{MAX}
 use Rattle.model.specs.Machine.{Input, Machine, Ref, LoopedM, loopM, closingM, rowM}
-use Rattle.scratch.specs.Scratch.{pairsAt, ref-of, refsAt, startAt, lenAt, setCalls, callsOf, Lined, RowDone}
+use Rattle.scratch.specs.Scratch.{pairsAt, ref-of, refsAt, callsStart, lenAt, setCalls, callsOf, Lined, RowDone}
 use Rattle.scratch.proofs.Pairs.{pairAt, getD-kept, pairs-same, pairs-zero, calls-other, start-set, len-set}
 
 -- ── A row, case by case ──
@@ -40,14 +40,14 @@ calls-root s base b = rw (pairs-zero s b)
 
 pub calls-none : (s : List ℕ) (base d : ℕ) → lenAt s d ≡ 0 → callsOf s base (suc d) ≡ []
 unfolding callsOf
-calls-none s base d h = rw (h, pairs-zero s (base + startAt s d * 2))
+calls-none s base d h = rw (h, pairs-zero s (base + callsStart s d * 2))
 
 pub calls-some : (s : List ℕ) (base d : ℕ) → 0 < lenAt s d
-    → callsOf s base (suc d) ≡ ref-of (pairAt s (base + startAt s d * 2)) ∷ refsAt s (base + startAt s d * 2 + 2) (lenAt s d - 1)
+    → callsOf s base (suc d) ≡ ref-of (pairAt s (base + callsStart s d * 2)) ∷ refsAt s (base + callsStart s d * 2 + 2) (lenAt s d - 1)
 unfolding callsOf pairsAt
 calls-some s base d h = let e : lenAt s d ≡ suc (lenAt s d - 1) = omega arith in go (lenAt s d) (lenAt s d - 1) e
   where
-    go : (m n : ℕ) → m ≡ suc n → refsAt s (base + startAt s d * 2) m ≡ ref-of (pairAt s (base + startAt s d * 2)) ∷ refsAt s (base + startAt s d * 2 + 2) n
+    go : (m n : ℕ) → m ≡ suc n → refsAt s (base + callsStart s d * 2) m ≡ ref-of (pairAt s (base + callsStart s d * 2)) ∷ refsAt s (base + callsStart s d * 2 + 2) n
     go m n e = rw e
 
 -- ── What is left in scratch ──
@@ -74,7 +74,7 @@ module _ {S : Type 0} (base d top n : ℕ) (low : d * 4 + 4 ≤ base) where
   passed-over s p w room e = record {
     state = sym (ap (λ (x : LoopedM ℕ S). x .state) e);
     calls =
-        rw (len-set s d top 0 (omega arith), pairs-zero (setCalls s d top 0) (base + startAt (setCalls s d top 0) d * 2)) (sym (ap (λ (x : LoopedM ℕ S). x .calls) e));
+        rw (len-set s d top 0 (omega arith), pairs-zero (setCalls s d top 0) (base + callsStart (setCalls s d top 0) d * 2)) (sym (ap (λ (x : LoopedM ℕ S). x .calls) e));
     start = start-set s d top 0 (omega arith);
     few = rw (len-set s d top 0 (omega arith)) (omega arith);
     kept = λ j h z. calls-other s d top 0 j z;

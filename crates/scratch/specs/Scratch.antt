@@ -9,7 +9,7 @@ use Rattle.model.specs.Basics.{Span}
 use Rattle.model.specs.Rows.{MAX, boundaries}
 use Rattle.model.specs.Machine.{Ref, LoopedM, kid-spansM}
 use Rattle.model.specs.Converter.{input, deep}
-use Rattle.rows.specs.Columns.{Columns, functionRows, functionInColumns, linesFrom, rowsFrom}
+use Rattle.rows.specs.Columns.{Columns, functionRows, functionInColumns, linesFrom, treeRowsFrom}
 use Rattle.refusals.specs.Refusals.{total}
 
 -- ── Pairs ──────────────────────────────────────────────────────────────────────────────────────────────────────────────
@@ -31,8 +31,8 @@ abbrev pub two32 : ℕ
 two32 = 4294967296
 
 -- those of depth d + 1: the pair at which they begin, and how many there are
-abbrev pub startAt : List ℕ → ℕ → ℕ
-startAt s d = getD s (d * 4) 0 + getD s (d * 4 + 1) 0 * two32
+abbrev pub callsStart : List ℕ → ℕ → ℕ
+callsStart s d = getD s (d * 4) 0 + getD s (d * 4 + 1) 0 * two32
 
 abbrev pub lenAt : List ℕ → ℕ → ℕ
 lenAt s d = getD s (d * 4 + 2) 0 + getD s (d * 4 + 3) 0 * two32
@@ -43,11 +43,11 @@ setCalls s d start len = sets s (d * 4) (start % two32 ∷ start / two32 ∷ len
 -- the call locations for the rows at depth d, and the pair after the last of them; those of depth 0 are no pairs but a value
 unfoldable pub callsOf : List ℕ → ℕ → ℕ → List (Ref ℕ)
 callsOf s base zero = record { addr = 0; ref = MAX } ∷ []
-callsOf s base (suc d) = refsAt s (base + startAt s d * 2) (lenAt s d)
+callsOf s base (suc d) = refsAt s (base + callsStart s d * 2) (lenAt s d)
 
 unfoldable pub topOf : List ℕ → ℕ → ℕ
 topOf s zero = 0
-topOf s (suc d) = startAt s d + lenAt s d
+topOf s (suc d) = callsStart s d + lenAt s d
 
 -- ── The lines of a row ─────────────────────────────────────────────────────────────────────────────────────────────────
 
@@ -66,7 +66,7 @@ line-spans k j n = map boundaries (linesFrom k j n)
 
 -- the inlinee ranges of a function at depth d: those of the rows from i on, whose line rows begin at j
 abbrev pub kid-spans : Columns → ℕ → ℕ → ℕ → List Span
-kid-spans k d i j = kid-spansM input d (map deep (rowsFrom k i (functionRows k - i) j))
+kid-spans k d i j = kid-spansM input d (map deep (treeRowsFrom k i (functionRows k - i) j))
 
 -- the line rows of each function row lie within the line rows (13 leaves no other rows)
 abbrev pub LinesWithin : List ℕ → List ℕ → List ℕ → Type 0
@@ -78,6 +78,6 @@ LinesWithin f64 f32 l64 =
 pub record RowDone {S : Type 0} (base d top n : ℕ) (o : LoopedM ℕ S) (s s′ : List ℕ) (w : S) : Type 0 where
   pub state : w ≡ o .state
   pub calls : callsOf s′ base (suc d) ≡ o .calls
-  pub start : startAt s′ d ≡ top
+  pub start : callsStart s′ d ≡ top
   pub few : lenAt s′ d ≤ n
   pub kept : (j : ℕ) → j < base + top * 2 → (j < d * 4) ⊎ (d * 4 + 4 ≤ j) → getD s′ j 0 ≡ getD s j 0

@@ -8,8 +8,8 @@ use native.Mathlib.Omega.{arith}
 use native.Mathlib.Numerals.{add-one, towards-suc}
 use lib.Dec.{leb}
 use borrow.Author.Tests.{leb-true, leb-false, le-leb, lt-leb}
-use lib.ListN.{length, getD, set, take, drop, length-append, drop-of-length-le, take-append-drop}
-use lib.Seq.{sets, sets-eq, getD-append-seam, length-take-le, take-at, drop-cons, take-suc, take-suc-set, take-length, getD-take, set-out, length-sets}
+use lib.ListN.{length, getD, set, take, drop, length-append, take-append-drop}
+use lib.Seq.{sets, sets-eq, getD-append-seam, length-take-le, take-at, drop-cons, take-suc, take-suc-set, take-length, set-out, length-sets}
 use Rattle.slices.specs.Bytes.{le, leAt, bytesAt, wordBytes, Words32, Stands, tableBytes}
 
 -- lengths
@@ -149,14 +149,6 @@ pub sets-turn : (s b : List ℕ) (at i : ℕ) → i < length b → sets (set s (
 sets-turn s b at i h =
     let e : at + suc i ≡ suc (at + i) = omega arith in
     rw (add-one i, e, drop-cons b i 0 h)
-
-pub paste-turn : (s row : List ℕ) (at i n : ℕ) → i < n → n ≤ length row → sets (set s (at + i) (getD row i 0)) (at + (i + 1)) (drop (i + 1) (take n row)) ≡ sets s (at + i) (drop i (take n row))
-paste-turn s row at i n h l =
-    rw (← getD-take n row i 0 h) (sets-turn s (take n row) at i (rw (length-take-le n row l) h))
-
--- nothing is to come
-pub pasted : (s row : List ℕ) (at i n : ℕ) → n ≤ i → n ≤ length row → sets s at (drop i (take n row)) ≡ s
-pasted s row at i n h l = rw (drop-of-length-le (take n row) {i = i} (rw (length-take-le n row l) h))
 
 -- two runs, the second where the first ends
 pub sets-join : (vs ws s : List ℕ) (at n : ℕ) → n ≡ at + length vs → sets (sets s at vs) n ws ≡ sets s at (vs ++ ws)

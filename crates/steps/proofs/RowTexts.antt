@@ -12,7 +12,7 @@ use Rattle.text.specs.Utf8.{utf8}
 use Rattle.names.specs.Names.{undecorated}
 use Rattle.model.specs.Rows.{MAX, cut32, Text, skipped}
 use Rattle.model.specs.Converter.{Setup, Six, or-empty, line-texts}
-use Rattle.rows.specs.Columns.{Columns, functionStruct, lineStruct, functionAt, lineAt, partOf, textOf}
+use Rattle.rows.specs.Columns.{Columns, functionStruct, lineStruct, treeRow, lineAt, partOf, textOf}
 use Rattle.rows.specs.declared.TextPart.{TextPart}
 use Rattle.memory.specs.Memory.{Words}
 use Rattle.steps.specs.Steps.{no-part, sixOf, locate-six, begin-named, over-words}
@@ -45,8 +45,8 @@ dirPart k i = let p = functionStruct k i .«comp_dir» in cond (utf8 (textOf (k 
 module _ (k : Columns) (i first : ℕ) where
   -- ── A line ──
 
-  pub six-texts : (j : ℕ) → sixOf (k .text) (dirPart k i) (lineStruct k j) ≡ line-texts (functionAt k i first) (lineAt k j)
-  unfolding sixOf functionAt lineAt
+  pub six-texts : (j : ℕ) → sixOf (k .text) (dirPart k i) (lineStruct k j) ≡ line-texts (treeRow k i first) (lineAt k j)
+  unfolding sixOf treeRow lineAt
   six-texts j =
       let t = k .text in
       let l = lineStruct k j in
@@ -61,14 +61,14 @@ module _ (k : Columns) (i first : ℕ) where
       }
 
   pub locate-is : (X : Setup) (r j c : ℕ) (s : Words)
-      → over-words X .locate (functionAt k i first) r (lineAt k j) c s ≡ locate-six (sixOf (k .text) (dirPart k i) (lineStruct k j)) (lineStruct k j .number) r c s
+      → over-words X .locate (treeRow k i first) r (lineAt k j) c s ≡ locate-six (sixOf (k .text) (dirPart k i) (lineStruct k j)) (lineStruct k j .number) r c s
   unfolding lineAt
   locate-is X r j c s = ap (λ (x : Six Text). locate-six x (lineStruct k j .number) r c s) (sym (six-texts j))
 
   -- ── A function row ──
 
-  pub address-below : skipped (functionAt k i first) ≡ false → functionStruct k i .address ≤ MAX
-  unfolding functionAt
+  pub address-below : skipped (treeRow k i first) ≡ false → functionStruct k i .address ≤ MAX
+  unfolding treeRow
   address-below h = go (eqb (functionStruct k i .size) 0) h
     where
       go : (b : Bool) → cond b true (ltb MAX (functionStruct k i .address)) ≡ false → functionStruct k i .address ≤ MAX
@@ -76,11 +76,11 @@ module _ (k : Columns) (i first : ℕ) where
       go false e = ltb-false MAX (functionStruct k i .address) e
 
   -- the entry is cut to 32 bits, and a row that isn't skipped has one below 2^32
-  pub begin-is : (X : Setup) (s : Words) → skipped (functionAt k i first) ≡ false
+  pub begin-is : (X : Setup) (s : Words) → skipped (treeRow k i first) ≡ false
       → let q = functionStruct k i in
-      over-words X .begin (functionAt k i first) s
+      over-words X .begin (treeRow k i first) s
       ≡ begin-named (cond (X .functions-on) (undecorated (textOf (k .text) (q .name))) (textOf (k .text) (q .name))) (cond (q .inline) MAX (cut32 (q .address))) (q .language) s
-  unfolding functionAt
+  unfolding treeRow
   begin-is X s h =
       let q = functionStruct k i in
       let name = cond (X .functions-on) (undecorated (textOf (k .text) (q .name))) (textOf (k .text) (q .name)) in

@@ -97,19 +97,19 @@ abbrev pub stringsLeft : Stored → List ℕ → List ℕ → StringsLeft
 stringsLeft g t s = record { got = g; text = t; strings = s }
 
 -- the offset of the text, and the counts of bytes and of texts after it
-abbrev pub stored : ℕ → ℕ → ℕ → Stored
-stored offset bytes count = record { offset = offset; bytes = bytes; count = count }
+abbrev pub textStored : ℕ → ℕ → ℕ → Stored
+textStored offset bytes count = record { offset = offset; bytes = bytes; count = count }
 
 -- with no room nothing is written: the count of bytes is above its capacity if the text had no room, else the count of texts
 unfoldable pub fullOf : ℕ → ℕ → ℕ → ℕ → ℕ → Stored
-fullOf bytes count size limit cap = cond (leb (bytes + size) limit) (stored bytes bytes (overOf count cap)) (stored bytes (overOf bytes limit) count)
+fullOf bytes count size limit cap = cond (leb (bytes + size) limit) (textStored bytes bytes (overOf count cap)) (textStored bytes (overOf bytes limit) count)
 
 -- a new text, at the end of the section and of the index, where both have room
 unfoldable pub storeOf : List ℕ → List ℕ → ℕ → ℕ → List ℕ → StringsLeft
 storeOf text strings bytes count t =
     cond (leb (bytes + textSize t) (textCapacityOf (length text)) && ltb count (capacityOf (length strings)))
     (stringsLeft
-    (stored bytes (bytes + textSize t) (count + 1))
+    (textStored bytes (bytes + textSize t) (count + 1))
     (sets text bytes (storedText t))
     (indexOf (capacityOf (length strings)) strings count (textRow bytes t)))
     (stringsLeft (fullOf bytes count (textSize t) (textCapacityOf (length text)) (capacityOf (length strings))) text strings)
@@ -117,10 +117,10 @@ storeOf text strings bytes count t =
 -- with the row found at hand
 unfoldable pub insertTextAt : List ℕ → List ℕ → ℕ → ℕ → List ℕ → ℕ → StringsLeft
 insertTextAt text strings bytes count t i =
-    cond (ltb i count) (stringsLeft (stored (textOfRow (rowAt strings i) .offset) bytes count) text strings) (storeOf text strings bytes count t)
+    cond (ltb i count) (stringsLeft (textStored (textOfRow (rowAt strings i) .offset) bytes count) text strings) (storeOf text strings bytes count t)
 
 -- "A text is stored once"; "An empty text takes offset MAX"
 unfoldable pub insertTextOf : List ℕ → List ℕ → ℕ → ℕ → List ℕ → StringsLeft
 insertTextOf text strings bytes count t =
-    cond (eqb (length t) 0) (stringsLeft (stored 4294967295 bytes count) text strings)
+    cond (eqb (length t) 0) (stringsLeft (textStored 4294967295 bytes count) text strings)
     (insertTextAt text strings bytes count t (findText text strings count t))

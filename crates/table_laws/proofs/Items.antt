@@ -8,7 +8,7 @@ use native.Mathlib.Omega.{arith}
 use lib.Dec.{ltb}
 use lib.ListN.{length, getD, length-append}
 use borrow.Author.Tests.{ltb-true, ltb-false}
-use Rattle.table_laws.specs.Plain.{Interned, intern, internAll}
+use Rattle.table_laws.specs.Plain.{PlainInterned, intern, internAll}
 
 module _ {A : Type 0} (hit : A → Bool) (d : A) where
   pub by-none : (P : List A → Type 0) → P [] → ((x : A) (xs : List A) → hit x ≡ false → P xs → P (x ∷ xs))
@@ -24,7 +24,7 @@ module _ {A : Type 0} (hit : A → Bool) (d : A) where
 
 module _ {A : Type 0} (eq : A → A → Bool) where
   -- x is passed
-  abbrev past : A → Interned A → Interned A
+  abbrev past : A → PlainInterned A → PlainInterned A
   past x r = record { index = suc (r .index); table = x ∷ r .table }
 
   pub intern-none : (xs : List A) (a d : A) → ((i : ℕ) → i < length xs → eq (getD xs i d) a ≡ false) → intern eq xs a ≡ record { index = length xs; table = xs ++ (a ∷ []) }
@@ -41,7 +41,7 @@ module _ {A : Type 0} (eq : A → A → Bool) where
   intern-length [] a = omega arith
   intern-length (x ∷ xs) a = go (eq x a) (intern-length xs a)
     where
-      go : (b : Bool) → length xs ≤ length (intern eq xs a .table) → suc (length xs) ≤ length (cond {A = Interned A} b (record { index = 0; table = x ∷ xs }) (past x (intern eq xs a)) .table)
+      go : (b : Bool) → length xs ≤ length (intern eq xs a .table) → suc (length xs) ≤ length (cond {A = PlainInterned A} b (record { index = 0; table = x ∷ xs }) (past x (intern eq xs a)) .table)
       go true h = omega arith
       go false h = omega arith
 

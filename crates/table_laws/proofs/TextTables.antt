@@ -19,7 +19,7 @@ use Rattle.text.proofs.Leb128Laws.{decoded-past}
 use Rattle.text.proofs.TextLaws.{stored-bytes, part-stored, part-absent, absent-prefix}
 use Rattle.slices.proofs.Cases.{and-left}
 use Rattle.tables.specs.Table.{rowAt, rowsFrom, rowsOf, capacityOf, overOf, sameWords}
-use Rattle.strings.specs.Strings.{textCapacityOf, storedText, textSize, textHash, textRow, isText, textAt, newestText, findText, indexOf, fullOf, storeOf, insertTextAt, insertTextOf, StringsLeft, stringsLeft, stored}
+use Rattle.strings.specs.Strings.{textCapacityOf, storedText, textSize, textHash, textRow, isText, textAt, newestText, findText, indexOf, fullOf, storeOf, insertTextAt, insertTextOf, StringsLeft, stringsLeft, textStored}
 use Rattle.table_laws.specs.Plain.{intern, Chained}
 use Rattle.table_laws.specs.PlainTexts.{textBytes, textOffset, section, withText, offsetIn, withTexts, offsetsIn, insertTexts, offsetsOf, textRows, rowHash, Texts}
 use Rattle.tables.specs.declared.Row.{Row}
@@ -175,11 +175,11 @@ pub record Did (text strings : List ℕ) (o : ℕ) (us : List Text) (x : Strings
       ⊎ (Full (textCapacityOf (length text)) (capacityOf (length strings)) (x .got .bytes) (x .got .count) × Full (textCapacityOf (length text)) (capacityOf (length strings)) (textBytes us) (length us))
 
 module _ (bytes count size limit cap : ℕ) where
-  full-row : bytes + size ≤ limit → fullOf bytes count size limit cap ≡ stored bytes bytes (overOf count cap)
+  full-row : bytes + size ≤ limit → fullOf bytes count size limit cap ≡ textStored bytes bytes (overOf count cap)
   unfolding fullOf
   full-row h = rw (le-leb (bytes + size) limit h)
 
-  full-bytes : limit < bytes + size → fullOf bytes count size limit cap ≡ stored bytes (overOf bytes limit) count
+  full-bytes : limit < bytes + size → fullOf bytes count size limit cap ≡ textStored bytes (overOf bytes limit) count
   unfolding fullOf
   full-bytes h = rw (lt-leb (bytes + size) limit h)
 
@@ -188,7 +188,7 @@ unfolding textRow
 row-offset o t = refl
 
 module _ (text strings : List ℕ) (bytes count : ℕ) (t : Text) where
-  pub insert-empty : length t ≡ 0 → insertTextOf text strings bytes count t ≡ stringsLeft (stored 4294967295 bytes count) text strings
+  pub insert-empty : length t ≡ 0 → insertTextOf text strings bytes count t ≡ stringsLeft (textStored 4294967295 bytes count) text strings
   unfolding insertTextOf
   insert-empty e = rw (eq-eqb (length t) 0 e)
 
@@ -203,9 +203,9 @@ step-other text strings bytes count ts t n T = rw (insert-other text strings byt
   where
     go : (i : ℕ) → Look (textAt text strings t) count i
         → Did text strings (textOffset ts (intern sameWords ts t .index)) (intern sameWords ts t .table)
-        (cond (ltb i count) (stringsLeft (stored (rowAt strings i .a) bytes count) text strings)
+        (cond (ltb i count) (stringsLeft (textStored (rowAt strings i .a) bytes count) text strings)
         (cond (leb (bytes + textSize t) (textCapacityOf (length text)) && ltb count (capacityOf (length strings)))
-        (stringsLeft (stored bytes (bytes + textSize t) (count + 1)) (sets text bytes (storedText t)) (indexOf (capacityOf (length strings)) strings count (textRow bytes t)))
+        (stringsLeft (textStored bytes (bytes + textSize t) (count + 1)) (sets text bytes (storedText t)) (indexOf (capacityOf (length strings)) strings count (textRow bytes t)))
         (stringsLeft (fullOf bytes count (textSize t) (textCapacityOf (length text)) (capacityOf (length strings))) text strings)))
     go i (found p e) =
         rw (lt-ltb i count p, at-found text strings bytes count ts T t i p e)
@@ -227,7 +227,7 @@ step-other text strings bytes count ts t n T = rw (insert-other text strings byt
         at : (b : Bool) → leb (bytes + textSize t) (textCapacityOf (length text)) ≡ b → (d : Bool) → ltb count (capacityOf (length strings)) ≡ d
             → Did text strings (textOffset ts (length ts)) (ts ++ (t ∷ []))
             (cond (b && d)
-            (stringsLeft (stored bytes (bytes + textSize t) (count + 1)) (sets text bytes (storedText t)) (indexOf (capacityOf (length strings)) strings count (textRow bytes t)))
+            (stringsLeft (textStored bytes (bytes + textSize t) (count + 1)) (sets text bytes (storedText t)) (indexOf (capacityOf (length strings)) strings count (textRow bytes t)))
             (stringsLeft (fullOf bytes count (textSize t) (textCapacityOf (length text)) (capacityOf (length strings))) text strings))
         at true e′ true f = record {
           offset = o;
@@ -285,10 +285,10 @@ stays text strings bytes count t full = go (eqb (length t) 0) (ltb (findText tex
     go : (z y b : Bool) → leb (bytes + textSize t) (textCapacityOf (length text)) ≡ b → (d : Bool) → ltb count (capacityOf (length strings)) ≡ d
         → Full (textCapacityOf (length text)) (capacityOf (length strings)) bytes count
         → Stays text strings
-        (cond z (stringsLeft (stored 4294967295 bytes count) text strings)
-        (cond y (stringsLeft (stored (rowAt strings (findText text strings count t) .a) bytes count) text strings)
+        (cond z (stringsLeft (textStored 4294967295 bytes count) text strings)
+        (cond y (stringsLeft (textStored (rowAt strings (findText text strings count t) .a) bytes count) text strings)
         (cond (b && d)
-        (stringsLeft (stored bytes (bytes + textSize t) (count + 1)) (sets text bytes (storedText t)) (indexOf (capacityOf (length strings)) strings count (textRow bytes t)))
+        (stringsLeft (textStored bytes (bytes + textSize t) (count + 1)) (sets text bytes (storedText t)) (indexOf (capacityOf (length strings)) strings count (textRow bytes t)))
         (stringsLeft (fullOf bytes count (textSize t) (textCapacityOf (length text)) (capacityOf (length strings))) text strings))))
     go true y b e d f g = record { text-kept = refl; index-kept = refl; full = g }
     go false true b e d f g = record { text-kept = refl; index-kept = refl; full = g }

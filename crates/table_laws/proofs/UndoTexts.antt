@@ -9,7 +9,7 @@ use lib.ListN.{length, getD, replicate, length-replicate, List·getD-eq-default}
 use lib.Seq.{sets, length-sets, ext-getD}
 use borrow.Author.Tests.{leb-true, leb-false, le-ltb, ltb-true, ltb-false}
 use Rattle.tables.specs.Table.{rowAt, capacityOf, overOf}
-use Rattle.strings.specs.Strings.{textCapacityOf, storedText, textSize, textRow, findText, indexOf, fullOf, storeOf, insertTextAt, insertTextOf, StringsLeft, stringsLeft, stored}
+use Rattle.strings.specs.Strings.{textCapacityOf, storedText, textSize, textRow, findText, indexOf, fullOf, storeOf, insertTextAt, insertTextOf, StringsLeft, stringsLeft, textStored}
 use Rattle.table_laws.specs.PlainTexts.{insertTexts}
 use Rattle.journal.specs.Undo.{rowHashOf, undoneTo, cutTo}
 use Rattle.table_laws.specs.Marked.{Clear, ClearText}
@@ -97,7 +97,7 @@ pub record TextAdded (text strings : List ℕ) (bytes count : ℕ) (x : StringsL
   pub rows : Added 4 strings count (x .strings) (x .got .count)
 
 module _ (text strings : List ℕ) (bytes count : ℕ) (C : ClearText text bytes) (S : Clear strings count) where
-  none-added : (offset : ℕ) → TextAdded text strings bytes count (stringsLeft (stored offset bytes count) text strings)
+  none-added : (offset : ℕ) → TextAdded text strings bytes count (stringsLeft (textStored offset bytes count) text strings)
   none-added offset = record { longer = longer-none text bytes C; rows = added-none 4 strings count S }
 
   index-added : (t : List ℕ) → count < capacityOf (length strings) → Added 4 strings count (indexOf (capacityOf (length strings)) strings count (textRow bytes t)) (count + 1)
@@ -110,8 +110,8 @@ module _ (text strings : List ℕ) (bytes count : ℕ) (C : ClearText text bytes
     where
       go : (x y : Bool) → ltb count (capacityOf (length strings)) ≡ y
           → TextAdded text strings bytes count (cond (x && y)
-          (stringsLeft (stored bytes (bytes + textSize t) (count + 1)) (sets text bytes (storedText t)) (indexOf (capacityOf (length strings)) strings count (textRow bytes t)))
-          (stringsLeft (cond x (stored bytes bytes (overOf count (capacityOf (length strings)))) (stored bytes (overOf bytes (textCapacityOf (length text))) count)) text strings))
+          (stringsLeft (textStored bytes (bytes + textSize t) (count + 1)) (sets text bytes (storedText t)) (indexOf (capacityOf (length strings)) strings count (textRow bytes t)))
+          (stringsLeft (cond x (textStored bytes bytes (overOf count (capacityOf (length strings)))) (textStored bytes (overOf bytes (textCapacityOf (length text))) count)) text strings))
       go true true e = record { longer = longer-store text bytes C (storedText t) (textSize t) (stored-length t); rows = index-added t (ltb-true _ _ e) }
       go true false e = record { longer = longer-none text bytes C; rows = added-over 4 strings count S (ltb-false _ _ e) }
       go false y e = record { longer = longer-over text bytes C (textCapacityOf (length text)); rows = added-none 4 strings count S }
@@ -120,8 +120,8 @@ module _ (text strings : List ℕ) (bytes count : ℕ) (C : ClearText text bytes
   unfolding insertTextOf insertTextAt
   text-added t = go (eqb (length t) 0) (ltb (findText text strings count t) count)
     where
-      go : (x y : Bool) → TextAdded text strings bytes count (cond x (stringsLeft (stored 4294967295 bytes count) text strings)
-          (cond y (stringsLeft (stored (rowAt strings (findText text strings count t) .a) bytes count) text strings) (storeOf text strings bytes count t)))
+      go : (x y : Bool) → TextAdded text strings bytes count (cond x (stringsLeft (textStored 4294967295 bytes count) text strings)
+          (cond y (stringsLeft (textStored (rowAt strings (findText text strings count t) .a) bytes count) text strings) (storeOf text strings bytes count t)))
       go true y = none-added 4294967295
       go false true = none-added (rowAt strings (findText text strings count t) .a)
       go false false = store-added t

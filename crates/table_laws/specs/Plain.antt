@@ -18,13 +18,13 @@ use Rattle.tables.specs.declared.ranges.Change.{Change}
 
 -- ── IndexSet ───────────────────────────────────────────────────────────────────────────────────────────────────────────
 
-pub record Interned (A : Type 0) : Type 0 where
+pub record PlainInterned (A : Type 0) : Type 0 where
   pub index : ℕ
   pub table : List A
 
 module _ {A : Type 0} where
   -- `IndexSet::insert_full`: the place of the first item equal to a, or a at the end
-  unfoldable pub intern : (A → A → Bool) → List A → A → Interned A
+  unfoldable pub intern : (A → A → Bool) → List A → A → PlainInterned A
   intern eq [] a = record { index = 0; table = a ∷ [] }
   intern eq (x ∷ xs) a =
       cond (eq x a) (record { index = 0; table = x ∷ xs })

@@ -6,7 +6,7 @@ use mathlib.Core.List.{List, [], _∷_, _++_}
 use mathlib.Core.Bool.{false}
 use lib.ListN.{length, getD, take}
 use Rattle.tables.specs.Table.{sameWords, rowsOf, capacityOf}
-use Rattle.strings.specs.Strings.{textCapacityOf, storedText, textSize, textRow, insertTextOf, StringsLeft, stringsLeft, stored}
+use Rattle.strings.specs.Strings.{textCapacityOf, storedText, textSize, textRow, insertTextOf, StringsLeft, stringsLeft, textStored}
 use Rattle.table_laws.specs.Plain.{intern, Chained}
 use Rattle.tables.specs.declared.Row.{Row}
 
@@ -45,7 +45,7 @@ offsetsIn ts (q ∷ qs) = offsetIn ts q ∷ offsetsIn (withText ts q) qs
 
 -- the same of the lent memory, each call on what the one before left
 unfoldable pub insertTexts : List ℕ → List ℕ → ℕ → ℕ → List (List ℕ) → StringsLeft
-insertTexts text strings bytes count [] = stringsLeft (stored 4294967295 bytes count) text strings
+insertTexts text strings bytes count [] = stringsLeft (textStored 4294967295 bytes count) text strings
 insertTexts text strings bytes count (q ∷ qs) =
     let x = insertTextOf text strings bytes count q in
     insertTexts (x .text) (x .strings) (x .got .bytes) (x .got .count) qs

@@ -14,7 +14,7 @@ use lib.Pow.{areBytes}
 use lib.Seq.{drop-at, sets}
 use borrow.Author.Tests.{ltb-true, ltb-false, leb-true, lt-ltb, le-ltb, le-leb, lt-leb}
 use Rattle.slices.proofs.Cases.{lt-or-ge, and-left, and-right}
-use Rattle.text.specs.Leb128.{leb-value, well-formed, encoded-in, encoded, leb-prefix, number, decoded, Accepted, written, wrote}
+use Rattle.text.specs.Leb128.{leb-value, well-formed, encoded-in, encoded, leb-prefix, leb-number, decoded, Accepted, written, wrote-leb}
 use Rattle.text.specs.declared.leb128.Leb.the-variants.{Absent, Number}
 
 -- ---- the encoding
@@ -123,12 +123,12 @@ put-last s i v h = rw (encoded-last v h)
 pub put-more : (s : List ℕ) (i v : ℕ) → 128 ≤ v → sets (set s i (v % 128 + 128)) (i + 1) (encoded (v / 128)) ≡ sets s i (encoded v)
 put-more s i v h = rw (encoded-more v h, add-one i)
 
-pub wrote-all : (s t : List ℕ) (at v n : ℕ) → n ≡ length (encoded v) → t ≡ sets s at (encoded v) → at + n ≤ length s → written n t ≡ wrote s at v
-unfolding wrote
+pub wrote-all : (s t : List ℕ) (at v n : ℕ) → n ≡ length (encoded v) → t ≡ sets s at (encoded v) → at + n ≤ length s → written n t ≡ wrote-leb s at v
+unfolding wrote-leb
 wrote-all s t at v n e f h = rw (e, f, le-leb (at + length (encoded v)) (length s) (omega arith))
 
-pub wrote-none : (s : List ℕ) (at v n : ℕ) → n ≡ length (encoded v) → length s < at + n → written 0 s ≡ wrote s at v
-unfolding wrote
+pub wrote-none : (s : List ℕ) (at v n : ℕ) → n ≡ length (encoded v) → length s < at + n → written 0 s ≡ wrote-leb s at v
+unfolding wrote-leb
 wrote-none s at v n e h = rw (lt-leb (at + length (encoded v)) (length s) (omega arith))
 
 -- ---- decoding
@@ -157,12 +157,12 @@ prefix-suffix (b ∷ s) = go (ltb b 128) (prefix-suffix s)
     go false r = ap (λ t. b ∷ t) r
 
 pub decoded-accepts : (s : List ℕ) (at v n : ℕ) → Accepted s at v n → decoded s at ≡ Number v n
-unfolding decoded number
+unfolding decoded leb-number
 decoded-accepts s at v n a =
     rw (a .stands, prefix-formed (a .form) (a .rest) (a .formed), a .formed, a .size, a .value, le-leb n 10 (a .short), lt-ltb v (2 ^ 64) (a .small))
 
 pub decoded-only : (s : List ℕ) (at v n : ℕ) → decoded s at ≡ Number v n → Accepted s at v n
-unfolding decoded number
+unfolding decoded leb-number
 decoded-only s at v n e = go (well-formed p) (leb (length p) 10) (ltb (leb-value p) (2 ^ 64)) refl refl refl e
   where
     p : List ℕ
@@ -207,5 +207,5 @@ decoded-encoded p q v h =
 
 -- an offset past the bytes
 pub decoded-past : (s : List ℕ) (at : ℕ) → length s ≤ at → Absent ≡ decoded s at
-unfolding decoded number leb-prefix well-formed
+unfolding decoded leb-number leb-prefix well-formed
 decoded-past s at h = rw (drop-of-length-le s h)

@@ -11,7 +11,7 @@ use lib.Dec.{ltb, leb, lit<}
 use lib.ListN.{length, drop, getD, drop-of-length-le}
 use lib.Seq.{drop-cons}
 use borrow.Author.Tests.{lt-ltb, le-ltb, le-leb, lt-leb}
-use Rattle.text.specs.Leb128.{leb-value, well-formed, leb-prefix, number, decoded}
+use Rattle.text.specs.Leb128.{leb-value, well-formed, leb-prefix, leb-number, decoded}
 use Rattle.text.specs.declared.leb128.Leb.{Leb}
 use Rattle.text.specs.declared.leb128.Leb.the-variants.{Absent, Number}
 use Rattle.slices.proofs.Cases.{lt-or-ge}
@@ -26,7 +26,7 @@ pub reading : List ℕ → ℕ → ℕ → ℕ → ℕ → Leb
 reading s k i unit acc = finish i unit acc (leb-prefix (drop k s))
 
 reading-first : (s : List ℕ) (at : ℕ) → reading s (at + 0) 0 1 0 ≡ decoded s at
-unfolding reading finish decoded number
+unfolding reading finish decoded leb-number
 reading-first s at =
     let a : at + 0 ≡ at = omega arith in
     let l : 0 + length (leb-prefix (drop at s)) ≡ length (leb-prefix (drop at s)) = omega arith in

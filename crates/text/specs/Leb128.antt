@@ -36,12 +36,12 @@ leb-prefix [] = []
 leb-prefix (b ∷ s) = cond (ltb b 128) (b ∷ []) (b ∷ leb-prefix s)
 
 -- the number that these bytes are, unless they are cut, more than ten, or above 64 bits (document 01, "Texts")
-unfoldable pub number : List ℕ → Leb
-number p = cond (well-formed p && (leb (length p) 10 && ltb (leb-value p) (2 ^ 64))) (Number (leb-value p) (length p)) Absent
+unfoldable pub leb-number : List ℕ → Leb
+leb-number p = cond (well-formed p && (leb (length p) 10 && ltb (leb-value p) (2 ^ 64))) (Number (leb-value p) (length p)) Absent
 
 -- the number at an offset
 unfoldable pub decoded : List ℕ → ℕ → Leb
-decoded s at = number (leb-prefix (drop at s))
+decoded s at = leb-number (leb-prefix (drop at s))
 
 -- what the standard and document 01 accept: n bytes at the offset are a number v, of at most ten bytes and 64 bits; longer forms than the shortest too
 pub record Accepted (s : List ℕ) (at v n : ℕ) : Type 0 where
@@ -63,5 +63,5 @@ abbrev pub written : ℕ → List ℕ → Written
 written n s = record { answer = n; bytes = s }
 
 -- the shortest form of v from at on, with its number of bytes; 0, and nothing changed, where it does not fit
-unfoldable pub wrote : List ℕ → ℕ → ℕ → Written
-wrote s at v = cond (leb (at + length (encoded v)) (length s)) (written (length (encoded v)) (sets s at (encoded v))) (written 0 s)
+unfoldable pub wrote-leb : List ℕ → ℕ → ℕ → Written
+wrote-leb s at v = cond (leb (at + length (encoded v)) (length s)) (written (length (encoded v)) (sets s at (encoded v))) (written 0 s)

@@ -3,7 +3,7 @@ ghost use mathlib.Core.Path.{_≡_};
 ghost use Prim.Native.Nat.{_+_, _≤_};
 ghost use lib.ListN.{length};
 ghost use lib.Seq.{sets};
-ghost use Rattle.text.specs.Leb128.{encoded, decoded, wrote, written};
+ghost use Rattle.text.specs.Leb128.{encoded, decoded, wrote-leb, written};
 
 // What reading a number at an offset finds.
 pub enum Leb {
@@ -41,7 +41,7 @@ fn put_leb128(out: &mut [u8], at: usize, v: u64)
 
 // Writes the shortest form of v from at on and answers its number of bytes; 0, and nothing changed, where it doesn't fit.
 pub fn write_leb128(out: &mut [u8], at: usize, v: u64) -> usize
-    ensures { λ r. ⌜ written r (now (out .exit)) ≡ wrote (now (out .entry)) at v ⌝ }
+    ensures { λ r. ⌜ written r (now (out .exit)) ≡ wrote-leb (now (out .entry)) at v ⌝ }
 {
     let n = leb128_len(v);
     if out.len() < n {

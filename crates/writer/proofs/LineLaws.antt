@@ -15,7 +15,7 @@ use Rattle.rows.specs.declared.TextPart.{TextPart}
 use Rattle.rows.specs.declared.FunctionRow.{FunctionRow as FunctionStruct}
 use Rattle.rows.specs.declared.LineRow.{LineRow as LineStruct}
 use Rattle.rows.specs.declared.Boundaries.{Boundaries}
-use Rattle.rows.specs.Columns.{Columns, functionStruct, lineStruct, textOf, boundariesOf, functionAt, lineAt, linesFrom}
+use Rattle.rows.specs.Columns.{Columns, functionStruct, lineStruct, textOf, boundariesOf, treeRow, lineAt, linesFrom}
 use Rattle.rows.proofs.RowLaws.{lineAt-address, lineAt-boundaries}
 use Rattle.memory.specs.Memory.{Words}
 use Rattle.steps.specs.Steps.{no-part, sixOf, locate-six, over-words}
@@ -65,17 +65,17 @@ module _ (f : Fixed) where
   -- what is still to come from there is what was to come
   abbrev pub Goes : List ℕ → ℕ → CallLocationIter → ℕ → ℕ → Words → Type 0
   Goes s j c t below w =
-      Outer (over-words (f .X)) (functionAt (f .k) (f .i) (f .first)) (f .fi) (f .k) (f .first) (f .lines) (f .others .at) (f .others .len) (f .at) (f .n) (f .s) (f .cur) (f .w)
+      Outer (over-words (f .X)) (treeRow (f .k) (f .i) (f .first)) (f .fi) (f .k) (f .first) (f .lines) (f .others .at) (f .others .len) (f .at) (f .n) (f .s) (f .cur) (f .w)
       s j (c .«current_call_location») (c .«next_call_location») t below w
 
   pub goes-start : Goes (f .s) 0 (record { «current_call_location» = f .cur; «next_call_location» = 0 }) 0 0 (f .w)
-  goes-start = starts (over-words (f .X)) (functionAt (f .k) (f .i) (f .first)) (f .fi) (f .k) (f .first) (f .lines) (f .others .at) (f .others .len) (f .at) (f .n) (f .s) (f .cur) (f .w)
+  goes-start = starts (over-words (f .X)) (treeRow (f .k) (f .i) (f .first)) (f .fi) (f .k) (f .first) (f .lines) (f .others .at) (f .others .len) (f .at) (f .n) (f .s) (f .cur) (f .w)
 
   module _ (s : List ℕ) (j : ℕ) (c : CallLocationIter) (t below : ℕ) (w : Words) (o : Goes s j c t below w) where
     pub lines-ended : Kept (f .lines) (f .others) (f .at) (f .n) (f .s) s j c t → f .lines ≤ j
-        → Lined (f .at) (f .n) (loopM input (over-words (f .X)) (functionAt (f .k) (f .i) (f .first)) (f .fi) (linesFrom (f .k) (f .first) (f .lines)) (f .cur) (refsAt (f .s) (f .others .at) (f .others .len)) (pairsAt (f .s) (f .at) (f .n)) 0 (f .w)) (f .s) s w t
+        → Lined (f .at) (f .n) (loopM input (over-words (f .X)) (treeRow (f .k) (f .i) (f .first)) (f .fi) (linesFrom (f .k) (f .first) (f .lines)) (f .cur) (refsAt (f .s) (f .others .at) (f .others .len)) (pairsAt (f .s) (f .at) (f .n)) 0 (f .w)) (f .s) s w t
     lines-ended z h =
-        ended (over-words (f .X)) (functionAt (f .k) (f .i) (f .first)) (f .fi) (f .k) (f .first) (f .lines) (f .others .at) (f .others .len) (f .at) (f .n) (f .s) (f .cur) (f .w)
+        ended (over-words (f .X)) (treeRow (f .k) (f .i) (f .first)) (f .fi) (f .k) (f .first) (f .lines) (f .others .at) (f .others .len) (f .at) (f .n) (f .s) (f .cur) (f .w)
         s j (c .«current_call_location») (c .«next_call_location») t below w o h (z .kept) (z .few)
 
     module _ (h : j < f .lines) (line : LineStruct) (is : line ≡ lineStruct (f .k) (f .first + j)) where
@@ -84,7 +84,7 @@ module _ (f : Fixed) where
 
       pub line-passed : line .address % 4294967296 < below → Goes s (j + 1) c t below w
       line-passed g =
-          line-skipped (over-words (f .X)) (functionAt (f .k) (f .i) (f .first)) (f .fi) (f .k) (f .first) (f .lines) (f .others .at) (f .others .len) (f .at) (f .n) (f .s) (f .cur) (f .w)
+          line-skipped (over-words (f .X)) (treeRow (f .k) (f .i) (f .first)) (f .fi) (f .k) (f .first) (f .lines) (f .others .at) (f .others .len) (f .at) (f .n) (f .s) (f .cur) (f .w)
           s j (c .«current_call_location») (c .«next_call_location») t below w o h (rw cut-is g)
 
       pub line-walked : f .others .at + f .others .len * 2 ≤ f .at
@@ -100,7 +100,7 @@ module _ (f : Fixed) where
           let span : boundaries row ≡ record { from = bd .start; to = bd .end } = lineAt-boundaries (f .k) (f .first + j) ∙ (rw (eb, is) refl) in
           let from : boundaries row .from ≡ bd .start = ap (λ (x : Span). x .from) span in
           let to : boundaries row .to ≡ bd .end = ap (λ (x : Span). x .to) span in
-          line-done (over-words (f .X)) (functionAt (f .k) (f .i) (f .first)) (f .fi) (f .k) (f .first) (f .lines) (f .others .at) (f .others .len) (f .at) (f .n) (f .s) (f .cur) (f .w)
+          line-done (over-words (f .X)) (treeRow (f .k) (f .i) (f .first)) (f .fi) (f .k) (f .first) (f .lines) (f .others .at) (f .others .len) (f .at) (f .n) (f .s) (f .cur) (f .w)
           s j (c .«current_call_location») (c .«next_call_location») t below w o h
           apart (rw cut-is g) (c′ .«current_call_location») (c′ .«next_call_location») p (rw from a) l w₁
           (locate-is (f .k) (f .i) (f .first) (f .X) (f .fi) (f .first + j) (c′ .«current_call_location») w ∙ sym (el ∙ rw (ed, is) refl)) s′ t′ stop w′ (rw (to, from) d)
@@ -110,6 +110,6 @@ pub dir-of : (k : Columns) (i : ℕ) (q : FunctionStruct) (dir : TextPart) → q
 dir-of k i q dir e f = rw e at f
 
 pub left-of : (X : Setup) (k : Columns) (i first fi : ℕ) (own : CallLocations) (rs : Pairs) (s s′ : List ℕ) (w w′ : Words) (n : ℕ) (q : FunctionStruct) → q ≡ functionStruct k i
-    → Lined (rs .at) (rs .len) (loopM input (over-words X) (functionAt k i first) fi (linesFrom k first (q .lines)) (own .first) (refsAt s (own .others .at) (own .others .len)) (pairsAt s (rs .at) (rs .len)) 0 w) s s′ w′ n
+    → Lined (rs .at) (rs .len) (loopM input (over-words X) (treeRow k i first) fi (linesFrom k first (q .lines)) (own .first) (refsAt s (own .others .at) (own .others .len)) (pairsAt s (rs .at) (rs .len)) 0 w) s s′ w′ n
     → LinesLeft X k i first fi own rs s s′ w w′ n
 left-of X k i first fi own rs s s′ w w′ n q e l = rw (ap (λ (x : FunctionStruct). x .lines) e) at l

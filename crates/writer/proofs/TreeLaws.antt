@@ -15,13 +15,13 @@ use Rattle.model.specs.Machine.{Machine, LoopedM, unless-held, put-end, loopM, 
 use Rattle.model.specs.Converter.{Setup, input}
 use Rattle.sorting.specs.Pairs.{pairWords, sortedOf}
 use Rattle.rows.specs.declared.FunctionRow.{FunctionRow as FunctionStruct}
-use Rattle.rows.specs.Columns.{Columns, columns, functionRows, lineRows, functionInColumns, functionStruct, functionAt, textOf}
-use Rattle.rows.proofs.RowLaws.{functionAt-lines, functionAt-skipped}
+use Rattle.rows.specs.Columns.{Columns, columns, functionRows, lineRows, functionInColumns, functionStruct, treeRow, textOf}
+use Rattle.rows.proofs.RowLaws.{treeRow-lines, treeRow-skipped}
 use Rattle.refusals.proofs.Accepted.{Accepted}
 use Rattle.memory.specs.Memory.{Words}
 use Rattle.steps.specs.Steps.{put-range, location, begin-named, over-words}
 use Rattle.steps.proofs.RowTexts.{begin-is}
-use Rattle.scratch.specs.Scratch.{pairsAt, ref-of, refsAt, startAt, lenAt, setCalls, callsOf, topOf, kid-spans, Lined, RowDone}
+use Rattle.scratch.specs.Scratch.{pairsAt, ref-of, refsAt, callsStart, lenAt, setCalls, callsOf, topOf, kid-spans, Lined, RowDone}
 use Rattle.scratch.proofs.Pairs.{pairs-kept}
 use Rattle.scratch.proofs.Rows.{first-line}
 use Rattle.scratch.proofs.Visits.{row-empty, row-skipped, row-visited, calls-root, calls-none, calls-some, visited, passed-over}
@@ -88,7 +88,7 @@ module _ (s : List ℕ) (base : ℕ) where
   below-one : (d : ℕ) → (d ≡ 0 → ⊥) → d ≡ suc (d - 1)
   below-one d h = omega arith
 
-  module _ (d start len : ℕ) (h : d ≡ 0 → ⊥) (e : start ≡ startAt s (d - 1)) (f : len ≡ lenAt s (d - 1)) where
+  module _ (d start len : ℕ) (h : d ≡ 0 → ⊥) (e : start ≡ callsStart s (d - 1)) (f : len ≡ lenAt s (d - 1)) where
     pub own-top : start + len ≡ topOf s d
     unfolding topOf
     own-top = rw (below-one d h, e, f)
@@ -179,22 +179,22 @@ module _ (f64 f32 l64 l32 t : List ℕ) (base i first : ℕ) where
           let z : length (kid-spans k₀ (q .depth) (i + 1) (first + q .lines)) ≡ length (row-spans k i first) = ap length same-spans in
           record { within = lines-room; room = omega (arith, ready .room, o .count); apart = h }
 
-      pub row-walked : (X : Setup) (fi m : ℕ) (s s₂ s₃ s₄ : List ℕ) (w w₁ w₃ w₄ : Words) → skipped (functionAt k i first) ≡ false
+      pub row-walked : (X : Setup) (fi m : ℕ) (s s₂ s₃ s₄ : List ℕ) (w w₁ w₃ w₄ : Words) → skipped (treeRow k i first) ≡ false
           → Sorted (base + top * 2) (kid-spans k₀ (q .depth) (i + 1) (first + q .lines)) n s s₂ → length s₃ ≡ size
           → (fi, w₁) ≡ begin-named (cond (X .functions-on) (undecorated (textOf t (q .name))) (textOf t (q .name))) (cond (q .inline) MAX (q .address % 4294967296)) (q .language) w
           → LinesLeft X k i first fi calls inlinees s₂ s₃ w₁ w₃ m
-          → w₄ ≡ closingM input (over-words X) (functionAt k i first) fi w₃ → s₄ ≡ setCalls s₃ (q .depth) top m
+          → w₄ ≡ closingM input (over-words X) (treeRow k i first) fi w₃ → s₄ ≡ setCalls s₃ (q .depth) top m
           → (a : ℕ) → RowLeft X k base i first top (calls-of s a calls) s s₄ w w₄
-      unfolding functionAt
+      unfolding treeRow
       row-walked X fi m s s₂ s₃ s₄ w w₁ w₃ w₄ z o l b d c y a =
           let o′ : Sorted (base + top * 2) (row-spans k i first) n s s₂ = rw same-spans at o in
-          let b′ : over-words X .begin (functionAt k i first) w ≡ (fi, w₁) = begin-is k i first X w z ∙ sym (rw e at b) in
+          let b′ : over-words X .begin (treeRow k i first) w ≡ (fi, w₁) = begin-is k i first X w z ∙ sym (rw e at b) in
           let at = calls .others .at in
           let len = calls .others .len in
-          let d′ : Lined (base + top * 2) (length (row-spans k i first)) (loopM input (over-words X) (functionAt k i first) fi (functionAt k i first .lines) (calls .first) (refsAt s₂ at len) (pairsAt s₂ (base + top * 2) (length (row-spans k i first))) 0 w₁) s₂ s₃ w₃ m =
-          rw (functionAt-lines k i first) (rw (o′ .count) at d) in
+          let d′ : Lined (base + top * 2) (length (row-spans k i first)) (loopM input (over-words X) (treeRow k i first) fi (treeRow k i first .lines) (calls .first) (refsAt s₂ at len) (pairsAt s₂ (base + top * 2) (length (row-spans k i first))) 0 w₁) s₂ s₃ w₃ m =
+          rw (treeRow-lines k i first) (rw (o′ .count) at d) in
           rw (c, y, e)
-          (row-done (over-words X) (functionAt k i first) (row-spans k i first) base (functionInColumns f64 f32 i .depth) top at len (calls .first) s s₂ s₃ w w₁ w₃ fi m n o′ z h (ready .low) (omega (arith, ready .room)) b′ d′ a)
+          (row-done (over-words X) (treeRow k i first) (row-spans k i first) base (functionInColumns f64 f32 i .depth) top at len (calls .first) s s₂ s₃ w w₁ w₃ fi m n o′ z h (ready .low) (omega (arith, ready .room)) b′ d′ a)
 
   -- ── A row, visited or not ──
 
@@ -206,8 +206,8 @@ module _ (f64 f32 l64 l32 t : List ℕ) (base i first : ℕ) where
       is′ : OwnCalls s base (functionInColumns f64 f32 i .depth) own
       is′ = rw e at is
 
-      skip-is : skipped (functionAt k i first) ≡ cond (eqb (q .size) 0) true (ltb MAX (q .address))
-      skip-is = functionAt-skipped k i first ∙ rw e refl
+      skip-is : skipped (treeRow k i first) ≡ cond (eqb (q .size) 0) true (ltb MAX (q .address))
+      skip-is = treeRow-skipped k i first ∙ rw e refl
 
       -- "No call location made", or skipped
       pub row-passed : (X : Setup) (w : Words) (s′ : List ℕ) → flag ≡ true → s′ ≡ setCalls s (q .depth) (own .top) 0
@@ -217,12 +217,12 @@ module _ (f64 f32 l64 l32 t : List ℕ) (base i first : ℕ) where
           (passed-over base (functionInColumns f64 f32 i .depth) (topOf s (functionInColumns f64 f32 i .depth)) (length (row-spans k i first)) (ready .low) s _ w (omega (arith, ready .room)) (go (own .some) refl (sym f ∙ z)))
         where
           go : (b : Bool) → own .some ≡ b → cond b (cond (eqb (q .size) 0) true (ltb MAX (q .address))) true ≡ true
-              → rowM input (over-words X) (functionAt k i first) (row-spans k i first) (callsOf s base (functionInColumns f64 f32 i .depth)) w ≡ record { state = w; calls = [] }
-          go true x g = row-skipped input (over-words X) (functionAt k i first) (row-spans k i first) w (callsOf s base (functionInColumns f64 f32 i .depth)) (skip-is ∙ g)
-          go false x g = rw (is′ .none x) (row-empty input (over-words X) (functionAt k i first) (row-spans k i first) w)
+              → rowM input (over-words X) (treeRow k i first) (row-spans k i first) (callsOf s base (functionInColumns f64 f32 i .depth)) w ≡ record { state = w; calls = [] }
+          go true x g = row-skipped input (over-words X) (treeRow k i first) (row-spans k i first) w (callsOf s base (functionInColumns f64 f32 i .depth)) (skip-is ∙ g)
+          go false x g = rw (is′ .none x) (row-empty input (over-words X) (treeRow k i first) (row-spans k i first) w)
 
       module _ (z : flag ≡ false) where
-        both : (b : Bool) → own .some ≡ b → cond b (cond (eqb (q .size) 0) true (ltb MAX (q .address))) true ≡ false → (own .some ≡ true) × (skipped (functionAt k i first) ≡ false)
+        both : (b : Bool) → own .some ≡ b → cond b (cond (eqb (q .size) 0) true (ltb MAX (q .address))) true ≡ false → (own .some ≡ true) × (skipped (treeRow k i first) ≡ false)
         both true x g = (x, skip-is ∙ g)
         both false x g = absurd (true≢false g)
 

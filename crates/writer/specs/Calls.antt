@@ -8,7 +8,7 @@ use lib.ListN.{length}
 use Rattle.model.specs.Machine.{convertM, startM, convert-symbolM}
 use Rattle.model.specs.Converter.{Setup, input, deep}
 use Rattle.rows.specs.Columns.{Columns, treeRows}
-use Rattle.refusals.specs.Refusals.{refusalOf, optional?}
+use Rattle.refusals.specs.Refusals.{treeRefusal, optional?}
 use Rattle.rows.specs.declared.OptionalPart.{OptionalPart}
 use Rattle.memory.specs.Memory.{Memory, Words, zeroed}
 use Rattle.memory.specs.Record.{fits?, usable?, with-state, words-of, unused, begun}
@@ -47,7 +47,7 @@ rows-converted c m k = convertM input (over-words (setup c)) (map deep (treeRows
 unfoldable pub treeOf : Converter → Memory → List ℕ → Columns → Called
 treeOf c m s k =
     cond (usable? c m)
-    (cond (eqb (refusalOf k (length s)) 0) (finished c s (rows-converted c m k)) (called (refusalOf k (length s)) c m s))
+    (cond (eqb (treeRefusal k (length s)) 0) (finished c s (rows-converted c m k)) (called (treeRefusal k (length s)) c m s))
     (called 19 c m s)
 
 -- ── A symbol ───────────────────────────────────────────────────────────────────────────────────────────────────────────

@@ -8,7 +8,7 @@ use Rattle.model.specs.Basics.{Span, sort}
 use Rattle.model.specs.Rows.{skipped}
 use Rattle.model.specs.Machine.{Ref, CursorM, loopM, rowM, convertM, startM}
 use Rattle.model.specs.Converter.{Setup, input, deep}
-use Rattle.rows.specs.Columns.{Columns, functionRows, functionStruct, functionAt, linesFrom, treeRows}
+use Rattle.rows.specs.Columns.{Columns, functionRows, functionStruct, treeRow, linesFrom, treeRows}
 use Rattle.rows.specs.declared.FunctionRow.{FunctionRow as FunctionStruct}
 use Rattle.refusals.specs.Refusals.{firstLine}
 use Rattle.memory.specs.Memory.{Words}
@@ -42,7 +42,7 @@ LinesLeft X k i first fi own inlinees s s′ w w′ n =
     let lines = linesFrom k first (functionStruct k i .lines) in
     let calls = refsAt s (own .others .at) (own .others .len) in
     let spans = pairsAt s (inlinees .at) (inlinees .len) in
-    Lined (inlinees .at) (inlinees .len) (loopM input (over-words X) (functionAt k i first) fi lines (own .first) calls spans 0 w) s s′ w′ n
+    Lined (inlinees .at) (inlinees .len) (loopM input (over-words X) (treeRow k i first) fi lines (own .first) calls spans 0 w) s s′ w′ n
 
 -- ── Call locations ──
 
@@ -98,13 +98,13 @@ pub record VisitReady (k : Columns) (size base : ℕ) (r : InProgressFunction) (
   pub is : r .function ≡ functionStruct k (r .i)
   pub ready : RowReady k size base (r .i) (r .«first_line») (own .top)
   pub below : own .«call_locations» .others .at + own .«call_locations» .others .len * 2 ≤ base + own .top * 2
-  pub visited : skipped (functionAt k (r .i) (r .«first_line»)) ≡ false
+  pub visited : skipped (treeRow k (r .i) (r .«first_line»)) ≡ false
 
 -- what a row leaves, where `cs` are its call locations
 abbrev pub RowLeft : Setup → Columns → ℕ → ℕ → ℕ → ℕ → List (Ref ℕ) → List ℕ → List ℕ → Words → Words → Type 0
 RowLeft X k base i first top cs s s′ w w′ =
     let spans = row-spans k i first in
-    RowDone base (functionStruct k i .depth) top (length spans) (rowM input (over-words X) (functionAt k i first) spans cs w) s s′ w′
+    RowDone base (functionStruct k i .depth) top (length spans) (rowM input (over-words X) (treeRow k i first) spans cs w) s s′ w′
 
 -- with the call locations of its depth
 abbrev pub RowConverted : Setup → Columns → ℕ → InProgressFunction → List ℕ → List ℕ → Words → Words → Type 0

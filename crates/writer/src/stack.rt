@@ -9,7 +9,7 @@ ghost use lib.ListN.{length, set};
 ghost use lib.Seq.{sets};
 ghost use Rattle.sorting.specs.Pairs.{pairWords};
 ghost use Rattle.rows.specs.Columns.{columns};
-ghost use Rattle.scratch.specs.Scratch.{startAt, lenAt, setCalls, line-spans, kid-spans};
+ghost use Rattle.scratch.specs.Scratch.{callsStart, lenAt, setCalls, line-spans, kid-spans};
 ghost use Rattle.writer.specs.Walk.{GatherReady};
 use slices::put;
 use slices::word;
@@ -28,7 +28,7 @@ pub(crate) struct Calls {
 
 // The call locations for depth d + 1.
 pub(crate) fn calls_at(s: &[u32], d: u32) -> Calls
-    ensures { λ r. ⌜ (r .start ≡ startAt (now (s .entry)) d) × (r .len ≡ lenAt (now (s .entry)) d) ⌝ }
+    ensures { λ r. ⌜ (r .start ≡ callsStart (now (s .entry)) d) × (r .len ≡ lenAt (now (s .entry)) d) ⌝ }
 {
     let k = (d as usize) * 4;
     let a = word(s, k) as usize;

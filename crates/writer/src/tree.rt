@@ -27,7 +27,7 @@ ghost use Rattle.model.specs.Rows.{FunctionRow as ModelRow};
 ghost use Rattle.model.specs.Machine.{entryM, closingM};
 ghost use Rattle.model.specs.Converter.{Setup, input};
 ghost use Rattle.rows.specs.Columns.{columns, textOf};
-ghost use Rattle.refusals.specs.Refusals.{refusalOf};
+ghost use Rattle.refusals.specs.Refusals.{treeRefusal};
 ghost use Rattle.memory.specs.Memory.{words};
 ghost use Rattle.steps.specs.Steps.{gave, begin-named, over-words};
 ghost use Rattle.scratch.specs.Scratch.{topOf, kid-spans};
@@ -381,7 +381,7 @@ fn process_rows(
     lines32: &[u32],
     text: &[u8],
 ) -> State
-    requires { ⌜ refusalOf (columns (now functions64) (now functions32) (now lines64) (now lines32) (now text)) (length (now s)) ≡ 0 ⌝ }
+    requires { ⌜ treeRefusal (columns (now functions64) (now functions32) (now lines64) (now lines32) (now text)) (length (now s)) ≡ 0 ⌝ }
     ensures { λ r. ⌜ ((Y : Bool) →
         let k = columns (now (functions64 .entry)) (now (functions32 .entry)) (now (lines64 .entry)) (now (lines32 .entry)) (now (text .entry)) in
         let before = words state (now («string_bytes» .entry)) (now (strings .entry)) (now (files .entry))
@@ -444,7 +444,7 @@ pub(crate) fn process_tree(
     lines32: &[u32],
     text: &[u8],
 ) -> State
-    requires { ⌜ refusalOf (columns (now functions64) (now functions32) (now lines64) (now lines32) (now text)) (length (now s)) ≡ 0 ⌝ }
+    requires { ⌜ treeRefusal (columns (now functions64) (now functions32) (now lines64) (now lines32) (now text)) (length (now s)) ≡ 0 ⌝ }
     ensures { λ r. ⌜ ((Y : Bool) →
         let k = columns (now (functions64 .entry)) (now (functions32 .entry)) (now (lines64 .entry)) (now (lines32 .entry)) (now (text .entry)) in
         let before = words state (now («string_bytes» .entry)) (now (strings .entry)) (now (files .entry))

@@ -2,7 +2,7 @@
 use mathlib.Core.Path.{sym}
 use lib.Seq.{length-take-le}
 use Rattle.memory.specs.Memory.{memory}
-use Rattle.c_words.specs.Writing.{left}
+use Rattle.c_words.specs.Writing.{callLeft}
 use Rattle.c_trees.proofs.LinesLaws.{unpacked-refused, unpacked-16-64, unpacked-16-32, unpacked-taken, fits64, fits32}
 use borrow.Author.Needs.{needs}
 use Rattle.c_trees.proofs.process_unpacked.Statement.{statement}
@@ -51,7 +51,7 @@ returns-4 c =
     unpacked-taken (a .refused) (a .lines) (a .«record» .now) (memory (a .string-bytes .now) (a .strings .now) (a .files .now) (a .functions .now) (a .call-locations .now) (a .ranges .now))
     (a .scratch .now) (a .unpacked64 .now) (a .unpacked32 .now) (a .functions64 .now) (a .functions32 .now) (a .text .now)
     (first .if1 .left) (third .before .if2 .left) (third .if3 .left)
-    {o = left (p .result) (p .last .0) (memory (p .last .1 .0) (p .last .1 .1 .0) (p .last .1 .1 .1 .0) (p .last .1 .1 .1 .1 .0) (p .last .1 .1 .1 .1 .1 .0) (p .last .1 .1 .1 .1 .1 .1 .0)) (p .last .1 .1 .1 .1 .1 .1 .1 .0)}
+    {o = callLeft (p .result) (p .last .0) (memory (p .last .1 .0) (p .last .1 .1 .0) (p .last .1 .1 .1 .0) (p .last .1 .1 .1 .1 .0) (p .last .1 .1 .1 .1 .1 .0) (p .last .1 .1 .1 .1 .1 .1 .0)) (p .last .1 .1 .1 .1 .1 .1 .1 .0)}
     (p .ensures) (c .before .before .before .before .before .before .zero64 .ensures) (c .before .before .zero .ensures)
 
 pub process-unpacked-spec : {M : Type 1} → statement M

@@ -7,20 +7,20 @@ use lib.ListN.{length}
 use borrow.Author.Needs.{needs}
 use borrow.Author.Tests.{lt-ltb, le-ltb}
 use Rattle.tables.specs.Table.{capacityOf, overOf}
-use Rattle.strings.specs.Strings.{fullOf, stored}
+use Rattle.strings.specs.Strings.{fullOf, textStored}
 use Rattle.strings.proofs.full.Statement.{statement}
 use Rattle.strings.proofs.full.Tie as tie
 
 module _ (bytes count size limit cap : ℕ) {r : Bool} (e : r ≡ leb (bytes + size) limit) where
-  no-row : r ≡ true → {n : ℕ} → n ≡ overOf count cap → stored bytes bytes n ≡ fullOf bytes count size limit cap
+  no-row : r ≡ true → {n : ℕ} → n ≡ overOf count cap → textStored bytes bytes n ≡ fullOf bytes count size limit cap
   unfolding fullOf
   no-row h f = rw (← e, h, f)
 
-  above : r ≡ false → limit < bytes → stored bytes bytes count ≡ fullOf bytes count size limit cap
+  above : r ≡ false → limit < bytes → textStored bytes bytes count ≡ fullOf bytes count size limit cap
   unfolding fullOf overOf
   above h p = rw (← e, h, lt-ltb limit bytes p)
 
-  next : r ≡ false → bytes ≤ limit → stored bytes (limit + 1) count ≡ fullOf bytes count size limit cap
+  next : r ≡ false → bytes ≤ limit → textStored bytes (limit + 1) count ≡ fullOf bytes count size limit cap
   unfolding fullOf overOf
   next h p = rw (← e, h, le-ltb limit bytes p)
 

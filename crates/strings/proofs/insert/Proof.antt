@@ -6,19 +6,19 @@ use borrow.Author.Needs.{needs}
 use borrow.Author.Tests.{eq-eqb, ne-eqb, lt-ltb, le-ltb}
 use Rattle.tables.specs.Table.{rowAt}
 use Rattle.tables.specs.Kinds.{textOfRow}
-use Rattle.strings.specs.Strings.{findText, storeOf, insertTextAt, insertTextOf, StringsLeft, stringsLeft, stored}
+use Rattle.strings.specs.Strings.{findText, storeOf, insertTextAt, insertTextOf, StringsLeft, stringsLeft, textStored}
 use Rattle.tables.specs.declared.Row.{Row}
 use Rattle.tables.specs.declared.kinds.IndexedText.{IndexedText}
 use Rattle.strings.proofs.insert.Statement.{statement}
 use Rattle.strings.proofs.insert.Tie as tie
 
 module _ (text strings : List ℕ) (bytes count : ℕ) (t : List ℕ) where
-  empty : length t ≡ 0 → stringsLeft (stored 4294967295 bytes count) text strings ≡ insertTextOf text strings bytes count t
+  empty : length t ≡ 0 → stringsLeft (textStored 4294967295 bytes count) text strings ≡ insertTextOf text strings bytes count t
   unfolding insertTextOf
   empty e = rw (eq-eqb (length t) 0 e)
 
   module _ (n : length t ≡ 0 → ⊥) {i : ℕ} (e : i ≡ findText text strings count t) where
-    found : i < count → {r : Row} {x : IndexedText} → r ≡ rowAt strings i → x ≡ textOfRow r → stringsLeft (stored (x .offset) bytes count) text strings ≡ insertTextOf text strings bytes count t
+    found : i < count → {r : Row} {x : IndexedText} → r ≡ rowAt strings i → x ≡ textOfRow r → stringsLeft (textStored (x .offset) bytes count) text strings ≡ insertTextOf text strings bytes count t
     unfolding insertTextOf insertTextAt
     found h f g = rw (ne-eqb (length t) 0 n, ← e, lt-ltb i count h, g, f)
 

@@ -12,7 +12,7 @@ use Rattle.slices.proofs.Cases.{both-true}
 use Rattle.text.specs.Leb128.{encoded}
 use Rattle.tables.specs.Table.{capacityOf, pushOf, Left, left}
 use Rattle.tables.specs.Kinds.{rowOfText}
-use Rattle.strings.specs.Strings.{maxBytes, textCapacityOf, textSize, storedText, textHash, textRow, indexOf, fullOf, storeOf, stringsLeft, stored}
+use Rattle.strings.specs.Strings.{maxBytes, textCapacityOf, textSize, storedText, textHash, textRow, indexOf, fullOf, storeOf, stringsLeft, textStored}
 use Rattle.tables.specs.declared.Row.{Row}
 use Rattle.strings.specs.declared.Stored.{Stored}
 use Rattle.strings.proofs.TextRoom.{TextRoom, text-room}
@@ -50,7 +50,7 @@ module _ (text strings : List ℕ) (bytes count : ℕ) (t : List ℕ) {cap limit
 
   storing : f ≡ true → {hash start : ℕ} {text₁ : List ℕ} {y : Left ℕ} → hash ≡ textHash t → start ≡ bytes + prefix → text₁ ≡ sets text bytes (storedText t)
       → y ≡ left (count + 1) (indexOf cap strings count (rowOfText (record { offset = bytes; start = start; len = length t; hash = hash })))
-      → stringsLeft (stored bytes (start + length t) (y .got)) text₁ (y .table) ≡ storeOf text strings bytes count t
+      → stringsLeft (textStored bytes (start + length t) (y .got)) text₁ (y .table) ≡ storeOf text strings bytes count t
   unfolding storeOf textRow
   storing h {start = start} g s u v =
       let k : start + length t ≡ bytes + (prefix + length t) = omega arith in

@@ -6,15 +6,15 @@ use lib.ListN.{length}
 use lib.Seq.{sets}
 use borrow.Author.Needs.{needs}
 use borrow.Author.Tests.{le-leb}
-use Rattle.text.specs.Leb128.{encoded, wrote, written, Written}
+use Rattle.text.specs.Leb128.{encoded, wrote-leb, written, Written}
 use Rattle.slices.proofs.Bytes.{sets-join}
 use Rattle.strings.specs.Strings.{storedText}
 use Rattle.strings.proofs.write.Statement.{statement}
 use Rattle.strings.proofs.write.Tie as tie
 
-module _ (text : List ℕ) (at start : ℕ) (t : List ℕ) {n : ℕ} {text₁ : List ℕ} (p : (start ≡ at + length (encoded (length t))) × (start + length t ≤ length text)) (e : written n text₁ ≡ wrote text at (length t)) where
+module _ (text : List ℕ) (at start : ℕ) (t : List ℕ) {n : ℕ} {text₁ : List ℕ} (p : (start ≡ at + length (encoded (length t))) × (start + length t ≤ length text)) (e : written n text₁ ≡ wrote-leb text at (length t)) where
   prefixed : text₁ ≡ sets text at (encoded (length t))
-  unfolding wrote
+  unfolding wrote-leb
   prefixed =
       let s = p .0 in
       let k = p .1 in

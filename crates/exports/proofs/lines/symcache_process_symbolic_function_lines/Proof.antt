@@ -47,7 +47,7 @@ use Rattle.line_rows.specs.Lines.{words64, words32, lineColumns, linesTexts?, u
 use Rattle.line_rows.specs.Numbers.{usableBy, numberOf}
 use Rattle.line_rows.proofs.Again.{LentAgain, lends-again, comes-back}
 use Rattle.c_words.specs.Record.{converterOf}
-use Rattle.c_words.specs.Writing.{left, linesLeft, linesCall}
+use Rattle.c_words.specs.Writing.{callLeft, linesLeft, linesCall}
 use Rattle.c_trees.specs.Unpacked.{unpackedCall}
 use Rattle.c_trees.proofs.LinesLaws.{lines-made}
 use Rattle.line_rows.proofs.lines_texts as lines-texts
@@ -263,14 +263,14 @@ module _ {M : Type 1} (𝓤 : URA M) (H : Heap 𝓤) (A : Atoms 𝓤) (W : Given
       qed W ((‵ (flft κ0 q0) ⊛ ‵ (flft κ1 q1) ⊛ ‵ (flft κ2 q2) ⊛ ‵ (flft κ3 q3) ⊛ ‵ (flft κ4 q4) ⊛ ‵ (flft κ5 q5) ⊛ ‵ (flft κ6 q6) ⊛ ‵ (flft κ7 q7) ⊛ ‵ (flft κ8 q8) ⊛ ‵ (flft κ9 q9) ⊛ ‵ (flft κ10 q10) ⊛ ‵ (flft κ11 q11) ⊛ ‵ (flft κ13 q13) ⊛ ‵ ftrue) ∷ ‵ (owns (u32 ∷ usize ∷ MutSlice (named 0) κ0 u32 ∷ MutSlice (named 1) κ1 u8 ∷ MutSlice (named 2) κ2 u32 ∷ MutSlice (named 3) κ3 u32 ∷ MutSlice (named 4) κ4 u32 ∷ MutSlice (named 5) κ5 u32 ∷ MutSlice (named 6) κ6 u32 ∷ MutSlice (named 7) κ7 u32 ∷ MutSlice (named 8) κ8 u64 ∷ MutSlice (named 9) κ9 u32 ∷ ShrSlice (named 10) κ10 u64 ∷ ShrSlice (named 11) κ11 u32 ∷ ShrSlice (named 12) κ13 u8 ∷ []) (process-args r w u v) (process-vals r)) ∷ []) ∵ join ! $ frame ! $ done !
 
   abbrev Processed : ℕ → List ℕ → List ℕ → List ℕ → ℕ → List ℕ → List ℕ → List ℕ → List ℕ → List ℕ → List ℕ → List ℕ → List ℕ → List ℕ → List ℕ → Type 0
-  Processed refused w u v r z0 z1 z2 z3 z4 z5 z6 z7 z8 z9 = linesLeft (left r z0 (memory z1 z2 z3 z4 z5 z6) z7) z8 z9 ≡ unpackedCall refused (length (t12 .now)) w (memory (t1 .now) (t2 .now) (t3 .now) (t4 .now) (t5 .now) (t6 .now)) (t7 .now) u v (t10 .now) (t11 .now) (t13 .now)
+  Processed refused w u v r z0 z1 z2 z3 z4 z5 z6 z7 z8 z9 = linesLeft (callLeft r z0 (memory z1 z2 z3 z4 z5 z6) z7) z8 z9 ≡ unpackedCall refused (length (t12 .now)) w (memory (t1 .now) (t2 .now) (t3 .now) (t4 .now) (t5 .now) (t6 .now)) (t7 .now) u v (t10 .now) (t11 .now) (t13 .now)
 
   -- what is had when it returns
   abbrev Ended : ℕ → Val → List ℕ → List ℕ → List ℕ → List ℕ → List ℕ → List ℕ → List ℕ → List ℕ → List ℕ → List ℕ → List (Item 𝓤)
   Ended r w z0 z1 z2 z3 z4 z5 z6 z7 z8 z9 = ‵ (flft κ12 q12) ∷ (‵ (flft κ0 q0) ⊛ ‵ (flft κ1 q1) ⊛ ‵ (flft κ2 q2) ⊛ ‵ (flft κ3 q3) ⊛ ‵ (flft κ4 q4) ⊛ ‵ (flft κ5 q5) ⊛ ‵ (flft κ6 q6) ⊛ ‵ (flft κ7 q7) ⊛ ‵ (flft κ8 q8) ⊛ ‵ (flft κ9 q9) ⊛ ‵ (flft κ10 q10) ⊛ ‵ (flft κ11 q11) ⊛ ‵ (flft κ13 q13) ⊛ ‵ ftrue) ∷ ‵ Own10 ∷ ‵ Own11 ∷ ‵ Own12 ∷ ‵ Own13 ∷ ‵ (finally u32 γ0 z0) ∷ ‵ (finally u8 (t1 .name) z1) ∷ ‵ (finally u32 (t2 .name) z2) ∷ ‵ (finally u32 (t3 .name) z3) ∷ ‵ (finally u32 (t4 .name) z4) ∷ ‵ (finally u32 (t5 .name) z5) ∷ ‵ (finally u32 (t6 .name) z6) ∷ ‵ (finally u32 (t7 .name) z7) ∷ ‵ (finally u64 γ8 z8) ∷ ‵ (finally u32 γ9 z9) ∷ ‵ (u32 .own r (w ∷ [])) ∷ []
 
   exits : (r : ℕ) (w : Val) (z0 z1 z2 z3 z4 z5 z6 z7 z8 z9 : List ℕ) → length z0 ≡ length w₀ → length z1 ≡ length (t1 .now) → length z2 ≡ length (t2 .now) → length z3 ≡ length (t3 .now) → length z4 ≡ length (t4 .now) → length z5 ≡ length (t5 .now) → length z6 ≡ length (t6 .now) → length z7 ≡ length (t7 .now) → length z8 ≡ length u₀ → length z9 ≡ length v₀
-      → linesLeft (left r z0 (memory z1 z2 z3 z4 z5 z6) z7) z8 z9 ≡ linesCall w₀ (memory (t1 .now) (t2 .now) (t3 .now) (t4 .now) (t5 .now) (t6 .now)) (t7 .now) u₀ v₀ (lineColumns (t10 .now) (t11 .now) (t12 .now) (t13 .now)) → ent 𝓤 (⋆ 𝓤 H A (Ended r w z0 z1 z2 z3 z4 z5 z6 z7 z8 z9)) (Post w)
+      → linesLeft (callLeft r z0 (memory z1 z2 z3 z4 z5 z6) z7) z8 z9 ≡ linesCall w₀ (memory (t1 .now) (t2 .now) (t3 .now) (t4 .now) (t5 .now) (t6 .now)) (t7 .now) u₀ v₀ (lineColumns (t10 .now) (t11 .now) (t12 .now) (t13 .now)) → ent 𝓤 (⋆ 𝓤 H A (Ended r w z0 z1 z2 z3 z4 z5 z6 z7 z8 z9)) (Post w)
   exits r w z0 z1 z2 z3 z4 z5 z6 z7 z8 z9 n0 n1 n2 n3 n4 n5 n6 n7 n8 n9 e =
       qed W (Ended r w z0 z1 z2 z3 z4 z5 z6 z7 z8 z9) ∵
       suffices ! _ (ends-at 𝓤 H A exported.ended stayed (exported.clauses 𝓤 H A mem run) W ((κs, qs, tt, a, vals), tt) w r (z0, (z1, (z2, (z3, (z4, (z5, (z6, (z7, (z8, (z9, (tt, (tt, (tt, (tt, tt)))))))))))))) (n0, (n1, (n2, (n3, (n4, (n5, (n6, (n7, (n8, (n9, (tt, (tt, (tt, (tt, tt))))))))))))))) $ says ! e $
@@ -288,7 +288,7 @@ module _ {M : Type 1} (𝓤 : URA M) (H : Heap 𝓤) (A : Atoms 𝓤) (W : Given
 
     -- the return: the locals are given up
     tail : {v1 v2 v3 v4 v5 v6 v7 v8 v9 v10 v11 v12 v13 v14 v15 v16 v17 v18 v19 v20 v21 v22 v23 v24 v25 v26 v27 v28 v29 v30 v31 v32 v33 v34 v35 v36 v37 v38 v39 v40 v41 v42 v43 v44 v45 v46 v47 v48 v49 v50 v51 v52 v53 : Val} (r : ℕ) (w : Val) (z0 z1 z2 z3 z4 z5 z6 z7 z8 z9 : List ℕ) → length z0 ≡ length w₀ → length z1 ≡ length (t1 .now) → length z2 ≡ length (t2 .now) → length z3 ≡ length (t3 .now) → length z4 ≡ length (t4 .now) → length z5 ≡ length (t5 .now) → length z6 ≡ length (t6 .now) → length z7 ≡ length (t7 .now) → length z8 ≡ length u₀ → length z9 ≡ length v₀
-        → linesLeft (left r z0 (memory z1 z2 z3 z4 z5 z6) z7) z8 z9 ≡ linesCall w₀ (memory (t1 .now) (t2 .now) (t3 .now) (t4 .now) (t5 .now) (t6 .now)) (t7 .now) u₀ v₀ (lineColumns (t10 .now) (t11 .now) (t12 .now) (t13 .now))
+        → linesLeft (callLeft r z0 (memory z1 z2 z3 z4 z5 z6) z7) z8 z9 ≡ linesCall w₀ (memory (t1 .now) (t2 .now) (t3 .now) (t4 .now) (t5 .now) (t6 .now)) (t7 .now) u₀ v₀ (lineColumns (t10 .now) (t11 .now) (t12 .now) (t13 .now))
         → Sq W (‵ (fat fullShare (tyInt w32) l0 0 w) ∷ ‵ (fdies (tyInt w32) l0) ∷ ‵ (fat fullShare (sliceTy (tyRef (named 0) mut (tyInt w32))) l1 0 v1) ∷ ‵ (fdies (sliceTy (tyRef (named 0) mut (tyInt w32))) l1) ∷ ‵ (fat fullShare (sliceTy (tyRef (named 1) mut (tyInt w8))) l2 0 v2) ∷ ‵ (fdies (sliceTy (tyRef (named 1) mut (tyInt w8))) l2) ∷ ‵ (fat fullShare (sliceTy (tyRef (named 2) mut (tyInt w32))) l3 0 v3) ∷ ‵ (fdies (sliceTy (tyRef (named 2) mut (tyInt w32))) l3) ∷ ‵ (fat fullShare (sliceTy (tyRef (named 3) mut (tyInt w32))) l4 0 v4) ∷ ‵ (fdies (sliceTy (tyRef (named 3) mut (tyInt w32))) l4) ∷ ‵ (fat fullShare (sliceTy (tyRef (named 4) mut (tyInt w32))) l5 0 v5) ∷ ‵ (fdies (sliceTy (tyRef (named 4) mut (tyInt w32))) l5) ∷ ‵ (fat fullShare (sliceTy (tyRef (named 5) mut (tyInt w32))) l6 0 v6) ∷ ‵ (fdies (sliceTy (tyRef (named 5) mut (tyInt w32))) l6) ∷ ‵ (fat fullShare (sliceTy (tyRef (named 6) mut (tyInt w32))) l7 0 v7) ∷ ‵ (fdies (sliceTy (tyRef (named 6) mut (tyInt w32))) l7) ∷ ‵ (fat fullShare (sliceTy (tyRef (named 7) mut (tyInt w32))) l8 0 v8) ∷ ‵ (fdies (sliceTy (tyRef (named 7) mut (tyInt w32))) l8) ∷ ‵ (fat fullShare (sliceTy (tyRef (named 8) mut (tyInt w64))) l9 0 v9) ∷ ‵ (fdies (sliceTy (tyRef (named 8) mut (tyInt w64))) l9) ∷ ‵ (fat fullShare (sliceTy (tyRef (named 9) mut (tyInt w32))) l10 0 v10) ∷ ‵ (fdies (sliceTy (tyRef (named 9) mut (tyInt w32))) l10) ∷ ‵ (fat fullShare (sliceTy (tyRef (named 10) imm (tyInt w64))) l11 0 v11) ∷ ‵ (fdies (sliceTy (tyRef (named 10) imm (tyInt w64))) l11) ∷ ‵ (fat fullShare (sliceTy (tyRef (named 11) imm (tyInt w32))) l12 0 v12) ∷ ‵ (fdies (sliceTy (tyRef (named 11) imm (tyInt w32))) l12) ∷ ‵ (fat fullShare (sliceTy (tyRef (named 12) imm (pointee (T.the-row .written)))) l13 0 v13) ∷ ‵ (fdies (sliceTy (tyRef (named 12) imm (pointee (T.the-row .written)))) l13) ∷ ‵ (fat fullShare (sliceTy (tyRef (named 13) imm (tyInt w8))) l14 0 v14) ∷ ‵ (fdies (sliceTy (tyRef (named 13) imm (tyInt w8))) l14) ∷ ‵ (fat fullShare tyBool l15 0 v15) ∷ ‵ (fdies tyBool l15) ∷ ‵ (fat fullShare (tyInt w32) l16 0 v16) ∷ ‵ (fdies (tyInt w32) l16) ∷ ‵ (fat fullShare (tyRef erased mut (tyInt w32)) l17 0 v17) ∷ ‵ (fdies (tyRef erased mut (tyInt w32)) l17) ∷ ‵ (fat fullShare (sliceTy (tyRef erased mut (tyInt w32))) l18 0 v18) ∷ ‵ (fdies (sliceTy (tyRef erased mut (tyInt w32))) l18) ∷ ‵ (fat fullShare (tyInt w64) l19 0 v19) ∷ ‵ (fdies (tyInt w64) l19) ∷ ‵ (fat fullShare (tyInt w64) l20 0 v20) ∷ ‵ (fdies (tyInt w64) l20) ∷ ‵ (fat fullShare (tyInt w64) l21 0 v21) ∷ ‵ (fdies (tyInt w64) l21) ∷ ‵ (fat fullShare (tyInt w64) l22 0 v22) ∷ ‵ (fdies (tyInt w64) l22) ∷ ‵ (fat fullShare (tyInt w64) l23 0 v23) ∷ ‵ (fdies (tyInt w64) l23) ∷ ‵ (fat fullShare (tyInt w64) l24 0 v24) ∷ ‵ (fdies (tyInt w64) l24) ∷ ‵ (fat fullShare (tyInt w64) l25 0 v25) ∷ ‵ (fdies (tyInt w64) l25) ∷ ‵ (fat fullShare (tyInt w64) l26 0 v26) ∷ ‵ (fdies (tyInt w64) l26) ∷ ‵ (fat fullShare (tyInt w64) l27 0 v27) ∷ ‵ (fdies (tyInt w64) l27) ∷ ‵ (fat fullShare (tyInt w64) l28 0 v28) ∷ ‵ (fdies (tyInt w64) l28) ∷ ‵ (fat fullShare tyUnit l29 0 v29) ∷ ‵ (fdies tyUnit l29) ∷ ‵ (fat fullShare (tyRef erased mut (tyInt w64)) l30 0 v30) ∷ ‵ (fdies (tyRef erased mut (tyInt w64)) l30) ∷ ‵ (fat fullShare (sliceTy (tyRef erased mut (tyInt w64))) l31 0 v31) ∷ ‵ (fdies (sliceTy (tyRef erased mut (tyInt w64))) l31) ∷ ‵ (fat fullShare (tyRef erased mut (tyInt w32)) l32 0 v32) ∷ ‵ (fdies (tyRef erased mut (tyInt w32)) l32) ∷ ‵ (fat fullShare (sliceTy (tyRef erased mut (tyInt w32))) l33 0 v33) ∷ ‵ (fdies (sliceTy (tyRef erased mut (tyInt w32))) l33) ∷ ‵ (fat fullShare (tyRef erased mut (tyInt w32)) l34 0 v34) ∷ ‵ (fdies (tyRef erased mut (tyInt w32)) l34) ∷ ‵ (fat fullShare (sliceTy (tyRef erased mut (tyInt w32))) l35 0 v35) ∷ ‵ (fdies (sliceTy (tyRef erased mut (tyInt w32))) l35) ∷ ‵ (fat fullShare (tyRef erased mut (tyInt w8)) l36 0 v36) ∷ ‵ (fdies (tyRef erased mut (tyInt w8)) l36) ∷ ‵ (fat fullShare (sliceTy (tyRef erased mut (tyInt w8))) l37 0 v37) ∷ ‵ (fdies (sliceTy (tyRef erased mut (tyInt w8))) l37) ∷ ‵ (fat fullShare (tyRef erased mut (tyInt w32)) l38 0 v38) ∷ ‵ (fdies (tyRef erased mut (tyInt w32)) l38) ∷ ‵ (fat fullShare (sliceTy (tyRef erased mut (tyInt w32))) l39 0 v39) ∷ ‵ (fdies (sliceTy (tyRef erased mut (tyInt w32))) l39) ∷ ‵ (fat fullShare (tyRef erased mut (tyInt w32)) l40 0 v40) ∷ ‵ (fdies (tyRef erased mut (tyInt w32)) l40) ∷ ‵ (fat fullShare (sliceTy (tyRef erased mut (tyInt w32))) l41 0 v41) ∷ ‵ (fdies (sliceTy (tyRef erased mut (tyInt w32))) l41) ∷ ‵ (fat fullShare (tyRef erased mut (tyInt w32)) l42 0 v42) ∷ ‵ (fdies (tyRef erased mut (tyInt w32)) l42) ∷ ‵ (fat fullShare (sliceTy (tyRef erased mut (tyInt w32))) l43 0 v43) ∷ ‵ (fdies (sliceTy (tyRef erased mut (tyInt w32))) l43) ∷ ‵ (fat fullShare (tyRef erased mut (tyInt w32)) l44 0 v44) ∷ ‵ (fdies (tyRef erased mut (tyInt w32)) l44) ∷ ‵ (fat fullShare (sliceTy (tyRef erased mut (tyInt w32))) l45 0 v45) ∷ ‵ (fdies (sliceTy (tyRef erased mut (tyInt w32))) l45) ∷ ‵ (fat fullShare (tyRef erased mut (tyInt w32)) l46 0 v46) ∷ ‵ (fdies (tyRef erased mut (tyInt w32)) l46) ∷ ‵ (fat fullShare (sliceTy (tyRef erased mut (tyInt w32))) l47 0 v47) ∷ ‵ (fdies (sliceTy (tyRef erased mut (tyInt w32))) l47) ∷ ‵ (fat fullShare (tyRef erased mut (tyInt w32)) l48 0 v48) ∷ ‵ (fdies (tyRef erased mut (tyInt w32)) l48) ∷ ‵ (fat fullShare (sliceTy (tyRef erased mut (tyInt w32))) l49 0 v49) ∷ ‵ (fdies (sliceTy (tyRef erased mut (tyInt w32))) l49) ∷ ‵ (fat fullShare (tyRef erased mut (tyInt w64)) l50 0 v50) ∷ ‵ (fdies (tyRef erased mut (tyInt w64)) l50) ∷ ‵ (fat fullShare (sliceTy (tyRef erased mut (tyInt w64))) l51 0 v51) ∷ ‵ (fdies (sliceTy (tyRef erased mut (tyInt w64))) l51) ∷ ‵ (fat fullShare (tyRef erased mut (tyInt w32)) l52 0 v52) ∷ ‵ (fdies (tyRef erased mut (tyInt w32)) l52) ∷ ‵ (fat fullShare (sliceTy (tyRef erased mut (tyInt w32))) l53 0 v53) ∷ ‵ (fdies (sliceTy (tyRef erased mut (tyInt w32))) l53) ∷ Ended r w z0 z1 z2 z3 z4 z5 z6 z7 z8 z9) (runs C Λ En code.Mir.t-42 (atRet En Post))
     tail r w z0 z1 z2 z3 z4 z5 z6 z7 z8 z9 n0 n1 n2 n3 n4 n5 n6 n7 n8 n9 e =
         returns ! (look ! 0 refl) $ forget ! 0 refl $ free1 ! $ forget ! 0 refl $ free1 ! $ forget ! 0 refl $ free1 ! $ forget ! 0 refl $ free1 ! $ forget ! 0 refl $ free1 ! $ forget ! 0 refl $ free1 ! $

@@ -3,11 +3,11 @@ use Prim.Native.Nat.{ℕ}
 use mathlib.Core.Path.{_≡_}
 use borrow.Author.Needs.{needs}
 use Rattle.rows.specs.Columns.{Columns, columns}
-use Rattle.refusals.specs.Refusals.{refusalOf}
+use Rattle.refusals.specs.Refusals.{treeRefusal}
 use Rattle.writer.proofs.tree.process_tree.Statement.{statement}
 use Rattle.writer.proofs.tree.process_tree.Tie as tie
 
-as-long : (k : Columns) {m n : ℕ} → m ≡ n → refusalOf k n ≡ 0 → refusalOf k m ≡ 0
+as-long : (k : Columns) {m n : ℕ} → m ≡ n → treeRefusal k n ≡ 0 → treeRefusal k m ≡ 0
 as-long k e p = rw e p
 
 abbrev start-seven : tie.After-slice-known7 → tie.Start

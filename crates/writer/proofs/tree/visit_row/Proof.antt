@@ -5,8 +5,8 @@ use native.Mathlib.Omega.{arith}
 use lib.ListN.{length}
 use Rattle.model.specs.Rows.{MAX}
 use Rattle.rows.specs.declared.FunctionRow.{FunctionRow as FunctionStruct}
-use Rattle.rows.specs.Columns.{Columns, columns, functionAt}
-use Rattle.rows.proofs.RowLaws.{functionAt-address, functionAt-size, functionAt-inline}
+use Rattle.rows.specs.Columns.{Columns, columns, treeRow}
+use Rattle.rows.proofs.RowLaws.{treeRow-address, treeRow-size, treeRow-inline}
 use Rattle.memory.specs.Memory.{words}
 use Rattle.steps.proofs.RowTexts.{address-below}
 use Rattle.steps.specs.Symbols.{switches}
@@ -83,9 +83,9 @@ returns c =
     let i = a .row .i in
     let first = a .row .«first_line» in
     let k = columns-of o in
-    let address : functionAt k i first .address ≡ q .address = functionAt-address k i first ∙ ap (λ (x : FunctionStruct). x .address) (sym (o .pre .is)) in
-    let size : functionAt k i first .size ≡ q .size = functionAt-size k i first ∙ ap (λ (x : FunctionStruct). x .size) (sym (o .pre .is)) in
-    let inline : functionAt k i first .inline ≡ q .inline = functionAt-inline k i first ∙ ap (λ (x : FunctionStruct). x .inline) (sym (o .pre .is)) in
+    let address : treeRow k i first .address ≡ q .address = treeRow-address k i first ∙ ap (λ (x : FunctionStruct). x .address) (sym (o .pre .is)) in
+    let size : treeRow k i first .size ≡ q .size = treeRow-size k i first ∙ ap (λ (x : FunctionStruct). x .size) (sym (o .pre .is)) in
+    let inline : treeRow k i first .inline ≡ q .inline = treeRow-inline k i first ∙ ap (λ (x : FunctionStruct). x .inline) (sym (o .pre .is)) in
     let low : q .address ≤ MAX = subst (λ (x : FunctionStruct). x .address ≤ MAX) (sym (o .pre .is)) (address-below k i first (o .pre .visited)) in
     let functions = b .last .1 .1 .1 .1 .0 in
     let calls = l .last .1 .1 .1 .1 .0 in
@@ -99,7 +99,7 @@ returns c =
     (words (e .result) (l .last .1 .0) (l .last .1 .1 .0) (l .last .1 .1 .1 .0) functions calls (e .last .1 .0))
     (o .pre .visited) (g .ensures) (l .kept .1 .1 .1 .1 .1 .1 .0 ∙ g .kept .0) (b .ensures (a .files .now) (a .call-locations .now) (a .ranges .now))
     (l .ensures X (a .functions64 .now) (a .functions32 .now) functions i (o .pre .is))
-    (e .ensures X (functionAt k i first) (l .last .1 .0) (l .last .1 .1 .0) (l .last .1 .1 .1 .0) functions calls address size inline low) (u .ensures) n
+    (e .ensures X (treeRow k i first) (l .last .1 .0) (l .last .1 .1 .0) (l .last .1 .1 .1 .0) functions calls address size inline low) (u .ensures) n
 
 pub visit-row-spec : {M : Type 1} → statement M
 visit-row-spec =
