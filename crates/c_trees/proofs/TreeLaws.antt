@@ -5,7 +5,8 @@ use mathlib.Core.List.{List}
 use Rattle.rows.specs.Columns.{Columns}
 use Rattle.memory.specs.Memory.{Memory}
 use Rattle.memory.specs.declared.Converter.{Converter}
-use Rattle.writer.specs.Calls.{called, treeOf}
+use Rattle.symbol_call.specs.Calls.{called}
+use Rattle.writer.specs.Calls.{treeOf}
 use Rattle.c_words.specs.Record.{converterOf, kept}
 use Rattle.c_words.specs.Writing.{callLeft, leaves, treeCall}
 

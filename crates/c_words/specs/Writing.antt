@@ -10,7 +10,8 @@ use Rattle.slices.specs.Bytes.{bytesAt}
 use Rattle.rows.specs.Columns.{Columns}
 use Rattle.rows.specs.declared.OptionalPart.{OptionalPart}
 use Rattle.memory.specs.Memory.{Memory}
-use Rattle.writer.specs.Calls.{Called, treeOf, symbolOf}
+use Rattle.symbol_call.specs.Calls.{Called, symbolOf}
+use Rattle.writer.specs.Calls.{treeOf}
 use Rattle.memory.specs.Record.{beginOf}
 use Rattle.line_rows.specs.Calls.{LinesCalled, linesOf}
 use Rattle.serialize.specs.File.{serializeOf}

@@ -33,7 +33,8 @@ use Rattle.symcache.specs.Reader.{layoutOf, opened}
 use Rattle.read_back.specs.Bytes.{sections-header, file-bytes}
 use Rattle.read_back.specs.Shown.{with-stand-in, Found}
 use Rattle.read_back.proofs.Written.{file-shows, file-opened, file-demand}
-use Rattle.writer.specs.Calls.{setup, treeOf, symbolOf}
+use Rattle.symbol_call.specs.Calls.{setup, symbolOf}
+use Rattle.writer.specs.Calls.{treeOf}
 use Rattle.memory.specs.Record.{usableIn, usable?, beginOf}
 use Rattle.steps.specs.Symbols.{symbolRow}
 use Rattle.line_rows.specs.Lines.{lineColumns}

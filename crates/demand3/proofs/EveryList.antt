@@ -30,7 +30,8 @@ use Rattle.memory.specs.Memory.{Memory, Words}
 use Rattle.steps.specs.Steps.{over-words}
 use Rattle.memory.specs.declared.Converter.{Converter}
 use Rattle.steps.proofs.Lengths.{Lens}
-use Rattle.writer.specs.Calls.{Called, called, setup, finished, rows-converted, treeOf, symbolOf}
+use Rattle.symbol_call.specs.Calls.{Called, called, setup, finished, symbolOf}
+use Rattle.writer.specs.Calls.{rows-converted, treeOf}
 use Rattle.slices.specs.Slices.{zeros}
 use Rattle.memory.specs.Record.{usableIn, with-state, words-of, usable?, beginOf, unused}
 use Rattle.steps.specs.Symbols.{symbolRow}

@@ -29,7 +29,8 @@ use Rattle.memory.specs.Memory.{Memory}
 use Rattle.memory.specs.Record.{usableIn, fitsIn, beginOf}
 use Rattle.steps.specs.Steps.{store, add-function, add-file-row, add-call, put-range, store-six, locate-six, begin-named}
 use Rattle.memory.specs.declared.Converter.{Converter}
-use Rattle.writer.specs.Calls.{finished, treeOf}
+use Rattle.symbol_call.specs.Calls.{finished}
+use Rattle.writer.specs.Calls.{treeOf}
 use Rattle.serialize.specs.Sections.{file-row, function-row, call-row, entries, in-order, entry-location, location-row, start-row}
 use Rattle.serialize.specs.File.{Wrote, wrote, written-file, serializeOf}
 use Rattle.read_back.proofs.WorkedBytes as original

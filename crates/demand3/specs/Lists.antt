@@ -17,7 +17,8 @@ use Rattle.rows.specs.declared.OptionalPart.{OptionalPart}
 use Rattle.rows.specs.declared.LineRow.{LineRow}
 use Rattle.memory.specs.Memory.{Memory}
 use Rattle.memory.specs.declared.Converter.{Converter}
-use Rattle.writer.specs.Calls.{Called, treeOf, symbolOf}
+use Rattle.symbol_call.specs.Calls.{Called, symbolOf}
+use Rattle.writer.specs.Calls.{treeOf}
 use Rattle.memory.specs.Record.{beginOf}
 use Rattle.steps.specs.Symbols.{symbolRow}
 use Rattle.line_rows.specs.Lines.{lineColumns}

@@ -11,7 +11,8 @@ use Rattle.model.specs.Converter.{Setup}
 use Rattle.memory.specs.Memory.{Memory}
 use Rattle.memory.specs.declared.Converter.{Converter}
 use Rattle.memory.specs.Record.{beginOf}
-use Rattle.writer.specs.Calls.{treeOf, symbolOf}
+use Rattle.symbol_call.specs.Calls.{symbolOf}
+use Rattle.writer.specs.Calls.{treeOf}
 use Rattle.line_rows.specs.Lines.{lineColumns}
 use Rattle.line_rows.specs.Calls.{linesOf}
 use Rattle.serialize.specs.File.{serializeOf}

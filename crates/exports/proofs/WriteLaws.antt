@@ -6,7 +6,7 @@ use mathlib.Core.List.{List, []}
 use Rattle.slices.specs.Slices.{yes}
 use Rattle.memory.specs.Memory.{Memory}
 use Rattle.memory.specs.declared.Converter.{Converter}
-use Rattle.writer.specs.Calls.{called, symbolOf}
+use Rattle.symbol_call.specs.Calls.{called, symbolOf}
 use Rattle.serialize.specs.File.{Wrote, wrote, serializeOf}
 use Rattle.c_words.specs.Record.{converterOf, kept, lenWords}
 use Rattle.c_words.specs.Writing.{callLeft, leaves, nameAt, symbolCall, leftFile, serializeCall}

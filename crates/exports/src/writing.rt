@@ -124,7 +124,7 @@ pub extern "C" fn symcache_process_symbolic_symbol(
         start: name_start,
         len: name_len,
     };
-    let answer = writer::calls::process_symbolic_symbol(
+    let answer = symbol_call::process_symbolic_symbol(
         load(record),
         string_bytes,
         strings,

@@ -14,7 +14,8 @@ use Rattle.refusals.specs.Refusals.{shaped?, texts?, ends?, room?, treeRefusal}
 use Rattle.refusals.proofs.Accepted.{some-row}
 use Rattle.memory.specs.Memory.{Memory}
 use Rattle.memory.specs.declared.Converter.{Converter}
-use Rattle.writer.specs.Calls.{Called, called, finished, rows-converted, treeOf}
+use Rattle.symbol_call.specs.Calls.{Called, called, finished}
+use Rattle.writer.specs.Calls.{rows-converted, treeOf}
 use Rattle.slices.specs.Slices.{zeros}
 use Rattle.memory.specs.Record.{usable?}
 use Rattle.line_rows.specs.Calls.{LinesCalled, lines-called, unpackRoom?, linesOf}

@@ -8,7 +8,8 @@ use Rattle.rows.specs.Columns.{Columns}
 use Rattle.refusals.specs.Refusals.{treeRefusal}
 use Rattle.memory.specs.Memory.{Memory}
 use Rattle.memory.specs.declared.Converter.{Converter}
-use Rattle.writer.specs.Calls.{Called, called, treeOf}
+use Rattle.symbol_call.specs.Calls.{Called, called}
+use Rattle.writer.specs.Calls.{treeOf}
 use Rattle.slices.specs.Slices.{zeros}
 use Rattle.memory.specs.Record.{usable?}
 

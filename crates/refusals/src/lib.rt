@@ -129,8 +129,8 @@ fn inside(text: &[u8], p: TextPart) -> bool
     p.start as usize + p.len as usize <= text.len()
 }
 
-// 14: the part lies inside the text and is UTF-8. A symbol's name is tested by this too.
-pub fn readable(text: &[u8], p: TextPart) -> bool
+// 14: the part lies inside the text and is UTF-8.
+fn readable(text: &[u8], p: TextPart) -> bool
     ensures { λ r. ⌜ r ≡ readable? (now (text .entry)) p ⌝ }
 {
     if inside(text, p) {
@@ -139,8 +139,8 @@ pub fn readable(text: &[u8], p: TextPart) -> bool
     false
 }
 
-// 14: an absent text is not looked at.
-fn optional(text: &[u8], o: OptionalPart) -> bool
+// 14: an absent text is not looked at. A symbol's name is tested by this too.
+pub fn optional(text: &[u8], o: OptionalPart) -> bool
     ensures { λ r. ⌜ r ≡ optional? (now (text .entry)) o ⌝ }
 {
     if o.present {

@@ -381,7 +381,7 @@ fn symbol(
     let n3 = lent_words(&functions, lent[3]);
     let n4 = lent_words(&call_locations, lent[4]);
     let n5 = lent_words(&ranges, lent[5]);
-    let answer = writer::calls::process_symbolic_symbol(
+    let answer = symbol_call::process_symbolic_symbol(
         converter,
         &mut string_bytes[..n0],
         &mut strings[..n1],

@@ -364,71 +364,8 @@ fn process_row(
     )
 }
 
-// All function rows, in preorder.
-fn process_rows(
-    undecorate: bool,
-    state: State,
-    string_bytes: &mut [u8],
-    strings: &mut [u32],
-    files: &mut [u32],
-    functions: &mut [u32],
-    call_locations: &mut [u32],
-    ranges: &mut [u32],
-    s: &mut [u32],
-    functions64: &[u64],
-    functions32: &[u32],
-    lines64: &[u64],
-    lines32: &[u32],
-    text: &[u8],
-) -> State
-    requires { ⌜ treeRefusal (columns (now functions64) (now functions32) (now lines64) (now lines32) (now text)) (length (now s)) ≡ 0 ⌝ }
-    ensures { λ r. ⌜ ((Y : Bool) →
-        let k = columns (now (functions64 .entry)) (now (functions32 .entry)) (now (lines64 .entry)) (now (lines32 .entry)) (now (text .entry)) in
-        let before = words state (now («string_bytes» .entry)) (now (strings .entry)) (now (files .entry))
-        (now (functions .entry)) (now («call_locations» .entry)) (now (ranges .entry)) in
-        let after = words r (now («string_bytes» .exit)) (now (strings .exit)) (now (files .exit))
-        (now (functions .exit)) (now («call_locations» .exit)) (now (ranges .exit)) in
-        TreeConverted (switches undecorate Y) k before after) ⌝ }
-{
-    let rows = functions64.len() / 2;
-    let base = rows * 4;
-    let mut now = state;
-    let mut first_line: usize = 0;
-    let mut i: usize = 0;
-    while i < rows {
-        let function = rows::function_row(functions64, functions32, i);
-        let lines = function.lines;
-        let row = InProgressFunction {
-            function,
-            i,
-            first_line,
-        };
-        now = process_row(
-            undecorate,
-            now,
-            string_bytes,
-            strings,
-            files,
-            functions,
-            call_locations,
-            ranges,
-            s,
-            functions64,
-            functions32,
-            lines64,
-            lines32,
-            text,
-            base,
-            row,
-        );
-        first_line += lines as usize;
-        i += 1;
-    }
-    now
-}
-
-// A tree: it is read ahead, then its function rows are processed.
-pub(crate) fn process_tree(
+// All function rows, in preorder, after a look ahead.
+pub(crate) fn process_rows(
     undecorate: bool,
     state: State,
     string_bytes: &mut [u8],
@@ -464,20 +401,39 @@ pub(crate) fn process_tree(
         functions32,
         text,
     );
-    process_rows(
-        undecorate,
-        state,
-        string_bytes,
-        strings,
-        files,
-        functions,
-        call_locations,
-        ranges,
-        s,
-        functions64,
-        functions32,
-        lines64,
-        lines32,
-        text,
-    )
+    let rows = functions64.len() / 2;
+    let base = rows * 4;
+    let mut now = state;
+    let mut first_line: usize = 0;
+    let mut i: usize = 0;
+    while i < rows {
+        let function = rows::function_row(functions64, functions32, i);
+        let lines = function.lines;
+        let row = InProgressFunction {
+            function,
+            i,
+            first_line,
+        };
+        now = process_row(
+            undecorate,
+            now,
+            string_bytes,
+            strings,
+            files,
+            functions,
+            call_locations,
+            ranges,
+            s,
+            functions64,
+            functions32,
+            lines64,
+            lines32,
+            text,
+            base,
+            row,
+        );
+        first_line += lines as usize;
+        i += 1;
+    }
+    now
 }

@@ -9,7 +9,7 @@ use replay::place;
 use replay::word;
 use rows::OptionalPart;
 use rows::TextPart;
-use writer::calls::Answer;
+use symbol_call::Answer;
 
 // Parts of a record
 
@@ -185,7 +185,7 @@ fn symbol(
             len: low(text.len()),
         },
     };
-    let answer = writer::calls::process_symbolic_symbol(
+    let answer = symbol_call::process_symbolic_symbol(
         converter,
         string_bytes,
         strings,

@@ -31,16 +31,16 @@ near-zero c = c .before .before .before .before .before .before .before .before
 abbrev at-zero : tie.After-finish → tie.After-zero
 at-zero c = (near-zero c) .before
 
-abbrev near-process-tree : tie.After-zero → tie.After-slice-known11
-near-process-tree c = c .before .before .before .before .before .before .before .before
+abbrev near-process-rows : tie.After-zero → tie.After-slice-known11
+near-process-rows c = c .before .before .before .before .before .before .before .before
 
-abbrev at-process-tree : tie.After-zero → tie.After-process-tree
-at-process-tree c = (near-process-tree c) .before .before .before .before .before .before .before .before
+abbrev at-process-rows : tie.After-zero → tie.After-process-rows
+at-process-rows c = (near-process-rows c) .before .before .before .before .before .before .before .before
 
-abbrev near-refusal : tie.After-process-tree → tie.Else2
+abbrev near-refusal : tie.After-process-rows → tie.Else2
 near-refusal c = c .before .before .before .before .before .before .before .before
 
-abbrev at-refusal : tie.After-process-tree → tie.After-refusal
+abbrev at-refusal : tie.After-process-rows → tie.After-refusal
 at-refusal c = (near-refusal c) .before
 
 abbrev at-is-usable : tie.After-refusal → tie.After-is-usable
@@ -64,34 +64,34 @@ returns-2 c =
     (c .before .before .before .before .lent .ensures) (c .before .before .before .is-usable .ensures) (not-false _ (c .before .before .if1 .left)) (c .before .refusal .ensures) (c .if2 .taken)
 
 same-length-13 : tie.Need-same-length-13
-same-length-13 c = (at-finish c) .finish .kept .1 .1 .0 ∙ (at-process-tree (at-zero (at-finish c))) .process-tree .kept .1 .1 .0
+same-length-13 c = (at-finish c) .finish .kept .1 .1 .0 ∙ (at-process-rows (at-zero (at-finish c))) .process-rows .kept .1 .1 .0
 
 same-length-14 : tie.Need-same-length-14
-same-length-14 c = (at-finish c) .finish .kept .1 .1 .1 .0 ∙ (at-process-tree (at-zero (at-finish c))) .process-tree .kept .1 .1 .1 .0
+same-length-14 c = (at-finish c) .finish .kept .1 .1 .1 .0 ∙ (at-process-rows (at-zero (at-finish c))) .process-rows .kept .1 .1 .1 .0
 
 same-length-15 : tie.Need-same-length-15
-same-length-15 c = (at-finish c) .finish .kept .1 .1 .1 .1 .0 ∙ (at-process-tree (at-zero (at-finish c))) .process-tree .kept .1 .1 .1 .1 .0
+same-length-15 c = (at-finish c) .finish .kept .1 .1 .1 .1 .0 ∙ (at-process-rows (at-zero (at-finish c))) .process-rows .kept .1 .1 .1 .1 .0
 
 same-length-16 : tie.Need-same-length-16
-same-length-16 c = (at-finish c) .finish .kept .1 .1 .1 .1 .1 .0 ∙ (at-process-tree (at-zero (at-finish c))) .process-tree .kept .1 .1 .1 .1 .1 .0
+same-length-16 c = (at-finish c) .finish .kept .1 .1 .1 .1 .1 .0 ∙ (at-process-rows (at-zero (at-finish c))) .process-rows .kept .1 .1 .1 .1 .1 .0
 
 same-length-17 : tie.Need-same-length-17
-same-length-17 c = (at-finish c) .finish .kept .1 .1 .1 .1 .1 .1 .0 ∙ (at-process-tree (at-zero (at-finish c))) .process-tree .kept .1 .1 .1 .1 .1 .1 .0
+same-length-17 c = (at-finish c) .finish .kept .1 .1 .1 .1 .1 .1 .0 ∙ (at-process-rows (at-zero (at-finish c))) .process-rows .kept .1 .1 .1 .1 .1 .1 .0
 
 same-length-18 : tie.Need-same-length-18
-same-length-18 c = (at-finish c) .finish .kept .1 .1 .1 .1 .1 .1 .1 .0 ∙ (at-process-tree (at-zero (at-finish c))) .process-tree .kept .1 .1 .1 .1 .1 .1 .1 .0
+same-length-18 c = (at-finish c) .finish .kept .1 .1 .1 .1 .1 .1 .1 .0 ∙ (at-process-rows (at-zero (at-finish c))) .process-rows .kept .1 .1 .1 .1 .1 .1 .1 .0
 
 same-length-19 : tie.Need-same-length-19
-same-length-19 c = (at-zero (at-finish c)) .zero .kept .0 ∙ (at-process-tree (at-zero (at-finish c))) .process-tree .kept .1 .1 .1 .1 .1 .1 .1 .1 .0
+same-length-19 c = (at-zero (at-finish c)) .zero .kept .0 ∙ (at-process-rows (at-zero (at-finish c))) .process-rows .kept .1 .1 .1 .1 .1 .1 .1 .1 .0
 
 returns-3 : tie.Need-returns-3
 returns-3 c =
-    let a = (start (at-lent (at-is-usable (at-refusal (at-process-tree (at-zero (at-finish c))))))) .args in
-    let p = (at-process-tree (at-zero (at-finish c))) .process-tree in
+    let a = (start (at-lent (at-is-usable (at-refusal (at-process-rows (at-zero (at-finish c))))))) .args in
+    let p = (at-process-rows (at-zero (at-finish c))) .process-rows in
     let z = (at-zero (at-finish c)) .zero in
     let f = (at-finish c) .finish in
     tree-taken (a .converter) (memory (a .string-bytes .now) (a .strings .now) (a .files .now) (a .functions .now) (a .call-locations .now) (a .ranges .now)) (a .scratch .now) (columns (a .functions64 .now) (a .functions32 .now) (a .lines64 .now) (a .lines32 .now) (a .text .now))
-    ((at-lent (at-is-usable (at-refusal (at-process-tree (at-zero (at-finish c)))))) .lent .ensures) ((at-is-usable (at-refusal (at-process-tree (at-zero (at-finish c))))) .is-usable .ensures) (not-false _ (((at-refusal (at-process-tree (at-zero (at-finish c)))) .before) .if1 .left)) ((at-refusal (at-process-tree (at-zero (at-finish c)))) .refusal .ensures) (((at-process-tree (at-zero (at-finish c))) .before .before .before .before .before .before .before .before) .if2 .left)
+    ((at-lent (at-is-usable (at-refusal (at-process-rows (at-zero (at-finish c)))))) .lent .ensures) ((at-is-usable (at-refusal (at-process-rows (at-zero (at-finish c))))) .is-usable .ensures) (not-false _ (((at-refusal (at-process-rows (at-zero (at-finish c)))) .before) .if1 .left)) ((at-refusal (at-process-rows (at-zero (at-finish c)))) .refusal .ensures) (((at-process-rows (at-zero (at-finish c))) .before .before .before .before .before .before .before .before) .if2 .left)
     {w = words (p .result) (p .last .1 .1 .0) (p .last .1 .1 .1 .0) (p .last .1 .1 .1 .1 .0) (p .last .1 .1 .1 .1 .1 .0) (p .last .1 .1 .1 .1 .1 .1 .0) (p .last .1 .1 .1 .1 .1 .1 .1 .0)} (p .ensures (a .converter .«undecorate_symbols»))
     (p .last .1 .1 .1 .1 .1 .1 .1 .1 .0) (p .kept .1 .1 .1 .1 .1 .1 .1 .1 .0) {s₂ = z .last .0} (z .ensures)
     {n = f .result .code} {c₂ = f .result .converter} {m₂ = memory (f .last .1 .1 .0) (f .last .1 .1 .1 .0) (f .last .1 .1 .1 .1 .0) (f .last .1 .1 .1 .1 .1 .0) (f .last .1 .1 .1 .1 .1 .1 .0) (f .last .1 .1 .1 .1 .1 .1 .1 .0)} (f .ensures (a .scratch .now))

@@ -1,12 +1,12 @@
 -- `process_symbolic_symbol` meets its contract: by its two tests.
 use mathlib.Core.List.{[]}
 use Rattle.memory.specs.Memory.{memory, words}
-use Rattle.writer.specs.Calls.{called}
-use Rattle.writer.proofs.CallLaws.{symbol-taken, symbol-unreadable, symbol-closed}
+use Rattle.symbol_call.specs.Calls.{called}
+use Rattle.symbol_call.proofs.CallLaws.{symbol-taken, symbol-unreadable, symbol-closed}
 use borrow.Author.Needs.{needs}
 use borrow.Author.Tests.{not-true, not-false}
-use Rattle.writer.proofs.calls.process_symbolic_symbol.Statement.{statement}
-use Rattle.writer.proofs.calls.process_symbolic_symbol.Tie as tie
+use Rattle.symbol_call.proofs.process_symbolic_symbol.Statement.{statement}
+use Rattle.symbol_call.proofs.process_symbolic_symbol.Tie as tie
 
 -- ── Places ──
 
@@ -28,10 +28,10 @@ near-process-symbol c = c .before .before .before .before .before .before .befor
 abbrev at-process-symbol : tie.After-finish → tie.After-process-symbol
 at-process-symbol c = (near-process-symbol c) .before .before .before .before .before .before .before
 
-abbrev at-is-readable : tie.After-process-symbol → tie.After-is-readable
-at-is-readable c = c .before .before .before .before .before .before
+abbrev at-optional : tie.After-process-symbol → tie.After-optional
+at-optional c = c .before .before .before .before .before .before
 
-abbrev at-is-usable : tie.After-is-readable → tie.After-is-usable
+abbrev at-is-usable : tie.After-optional → tie.After-is-usable
 at-is-usable c = c .before .before
 
 abbrev at-lent : tie.After-is-usable → tie.After-lent
@@ -49,15 +49,15 @@ returns-2 : tie.Need-returns-2
 returns-2 c =
     let a = (start (c .before .before .before .before)) .args in
     symbol-unreadable (a .converter) (memory (a .string-bytes .now) (a .strings .now) (a .files .now) (a .functions .now) (a .call-locations .now) (a .ranges .now)) (a .text .now) (a .address) (a .size) (a .name)
-    (c .before .before .before .before .lent .ensures) (c .before .before .before .is-usable .ensures) (not-false _ (c .before .before .if1 .left)) (c .before .is-readable .ensures) (not-true _ (c .if2 .taken))
+    (c .before .before .before .before .lent .ensures) (c .before .before .before .is-usable .ensures) (not-false _ (c .before .before .if1 .left)) (c .before .optional .ensures) (not-true _ (c .if2 .taken))
 
 returns-3 : tie.Need-returns-3
 returns-3 c =
-    let a = (start (at-lent (at-is-usable (at-is-readable (at-process-symbol (at-finish c)))))) .args in
+    let a = (start (at-lent (at-is-usable (at-optional (at-process-symbol (at-finish c)))))) .args in
     let p = (at-process-symbol (at-finish c)) .process-symbol in
     let f = (at-finish c) .finish in
     symbol-taken (a .converter) (memory (a .string-bytes .now) (a .strings .now) (a .files .now) (a .functions .now) (a .call-locations .now) (a .ranges .now)) (a .text .now) (a .address) (a .size) (a .name)
-    ((at-lent (at-is-usable (at-is-readable (at-process-symbol (at-finish c))))) .lent .ensures) ((at-is-usable (at-is-readable (at-process-symbol (at-finish c)))) .is-usable .ensures) (not-false _ (((at-is-readable (at-process-symbol (at-finish c))) .before) .if1 .left)) ((at-is-readable (at-process-symbol (at-finish c))) .is-readable .ensures) (not-false _ (((at-process-symbol (at-finish c)) .before .before .before .before .before) .if2 .left))
+    ((at-lent (at-is-usable (at-optional (at-process-symbol (at-finish c))))) .lent .ensures) ((at-is-usable (at-optional (at-process-symbol (at-finish c)))) .is-usable .ensures) (not-false _ (((at-optional (at-process-symbol (at-finish c))) .before) .if1 .left)) ((at-optional (at-process-symbol (at-finish c))) .optional .ensures) (not-false _ (((at-process-symbol (at-finish c)) .before .before .before .before .before) .if2 .left))
     {w = words (p .result) (p .last .1 .1 .0) (p .last .1 .1 .1 .0) (a .files .now) (p .last .1 .1 .1 .1 .0) (a .call-locations .now) (p .last .1 .1 .1 .1 .1 .0)}
     {l = called (f .result .code) (f .result .converter) (memory (f .last .1 .1 .0) (f .last .1 .1 .1 .0) (f .last .1 .1 .1 .1 .0) (f .last .1 .1 .1 .1 .1 .0) (f .last .1 .1 .1 .1 .1 .1 .0) (f .last .1 .1 .1 .1 .1 .1 .1 .0)) []}
     (p .ensures (a .converter .«undecorate_functions») (a .files .now) (a .call-locations .now)) (f .ensures [])

@@ -1,9 +1,9 @@
 -- `finish` meets its contract: by whether the tables hold what is in use.
 use Rattle.memory.specs.Memory.{memory, words}
-use Rattle.writer.proofs.CallLaws.{accepted, overfull}
+use Rattle.symbol_call.proofs.CallLaws.{accepted, overfull}
 use borrow.Author.Needs.{needs}
-use Rattle.writer.proofs.calls.finish.Statement.{statement}
-use Rattle.writer.proofs.calls.finish.Tie as tie
+use Rattle.symbol_call.proofs.finish.Statement.{statement}
+use Rattle.symbol_call.proofs.finish.Tie as tie
 
 -- ── Places ──
 
