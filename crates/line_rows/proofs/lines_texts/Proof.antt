@@ -1,4 +1,4 @@
--- `lines_texts` meets its contract: a walk of its MIR, by hand, with a loop. In a turn row j is read out of the lent rows, and `line_texts` of crate rows is called, of which the walk knows that it meets its contract; where it
+-- `lines_texts` meets its contract: a walk of its MIR, by hand, with a loop. In a turn row j is read out of the lent rows, and `line_texts` of crate refusals is called, of which the walk knows that it meets its contract; where it
 -- answers no, the function returns.
 use mathlib.Core.Path.{_≡_, refl, sym, _∙_, ap}
 use Prim.Native.Nat.{ℕ, _+_, _*_, _-_, _<_, _≤_, _^_}
@@ -54,7 +54,7 @@ use Rattle.line_rows.specs.Lines.{noLine, linesTexts?}
 use Rattle.line_rows.proofs.Turns.{Tested, tests-begin, tested-more, tested-bad, tested-all}
 use Rattle.refusals.proofs.line_texts as line-texts
 use Rattle.refusals.proofs.line_texts.Symbol as line-texts-def
-use Rattle.refusals.proofs.line_texts.Symbol.{name as #rows·line-texts}
+use Rattle.refusals.proofs.line_texts.Symbol.{name as #refusals·line-texts}
 use Rattle.refusals.proofs.line_texts.Met as line-texts-thm
 use Rattle.line_rows.proofs.lines_texts.Key.{name as #line-rows·lines-texts}
 use Rattle.line_rows.proofs.lines_texts as lines-texts
@@ -165,7 +165,7 @@ module _ {M : Type 1} (𝓤 : URA M) (H : Heap 𝓤) (A : Atoms 𝓤) (W : Given
       nothing ! $ move ! (1 ∷ 0 ∷ []) $ join ! $ nothing ! $ owned ! T.the-row (Is T.the-row) (LL.makes T.the-type T′.the-plain 𝓤 H A) (elem (t .j)) _ g $ fjoin ! $
       move ! (2 ∷ 0 ∷ []) $ fjoin ! $ move ! (1 ∷ 0 ∷ []) $ join ! $ frame ! $ done !
 
-  module _ (𝓣 : Tables 𝓤 H) (fm : FmC 𝓤 H (W .laws) (𝓣 .C)) (known : Triple 𝓤 (𝓣 .C #rows·line-texts) (LineTexts 𝓤 H A mem run)) (l0 l1 l2 l3 l4 l5 l6 l7 l8 l9 : ℕ) where
+  module _ (𝓣 : Tables 𝓤 H) (fm : FmC 𝓤 H (W .laws) (𝓣 .C)) (known : Triple 𝓤 (𝓣 .C #refusals·line-texts) (LineTexts 𝓤 H A mem run)) (l0 l1 l2 l3 l4 l5 l6 l7 l8 l9 : ℕ) where
     abbrev C : Calls 𝓤 H
     C = 𝓣 .C
 
@@ -262,7 +262,7 @@ module _ {M : Type 1} (𝓤 : URA M) (H : Heap 𝓤) (A : Atoms 𝓤) (W : Given
         go true e = goes-on t e
         go false e = leaves t e
 
-  walk : (𝓣 : Tables 𝓤 H) → FmC 𝓤 H (W .laws) (𝓣 .C) → Triple 𝓤 (𝓣 .C #rows·line-texts) (LineTexts 𝓤 H A mem run)
+  walk : (𝓣 : Tables 𝓤 H) → FmC 𝓤 H (W .laws) (𝓣 .C) → Triple 𝓤 (𝓣 .C #refusals·line-texts) (LineTexts 𝓤 H A mem run)
       → ent 𝓤 (onEntry 𝓤 H A lines-texts.signature (κ₀, (κ₁, tt)) (q₀, (q₁, tt)) a vals) (WpFn 𝓤 H (𝓣 .C) (𝓣 .Λ) code.function (s₀ ∷ s₁ ∷ []) Post)
   walk 𝓣 fm known =
       qed W ((‵ (flft κ₀ q₀) ⊛ ‵ (flft κ₁ q₁) ⊛ ‵ ftrue) ∷ ‵ (owns (ShrSlice (named 0) κ₀ T.the-row ∷ ShrSlice (named 1) κ₁ u8 ∷ []) a vals) ∷ []) ∵ enter ! (𝓣 .C) (𝓣 .Λ) code.function (s₀ ∷ s₁ ∷ []) _ $
@@ -274,7 +274,7 @@ module _ {M : Type 1} (𝓤 : URA M) (H : Heap 𝓤) (A : Atoms 𝓤) (W : Given
       keep ! (6 ∷ 2 ∷ 3 ∷ 0 ∷ 5 ∷ 7 ∷ 8 ∷ 9 ∷ 10 ∷ 11 ∷ 12 ∷ 13 ∷ 14 ∷ 15 ∷ 16 ∷ 17 ∷ 18 ∷ 19 ∷ 20 ∷ 21 ∷ 22 ∷ 23 ∷ 24 ∷ 25 ∷ 26 ∷ 27 ∷ []) $
       first ! $ blocks ! $ loops ! 𝓣 Nearer Nearer-wf (At 𝓣 fm known l0 l1 l2 l3 l4 l5 l6 l7 l8 l9) (turns 𝓣 fm known l0 l1 l2 l3 l4 l5 l6 l7 l8 l9) (tests-begin (x₁ .now) ys)))))))))))
 
-module _ {M : Type 1} (𝓤 : URA M) (H : Heap 𝓤) (A : Atoms 𝓤) (W : Given 𝓤 H A) (mem : Memory → SProp 𝓤) (run : Routine → Fun 𝓤) (𝓣 : Tables 𝓤 H) (known : Triple 𝓤 (𝓣 .C #rows·line-texts) (LineTexts 𝓤 H A mem run)) where
+module _ {M : Type 1} (𝓤 : URA M) (H : Heap 𝓤) (A : Atoms 𝓤) (W : Given 𝓤 H A) (mem : Memory → SProp 𝓤) (run : Routine → Fun 𝓤) (𝓣 : Tables 𝓤 H) (known : Triple 𝓤 (𝓣 .C #refusals·line-texts) (LineTexts 𝓤 H A mem run)) where
   lines-texts-walks : Walks 𝓤 H A lines-texts.ended stayed (WpFn 𝓤 H (𝓣 .C) (𝓣 .Λ) code.function) (lines-texts.clauses 𝓤 H A mem run)
   lines-texts-walks = walked 𝓤 H A lines-texts.ended stayed (lines-texts.clauses 𝓤 H A mem run) (WpFn 𝓤 H (𝓣 .C) (𝓣 .Λ) code.function)
       (λ κs. (slice-vals, (slice-vals, tt))) (λ κs. (shr-slice-tells (named 0) (κs .0) T.the-row, (shr-slice-tells (named 1) (κs .1 .0) u8, tt)))
@@ -292,4 +292,4 @@ lines-texts-spec 𝓤 H 𝓜 𝓖 𝓡 =
     entered 𝓤 H (tripleOf 𝓤 H (𝓖 .A) lines-texts.signature (lines-texts.spec 𝓤 H (𝓖 .A) (𝓜 .mem) (𝓡 .run)))
     (tables 𝓤 H 𝓜 𝓡 code.env .C) (tables 𝓤 H 𝓜 𝓡 code.env .Λ) #line-rows·lines-texts code.function (code.unfolded 𝓤 H 𝓜 𝓡)
     (lines-texts-meets 𝓤 H (𝓖 .A) (givenOf 𝓤 H 𝓜 𝓖) (𝓜 .mem) (𝓡 .run) (tablesOf 𝓤 H 𝓜 (tables 𝓤 H 𝓜 𝓡 code.env))
-    (cited 𝓤 H (LineTexts 𝓤 H (𝓖 .A) (𝓜 .mem) (𝓡 .run)) 𝓜 𝓡 code.env #rows·line-texts line-texts-def.routine code.calls-rows·line-texts (line-texts-thm.met 𝓤 H 𝓜 𝓖 𝓡)))
+    (cited 𝓤 H (LineTexts 𝓤 H (𝓖 .A) (𝓜 .mem) (𝓡 .run)) 𝓜 𝓡 code.env #refusals·line-texts line-texts-def.routine code.calls-refusals·line-texts (line-texts-thm.met 𝓤 H 𝓜 𝓖 𝓡)))
