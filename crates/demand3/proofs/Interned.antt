@@ -1,4 +1,4 @@
--- INTERNING ROWS OF WORDS IS INTERNING ROWS OF REFERENCES: where words tell rows apart, the crate tables' `intern` over words gives the index of the model's `intern`, and the words of
+-- INTERNING ROWS OF WORDS IS INTERNING ROWS OF REFERENCES: where words tell rows apart, table_laws' `row-intern` over words gives the index of the model's `intern`, and the words of
 -- the table that it leaves. And what the functions of a table do, said of the plain rows: an index set (`added`), the ranges (`placed`, `got`), the texts (`stored`).
 use mathlib.Core.Path.{_≡_, refl, sym, ap, _∙_, subst}
 use mathlib.Core.Bool.{Bool, true, false, cond, _&&_}
@@ -23,7 +23,7 @@ use Rattle.tables.specs.Table.{Left, capacityOf, insertOf, sameRow, sameWords, 
 use Rattle.tables.specs.Ranges.{getOf, putOf, locationOf}
 use Rattle.strings.specs.Strings.{textCapacityOf, textSize, insertTextOf, StringsLeft}
 use Rattle.table_laws.specs.Plain.{sameKey, putRows, Holds}
-use Rattle.table_laws.specs.Plain.{intern as row-intern}
+use Rattle.table_laws.specs.Plain.{row-intern}
 use Rattle.table_laws.specs.PlainTexts.{textBytes, textOffset, withText, offsetIn, Texts}
 use Rattle.tables.specs.declared.Row.{Row}
 use Rattle.tables.specs.declared.Inserted.{Inserted}

@@ -8,7 +8,7 @@ use native.Mathlib.Omega.{arith}
 use lib.Dec.{ltb}
 use lib.ListN.{length, getD, length-append}
 use borrow.Author.Tests.{ltb-true, ltb-false}
-use Rattle.table_laws.specs.Plain.{PlainInterned, intern, internAll}
+use Rattle.table_laws.specs.Plain.{PlainInterned, row-intern, internAll}
 
 module _ {A : Type 0} (hit : A → Bool) (d : A) where
   pub by-none : (P : List A → Type 0) → P [] → ((x : A) (xs : List A) → hit x ≡ false → P xs → P (x ∷ xs))
@@ -27,28 +27,28 @@ module _ {A : Type 0} (eq : A → A → Bool) where
   abbrev past : A → PlainInterned A → PlainInterned A
   past x r = record { index = suc (r .index); table = x ∷ r .table }
 
-  pub intern-none : (xs : List A) (a d : A) → ((i : ℕ) → i < length xs → eq (getD xs i d) a ≡ false) → intern eq xs a ≡ record { index = length xs; table = xs ++ (a ∷ []) }
-  unfolding intern
-  intern-none xs a d = by-none (λ (x : A). eq x a) d (λ (l : List A). intern eq l a ≡ record { index = length l; table = l ++ (a ∷ []) }) refl (λ x l e ih. rw e (ap (past x) ih)) xs
+  pub intern-none : (xs : List A) (a d : A) → ((i : ℕ) → i < length xs → eq (getD xs i d) a ≡ false) → row-intern eq xs a ≡ record { index = length xs; table = xs ++ (a ∷ []) }
+  unfolding row-intern
+  intern-none xs a d = by-none (λ (x : A). eq x a) d (λ (l : List A). row-intern eq l a ≡ record { index = length l; table = l ++ (a ∷ []) }) refl (λ x l e ih. rw e (ap (past x) ih)) xs
 
   pub intern-found : (xs : List A) (a d : A) (i : ℕ) → i < length xs → eq (getD xs i d) a ≡ true → ((j : ℕ) → j < i → eq (getD xs j d) a ≡ false)
-      → intern eq xs a ≡ record { index = i; table = xs }
-  unfolding intern
-  intern-found xs a d = by-found (λ (x : A). eq x a) d (λ (l : List A) (i : ℕ). intern eq l a ≡ record { index = i; table = l }) (λ x l e. rw e) (λ x l i e ih. rw e (ap (past x) ih)) xs
+      → row-intern eq xs a ≡ record { index = i; table = xs }
+  unfolding row-intern
+  intern-found xs a d = by-found (λ (x : A). eq x a) d (λ (l : List A) (i : ℕ). row-intern eq l a ≡ record { index = i; table = l }) (λ x l e. rw e) (λ x l i e ih. rw e (ap (past x) ih)) xs
 
-  pub intern-length : (xs : List A) (a : A) → length xs ≤ length (intern eq xs a .table)
-  unfolding intern
+  pub intern-length : (xs : List A) (a : A) → length xs ≤ length (row-intern eq xs a .table)
+  unfolding row-intern
   intern-length [] a = omega arith
   intern-length (x ∷ xs) a = go (eq x a) (intern-length xs a)
     where
-      go : (b : Bool) → length xs ≤ length (intern eq xs a .table) → suc (length xs) ≤ length (cond {A = PlainInterned A} b (record { index = 0; table = x ∷ xs }) (past x (intern eq xs a)) .table)
+      go : (b : Bool) → length xs ≤ length (row-intern eq xs a .table) → suc (length xs) ≤ length (cond {A = PlainInterned A} b (record { index = 0; table = x ∷ xs }) (past x (row-intern eq xs a)) .table)
       go true h = omega arith
       go false h = omega arith
 
   pub all-length : (bs xs : List A) → length xs ≤ length (internAll eq xs bs)
   unfolding internAll
   all-length [] xs = omega arith
-  all-length (a ∷ bs) xs = let p = intern-length xs a in let q = all-length bs (intern eq xs a .table) in omega arith
+  all-length (a ∷ bs) xs = let p = intern-length xs a in let q = all-length bs (row-intern eq xs a .table) in omega arith
 
 pub one-more : {A : Type 0} (xs : List A) (a : A) → length (xs ++ (a ∷ [])) ≡ suc (length xs)
 one-more xs a = simp length-append (omega arith)

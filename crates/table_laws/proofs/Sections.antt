@@ -10,7 +10,7 @@ use lib.Seq.{take-take, take-all, take-append-le}
 use Rattle.text.specs.Leb128.{encoded}
 use Rattle.strings.specs.Strings.{storedText, textSize, textRow}
 use Rattle.tables.specs.Table.{sameWords}
-use Rattle.table_laws.specs.Plain.{PlainInterned, intern}
+use Rattle.table_laws.specs.Plain.{PlainInterned, row-intern}
 use Rattle.table_laws.specs.PlainTexts.{textBytes, textOffset, section, textRows}
 use Rattle.tables.specs.declared.Row.{Row}
 use Rattle.tables.proofs.Words.{words-eq}
@@ -95,13 +95,13 @@ pub record Placed (xs : List (List ℕ)) (a : List ℕ) (r : PlainInterned (List
   pub first : r .index ≤ length xs
   pub grown : Grown xs (r .table)
 
-pub placed : (xs : List (List ℕ)) (a : List ℕ) → Placed xs a (intern sameWords xs a)
-unfolding intern
+pub placed : (xs : List (List ℕ)) (a : List ℕ) → Placed xs a (row-intern sameWords xs a)
+unfolding row-intern
 placed [] a = record { item = refl; below = omega arith; first = omega arith; grown = record { rest = a ∷ []; is = refl } }
 placed (x ∷ xs) a = go (sameWords x a) refl (placed xs a)
   where
-    go : (b : Bool) → sameWords x a ≡ b → Placed xs a (intern sameWords xs a)
-        → Placed (x ∷ xs) a (cond {A = PlainInterned (List ℕ)} b (record { index = 0; table = x ∷ xs }) (record { index = suc (intern sameWords xs a .index); table = x ∷ intern sameWords xs a .table }))
+    go : (b : Bool) → sameWords x a ≡ b → Placed xs a (row-intern sameWords xs a)
+        → Placed (x ∷ xs) a (cond {A = PlainInterned (List ℕ)} b (record { index = 0; table = x ∷ xs }) (record { index = suc (row-intern sameWords xs a .index); table = x ∷ row-intern sameWords xs a .table }))
     go true e p = record { item = words-eq x a e; below = omega arith; first = omega arith; grown = record { rest = []; is = sym (append-nil (x ∷ xs)) } }
     go false e p = record {
       item = p .item;

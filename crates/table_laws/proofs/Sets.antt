@@ -11,7 +11,7 @@ use lib.Dec.{eqb, ltb}
 use lib.ListN.{length, getD, replicate, length-replicate}
 use borrow.Author.Tests.{eqb-true, eqb-false, lt-ltb, le-ltb, ltb-true, ltb-false}
 use Rattle.tables.specs.Table.{rowAt, rowsFrom, rowsOf, hitAt, keyOf, hashOf, bucketIn, capacityOf, newestOf, lookupOf, appendOf, overOf, insertAt, insertOf, left, inserted, Left}
-use Rattle.table_laws.specs.Plain.{sameKey, keyHash, intern, internAll, indicesIn, insertAll, indicesOf, Holds}
+use Rattle.table_laws.specs.Plain.{sameKey, keyHash, row-intern, internAll, indicesIn, insertAll, indicesOf, Holds}
 use Rattle.tables.specs.declared.Row.{Row}
 use Rattle.tables.specs.declared.Inserted.{Inserted}
 use Rattle.tables.proofs.Room.{room-is}
@@ -54,10 +54,10 @@ module _ (w : ℕ) (t : List ℕ) (n : ℕ) (rows : List Row) (q : Row) (H : Hol
   pub earlier : (i : ℕ) → i < n → hit i ≡ true → (j : ℕ) → j < i → sameKey w (getD rows j q) q ≡ false
   earlier i p e j r = rw (row-is j (omega arith), ← same-eq (keyOf w (rowAt t i)) (keyOf w q) (sym (hit-is i) ∙ e)) (H .apart j i r p)
 
-  pub at-found : (i : ℕ) → i < n → hit i ≡ true → intern (sameKey w) rows q ≡ record { index = i; table = rows }
+  pub at-found : (i : ℕ) → i < n → hit i ≡ true → row-intern (sameKey w) rows q ≡ record { index = i; table = rows }
   at-found i p e = intern-found (sameKey w) rows q q i (rw length-is p) (rw (row-is i p) (sym (hit-is i) ∙ e)) (earlier i p e)
 
-  pub at-none : ((i : ℕ) → i < n → hit i ≡ false) → intern (sameKey w) rows q ≡ record { index = length rows; table = rows ++ (q ∷ []) }
+  pub at-none : ((i : ℕ) → i < n → hit i ≡ false) → row-intern (sameKey w) rows q ≡ record { index = length rows; table = rows ++ (q ∷ []) }
   at-none m =
       intern-none (sameKey w) rows q q
       (λ i p. let r : i < n = rw length-is at p in rw (row-is i r) (sym (hit-is i) ∙ m i r))
@@ -105,9 +105,9 @@ abbrev pub Over : {A : Type 0} → ℕ → ℕ → List A → Type 0
 Over cap n xs = (n ≡ cap + 1) × (cap < length xs)
 
 pub record Did (w : ℕ) (t : List ℕ) (rows : List Row) (q : Row) (x : Left Inserted) : Type 0 where
-  pub index : x .got .index ≡ intern (sameKey w) rows q .index
+  pub index : x .got .index ≡ row-intern (sameKey w) rows q .index
   pub long : length (x .table) ≡ length t
-  pub after : Holds w (x .table) (x .got .count) (intern (sameKey w) rows q .table) ⊎ Over (capacityOf (length t)) (x .got .count) (intern (sameKey w) rows q .table)
+  pub after : Holds w (x .table) (x .got .count) (row-intern (sameKey w) rows q .table) ⊎ Over (capacityOf (length t)) (x .got .count) (row-intern (sameKey w) rows q .table)
 
 pub step : (w : ℕ) (t : List ℕ) (n : ℕ) (rows : List Row) (q : Row) → Holds w t n rows → Did w t rows q (insertOf w t n q)
 unfolding insertOf insertAt
@@ -120,10 +120,10 @@ step w t n rows q H = go (lookupOf w t n q) (looked w t n rows q H)
         rw (lt-ltb i n p) (record { index = rw f; long = refl; after = inl (rw f H) })
     go i (none e m) = rw (le-ltb i n (omega arith)) (full (ltb n (capacityOf (length t))) refl)
       where
-        f : intern (sameKey w) rows q ≡ record { index = length rows; table = rows ++ (q ∷ []) }
+        f : row-intern (sameKey w) rows q ≡ record { index = length rows; table = rows ++ (q ∷ []) }
         f = at-none w t n rows q H m
 
-        x : i ≡ intern (sameKey w) rows q .index
+        x : i ≡ row-intern (sameKey w) rows q .index
         x = rw f (e ∙ sym (length-is w t n rows q H))
 
         full : (b : Bool) → ltb n (capacityOf (length t)) ≡ b
@@ -162,9 +162,9 @@ within w (q ∷ qs) t n rows H r =
     let d = step w t n rows q H in
     ⊎-elim
     (λ g.
-    let s = within w qs (insertOf w t n q .table) (insertOf w t n q .got .count) (intern (sameKey w) rows q .table) g (rw (d .long) r) in
+    let s = within w qs (insertOf w t n q .table) (insertOf w t n q .got .count) (row-intern (sameKey w) rows q .table) g (rw (d .long) r) in
     (s .0, ap₂ (λ (i : ℕ) (l : List ℕ). i ∷ l) (d .index) (s .1)))
-    (λ o. absurd (let a = all-length (sameKey w) qs (intern (sameKey w) rows q .table) in let b = o .1 in omega arith))
+    (λ o. absurd (let a = all-length (sameKey w) qs (row-intern (sameKey w) rows q .table) in let b = o .1 in omega arith))
     (d .after)
 
 -- beyond it: the count is capacity + 1
@@ -184,7 +184,7 @@ beyond w (q ∷ qs) t n rows H r =
     let d = step w t n rows q H in
     let k : capacityOf (length (insertOf w t n q .table)) + 1 ≡ capacityOf (length t) + 1 = ap (λ (x : ℕ). capacityOf x + 1) (d .long) in
     ⊎-elim
-    (λ g. beyond w qs (insertOf w t n q .table) (insertOf w t n q .got .count) (intern (sameKey w) rows q .table) g (rw (d .long) r) ∙ k)
+    (λ g. beyond w qs (insertOf w t n q .table) (insertOf w t n q .got .count) (row-intern (sameKey w) rows q .table) g (rw (d .long) r) ∙ k)
     (λ o. over-stays w qs (insertOf w t n q .table) (insertOf w t n q .got .count) (o .0 ∙ sym k) ∙ k)
     (d .after)
 

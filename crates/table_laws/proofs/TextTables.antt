@@ -20,7 +20,7 @@ use Rattle.text.proofs.TextLaws.{stored-bytes, part-stored, part-absent, absent
 use Rattle.slices.proofs.Cases.{and-left}
 use Rattle.tables.specs.Table.{rowAt, rowsFrom, rowsOf, capacityOf, overOf, sameWords}
 use Rattle.strings.specs.Strings.{textCapacityOf, storedText, textSize, textHash, textRow, isText, textAt, newestText, findText, indexOf, fullOf, storeOf, insertTextAt, insertTextOf, StringsLeft, stringsLeft, textStored}
-use Rattle.table_laws.specs.Plain.{intern, Chained}
+use Rattle.table_laws.specs.Plain.{row-intern, Chained}
 use Rattle.table_laws.specs.PlainTexts.{textBytes, textOffset, section, withText, offsetIn, withTexts, offsetsIn, insertTexts, offsetsOf, textRows, rowHash, Texts}
 use Rattle.tables.specs.declared.Row.{Row}
 use Rattle.tables.proofs.Room.{room-is}
@@ -87,7 +87,7 @@ module _ (text strings : List ℕ) (bytes count : ℕ) (ts : List Text) (T : Tex
   unfolding findText newestText
   looked t = look rowHash (capacityOf (length strings)) count strings (T .chained) (textAt text strings t) (textHash t) (hashed t)
 
-  at-found : (t : Text) (i : ℕ) → i < count → textAt text strings t i ≡ true → intern sameWords ts t ≡ record { index = i; table = ts }
+  at-found : (t : Text) (i : ℕ) → i < count → textAt text strings t i ≡ true → row-intern sameWords ts t ≡ record { index = i; table = ts }
   at-found t i p e = intern-found sameWords ts t [] i below same (λ j r. rw (← words-eq (getD ts i []) t same) (T .apart j i r below))
     where
       below : i < length ts
@@ -197,12 +197,12 @@ module _ (text strings : List ℕ) (bytes count : ℕ) (t : Text) where
   insert-other n = rw (ne-eqb (length t) 0 n)
 
 step-other : (text strings : List ℕ) (bytes count : ℕ) (ts : List Text) (t : Text) → (length t ≡ 0 → ⊥) → Texts text strings bytes count ts
-    → Did text strings (textOffset ts (intern sameWords ts t .index)) (intern sameWords ts t .table) (insertTextOf text strings bytes count t)
+    → Did text strings (textOffset ts (row-intern sameWords ts t .index)) (row-intern sameWords ts t .table) (insertTextOf text strings bytes count t)
 unfolding insertTextAt storeOf
 step-other text strings bytes count ts t n T = rw (insert-other text strings bytes count t n) (go (findText text strings count t) (looked text strings bytes count ts T t))
   where
     go : (i : ℕ) → Look (textAt text strings t) count i
-        → Did text strings (textOffset ts (intern sameWords ts t .index)) (intern sameWords ts t .table)
+        → Did text strings (textOffset ts (row-intern sameWords ts t .index)) (row-intern sameWords ts t .table)
         (cond (ltb i count) (stringsLeft (textStored (rowAt strings i .a) bytes count) text strings)
         (cond (leb (bytes + textSize t) (textCapacityOf (length text)) && ltb count (capacityOf (length strings)))
         (stringsLeft (textStored bytes (bytes + textSize t) (count + 1)) (sets text bytes (storedText t)) (indexOf (capacityOf (length strings)) strings count (textRow bytes t)))
@@ -440,12 +440,12 @@ unfolding withText offsetIn
 read-plain text strings bytes count ts us [] g T u = reads-empty text strings bytes count us T
 read-plain text strings bytes count ts us (b ∷ t) g T u =
     let p = placed ts (b ∷ t) in
-    let i = intern sameWords ts (b ∷ t) .index in
-    let e : getD us (intern sameWords ts (b ∷ t) .index) [] ≡ b ∷ t = grown-item g (intern sameWords ts (b ∷ t) .index) (p .below) ∙ p .item in
-    let o : textOffset us (intern sameWords ts (b ∷ t) .index) ≡ textOffset ts (intern sameWords ts (b ∷ t) .index) = grown-offset (grown-then (p .grown) g) (intern sameWords ts (b ∷ t) .index) (p .first) in
+    let i = row-intern sameWords ts (b ∷ t) .index in
+    let e : getD us (row-intern sameWords ts (b ∷ t) .index) [] ≡ b ∷ t = grown-item g (row-intern sameWords ts (b ∷ t) .index) (p .below) ∙ p .item in
+    let o : textOffset us (row-intern sameWords ts (b ∷ t) .index) ≡ textOffset ts (row-intern sameWords ts (b ∷ t) .index) = grown-offset (grown-then (p .grown) g) (row-intern sameWords ts (b ∷ t) .index) (p .first) in
     let l = grown-length g in
     let h = p .below in
-    rw (← o) (reads-at text strings bytes count us T (intern sameWords ts (b ∷ t) .index) (omega arith) (rw e u) ∙ e)
+    rw (← o) (reads-at text strings bytes count us T (row-intern sameWords ts (b ∷ t) .index) (omega arith) (rw e u) ∙ e)
 
 -- what is stored reads back, at the offset that was answered, at once and after more texts qs
 pub reads-back : (t : Text) (qs : List Text) (text strings : List ℕ) (bytes count : ℕ) (ts : List Text) → Texts text strings bytes count ts → utf8 t ≡ true

@@ -24,20 +24,20 @@ pub record PlainInterned (A : Type 0) : Type 0 where
 
 module _ {A : Type 0} where
   -- `IndexSet::insert_full`: the place of the first item equal to a, or a at the end
-  unfoldable pub intern : (A → A → Bool) → List A → A → PlainInterned A
-  intern eq [] a = record { index = 0; table = a ∷ [] }
-  intern eq (x ∷ xs) a =
+  unfoldable pub row-intern : (A → A → Bool) → List A → A → PlainInterned A
+  row-intern eq [] a = record { index = 0; table = a ∷ [] }
+  row-intern eq (x ∷ xs) a =
       cond (eq x a) (record { index = 0; table = x ∷ xs })
-      (record { index = suc (intern eq xs a .index); table = x ∷ intern eq xs a .table })
+      (record { index = suc (row-intern eq xs a .index); table = x ∷ row-intern eq xs a .table })
 
   -- the list after a list of calls, and the indices that they answer
   unfoldable pub internAll : (A → A → Bool) → List A → List A → List A
   internAll eq xs [] = xs
-  internAll eq xs (a ∷ bs) = internAll eq (intern eq xs a .table) bs
+  internAll eq xs (a ∷ bs) = internAll eq (row-intern eq xs a .table) bs
 
   unfoldable pub indicesIn : (A → A → Bool) → List A → List A → List ℕ
   indicesIn eq xs [] = []
-  indicesIn eq xs (a ∷ bs) = intern eq xs a .index ∷ indicesIn eq (intern eq xs a .table) bs
+  indicesIn eq xs (a ∷ bs) = row-intern eq xs a .index ∷ indicesIn eq (row-intern eq xs a .table) bs
 
 -- x has q's key
 abbrev pub sameKey : ℕ → Row → Row → Bool

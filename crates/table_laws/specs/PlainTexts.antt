@@ -7,7 +7,7 @@ use mathlib.Core.Bool.{false}
 use lib.ListN.{length, getD, take}
 use Rattle.tables.specs.Table.{sameWords, rowsOf, capacityOf}
 use Rattle.strings.specs.Strings.{textCapacityOf, storedText, textSize, textRow, insertTextOf, StringsLeft, stringsLeft, textStored}
-use Rattle.table_laws.specs.Plain.{intern, Chained}
+use Rattle.table_laws.specs.Plain.{row-intern, Chained}
 use Rattle.tables.specs.declared.Row.{Row}
 
 -- ── The plain list ─────────────────────────────────────────────────────────────────────────────────────────────────────
@@ -28,11 +28,11 @@ section (t ∷ ts) = storedText t ++ section ts
 -- "A text is stored once"; "An empty text takes offset MAX": the list with t in it, and the offset of t
 unfoldable pub withText : List (List ℕ) → List ℕ → List (List ℕ)
 withText ts [] = ts
-withText ts (b ∷ t) = intern sameWords ts (b ∷ t) .table
+withText ts (b ∷ t) = row-intern sameWords ts (b ∷ t) .table
 
 unfoldable pub offsetIn : List (List ℕ) → List ℕ → ℕ
 offsetIn ts [] = 4294967295
-offsetIn ts (b ∷ t) = textOffset ts (intern sameWords ts (b ∷ t) .index)
+offsetIn ts (b ∷ t) = textOffset ts (row-intern sameWords ts (b ∷ t) .index)
 
 -- a list of texts, and the offsets that they get
 unfoldable pub withTexts : List (List ℕ) → List (List ℕ) → List (List ℕ)
