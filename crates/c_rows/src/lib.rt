@@ -1,13 +1,11 @@
-// Texts, names, rows and the two iterators of the reader over words. The exported functions of these names pass on what these answer.
+// Rows and the two iterators of the reader over words. The exported functions of these names pass on what these answer.
 ghost use mathlib.Core.Path.{_≡_};
 ghost use Rattle.lookup.specs.Answers.{fileAnswer, functionAnswer, functionsAnswer, filesAnswer};
-ghost use Rattle.file_texts.specs.Strings.{stringAnswer};
-ghost use Rattle.c_reading.specs.Reading.{filled, moved, answered, stepsTo, partWords, stringCall, gotName, nameCall, functionAnswerWords, fileAnswerWords};
+ghost use Rattle.c_reading.specs.Reading.{filled, moved, answered, stepsTo, functionAnswerWords, fileAnswerWords};
 ghost use Rattle.c_reading.specs.Reading.{functionCall, fileCall, cursorIndex, nextFunctionWords, functionNext, functionsCall, nextFileWords, fileNext};
 ghost use Rattle.c_reading.specs.Reading.{filesCall};
 use c_reading::put_file;
 use c_reading::put_function;
-use file_texts::GotString;
 use lookup::FileStep;
 use lookup::Files;
 use lookup::FunctionStep;
@@ -15,51 +13,7 @@ use lookup::Functions;
 use lookup::GotFile;
 use lookup::GotFunction;
 use slices::put;
-use slices::put64;
 use slices::word;
-
-fn put_string(part: &mut [u64], string: GotString) -> u32
-    ensures { λ r. ⌜ filled r (now (part .exit)) ≡ answered partWords (stringAnswer string) (now (part .entry)) ⌝ }
-{
-    match string {
-        GotString::At { start, len } => {
-            put64(part, 0, 1);
-            put64(part, 1, start as u64);
-            put64(part, 2, len as u64);
-            0
-        }
-        GotString::Absent => {
-            put64(part, 0, 0);
-            0
-        }
-        GotString::Refused(kind) => kind.number(),
-    }
-}
-
-// Resolves a string reference: 1 to 11, or 0 and where the text lies.
-pub fn read_string(bytes: &[u8], offset: u32, part: &mut [u64]) -> u32
-    ensures { λ r. ⌜ filled r (now (part .exit)) ≡ stringCall (now (bytes .entry)) offset (now (part .entry)) ⌝ }
-{
-    put_string(part, file_texts::read_string(bytes, offset))
-}
-
-fn name_of(bytes: &[u8], function_idx: u32) -> GotString
-    ensures { λ r. ⌜ stringAnswer r ≡ gotName (now (bytes .entry)) «function_idx» ⌝ }
-{
-    let function = lookup::get_function(bytes, function_idx);
-    match function {
-        GotFunction::Function(f) => file_texts::read_string(bytes, f.name_offset),
-        GotFunction::Nothing => GotString::Absent,
-        GotFunction::Refused(kind) => GotString::Refused(kind),
-    }
-}
-
-// The name of a function: 1 to 11, or 0 and where it lies. Absent means the stand-in.
-pub fn function_name(bytes: &[u8], function_idx: u32, part: &mut [u64]) -> u32
-    ensures { λ r. ⌜ filled r (now (part .exit)) ≡ nameCall (now (bytes .entry)) «function_idx» (now (part .entry)) ⌝ }
-{
-    put_string(part, name_of(bytes, function_idx))
-}
 
 fn put_got_function(row: &mut [u32], function: GotFunction) -> u32
     ensures { λ r. ⌜ filled r (now (row .exit)) ≡ answered functionAnswerWords (functionAnswer function) (now (row .entry)) ⌝ }

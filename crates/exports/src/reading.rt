@@ -8,7 +8,7 @@ ghost use Rattle.c_reading.specs.Reading.{functionCall, fileCall, functionsCall
 pub extern "C" fn symcache_parse(bytes: &[u8], cache: &mut [u64]) -> u32
     ensures { λ r. ⌜ filled r (now (cache .exit)) ≡ parseCall (now (bytes .entry)) (now (cache .entry)) ⌝ }
 {
-    c_lookup::parse(bytes, cache)
+    c_open::parse(bytes, cache)
 }
 
 // Reads a file to look addresses up in it: the same, and 12.
@@ -16,7 +16,7 @@ pub extern "C" fn symcache_parse(bytes: &[u8], cache: &mut [u64]) -> u32
 pub extern "C" fn symcache_open(bytes: &[u8], cache: &mut [u64]) -> u32
     ensures { λ r. ⌜ filled r (now (cache .exit)) ≡ openCall (now (bytes .entry)) (now (cache .entry)) ⌝ }
 {
-    c_lookup::open(bytes, cache)
+    c_open::open(bytes, cache)
 }
 
 // The index of the source location that an address belongs to, or MAX.
@@ -56,7 +56,7 @@ pub extern "C" fn symcache_next(bytes: &[u8], cursor: &mut [u32], frame: &mut [u
 pub extern "C" fn symcache_read_string(bytes: &[u8], offset: u32, part: &mut [u64]) -> u32
     ensures { λ r. ⌜ filled r (now (part .exit)) ≡ stringCall (now (bytes .entry)) offset (now (part .entry)) ⌝ }
 {
-    c_rows::read_string(bytes, offset, part)
+    c_texts::read_string(bytes, offset, part)
 }
 
 // The name of a function: 1 to 11, or 0 and where it lies. Absent means the stand-in.
@@ -64,7 +64,7 @@ pub extern "C" fn symcache_read_string(bytes: &[u8], offset: u32, part: &mut [u6
 pub extern "C" fn symcache_function_name(bytes: &[u8], function_idx: u32, part: &mut [u64]) -> u32
     ensures { λ r. ⌜ filled r (now (part .exit)) ≡ nameCall (now (bytes .entry)) «function_idx» (now (part .entry)) ⌝ }
 {
-    c_rows::function_name(bytes, function_idx, part)
+    c_texts::function_name(bytes, function_idx, part)
 }
 
 #[no_mangle]

@@ -4,8 +4,8 @@ use Rattle.symcache.specs.Answers.{refusalOf}
 use Rattle.lookup.specs.Answers.{functionAnswer}
 use Rattle.c_reading.proofs.ReadLaws.{name-found, name-nowhere, name-declined}
 use borrow.Author.Needs.{needs}
-use Rattle.c_rows.proofs.name_of.Statement.{statement}
-use Rattle.c_rows.proofs.name_of.Tie as tie
+use Rattle.c_texts.proofs.name_of.Statement.{statement}
+use Rattle.c_texts.proofs.name_of.Tie as tie
 
 returns : tie.Need-returns
 returns c = let a = c .before .before .before .before .before .before .args in

@@ -7,8 +7,8 @@ use Rattle.c_reading.specs.Reading.{partWords}
 use Rattle.c_reading.proofs.StoreLaws.{done, put, puts}
 use Rattle.c_reading.proofs.ReadLaws.{given, declined}
 use borrow.Author.Needs.{needs}
-use Rattle.c_rows.proofs.put_string.Statement.{statement}
-use Rattle.c_rows.proofs.put_string.Tie as tie
+use Rattle.c_texts.proofs.put_string.Statement.{statement}
+use Rattle.c_texts.proofs.put_string.Tie as tie
 
 returns : tie.Need-returns
 returns c =

@@ -13,8 +13,8 @@ use Rattle.symcache.proofs.ErrorKind.{the-type}
 use Rattle.c_reading.specs.Reading.{filled, refused}
 use Rattle.c_reading.proofs.ReadLaws.{refused-else, refused-ten}
 use borrow.Author.Needs.{needs}
-use Rattle.c_lookup.proofs.put_refusal.Statement.{statement}
-use Rattle.c_lookup.proofs.put_refusal.Tie as tie
+use Rattle.c_open.proofs.put_refusal.Statement.{statement}
+use Rattle.c_open.proofs.put_refusal.Tie as tie
 
 ten : (k : ErrorKind) (e f : ℕ) (t : List ℕ) {t₁ t₂ : List ℕ} → k ≡ kind.UnexpectedStringBytes e f → t₁ ≡ set t 0 e → t₂ ≡ set t₁ 1 f
     → filled 10 t₂ ≡ refused (refusalOf k) t

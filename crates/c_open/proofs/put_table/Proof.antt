@@ -4,8 +4,8 @@ use native.Mathlib.Omega.{arith}
 use mathlib.Core.List.{[], _∷_}
 use Rattle.c_reading.proofs.StoreLaws.{done, put, puts}
 use borrow.Author.Needs.{needs}
-use Rattle.c_lookup.proofs.put_table.Statement.{statement}
-use Rattle.c_lookup.proofs.put_table.Tie as tie
+use Rattle.c_open.proofs.put_table.Statement.{statement}
+use Rattle.c_open.proofs.put_table.Tie as tie
 
 returns : tie.Need-returns
 returns c =

@@ -3,8 +3,8 @@ use mathlib.Core.Path.{ap}
 use Rattle.symcache.specs.Answers.{refusalOf, parseAnswer}
 use Rattle.c_reading.proofs.ReadLaws.{cached-given, cached-refused}
 use borrow.Author.Needs.{needs}
-use Rattle.c_lookup.proofs.put_parsed.Statement.{statement}
-use Rattle.c_lookup.proofs.put_parsed.Tie as tie
+use Rattle.c_open.proofs.put_parsed.Statement.{statement}
+use Rattle.c_open.proofs.put_parsed.Tie as tie
 
 returns : tie.Need-returns
 returns c = let a = c .before .before .before .before .before .before .before .before .args in

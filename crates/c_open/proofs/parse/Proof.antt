@@ -4,8 +4,8 @@ use Rattle.symcache.specs.declared.SymCache.{SymCache}
 use Rattle.symcache.specs.Answers.{Answer}
 use Rattle.c_reading.specs.Reading.{cached, parseCall}
 use borrow.Author.Needs.{needs}
-use Rattle.c_lookup.proofs.parse.Statement.{statement}
-use Rattle.c_lookup.proofs.parse.Tie as tie
+use Rattle.c_open.proofs.parse.Statement.{statement}
+use Rattle.c_open.proofs.parse.Tie as tie
 
 returns : tie.Need-returns
 unfolding parseCall

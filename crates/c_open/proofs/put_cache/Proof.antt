@@ -1,8 +1,8 @@
 -- `put_cache` meets its contract: five tables, one after the other.
 use Rattle.c_reading.proofs.ReadLaws.{tables-stored}
 use borrow.Author.Needs.{needs}
-use Rattle.c_lookup.proofs.put_cache.Statement.{statement}
-use Rattle.c_lookup.proofs.put_cache.Tie as tie
+use Rattle.c_open.proofs.put_cache.Statement.{statement}
+use Rattle.c_open.proofs.put_cache.Tie as tie
 
 returns : tie.Need-returns
 returns c =

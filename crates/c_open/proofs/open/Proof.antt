@@ -4,8 +4,8 @@ use Rattle.symcache.specs.declared.SymCache.{SymCache}
 use Rattle.symcache.specs.Answers.{Answer}
 use Rattle.c_reading.specs.Reading.{cached, openCall}
 use borrow.Author.Needs.{needs}
-use Rattle.c_lookup.proofs.open.Statement.{statement}
-use Rattle.c_lookup.proofs.open.Tie as tie
+use Rattle.c_open.proofs.open.Statement.{statement}
+use Rattle.c_open.proofs.open.Tie as tie
 
 returns : tie.Need-returns
 unfolding openCall
