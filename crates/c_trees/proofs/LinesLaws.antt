@@ -18,7 +18,8 @@ use Rattle.memory.specs.declared.Converter.{Converter}
 use Rattle.writer.specs.Calls.{treeOf}
 use Rattle.line_rows.specs.Lines.{words64, words32, lineColumns, linesTexts?, putLines, unpackedTo}
 use Rattle.line_rows.specs.Numbers.{usableBy, numberOf}
-use Rattle.line_rows.specs.Calls.{unpackRoom?, linesOf}
+use Rattle.line_rows.specs.Numbers.{unpackRoom?}
+use Rattle.line_calls.specs.Calls.{linesOf}
 use Rattle.line_rows.proofs.Packed.{unpacked64-is, unpacked32-is, put-long}
 use Rattle.line_rows.proofs.Entry.{number, number-is, room-there}
 use Rattle.c_words.specs.Record.{converterOf, kept}

@@ -13,7 +13,7 @@ use Rattle.memory.specs.Memory.{Memory}
 use Rattle.symbol_call.specs.Calls.{Called, symbolOf}
 use Rattle.writer.specs.Calls.{treeOf}
 use Rattle.memory.specs.Record.{beginOf}
-use Rattle.line_rows.specs.Calls.{LinesCalled, linesOf}
+use Rattle.line_calls.specs.Calls.{LinesCalled, linesOf}
 use Rattle.serialize.specs.File.{serializeOf}
 use Rattle.c_reading.specs.Stored.{stored}
 use Rattle.slices.specs.Slices.{yes}

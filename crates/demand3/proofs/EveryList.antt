@@ -36,8 +36,8 @@ use Rattle.slices.specs.Slices.{zeros}
 use Rattle.memory.specs.Record.{usableIn, with-state, words-of, usable?, beginOf, unused}
 use Rattle.steps.specs.Symbols.{symbolRow}
 use Rattle.line_rows.specs.Lines.{lineColumns}
-use Rattle.line_rows.specs.Calls.{linesOf}
-use Rattle.line_rows.proofs.AsTree.{scratch-had, kept, lines-tree as lines-tree-is}
+use Rattle.line_calls.specs.Calls.{linesOf}
+use Rattle.line_calls.proofs.AsTree.{scratch-had, kept, lines-tree as lines-tree-is}
 use Rattle.demand3.specs.Lists.{Call, tree, lines-tree, symbol, write, with-accepted, givenTree, Standing, next, run, by-value, beginning, due, Typed}
 use Rattle.demand3.proofs.Encoding.{capacities, Enc, has-room, enc-room, enc-fits}
 use Rattle.demand3.proofs.OneCall.{Left, call-left, tree-is, symbol-is, converted-more, lengths-of, zero-memory, zero-lengths, begun-holds}

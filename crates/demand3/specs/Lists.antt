@@ -22,7 +22,7 @@ use Rattle.writer.specs.Calls.{treeOf}
 use Rattle.memory.specs.Record.{beginOf}
 use Rattle.steps.specs.Symbols.{symbolRow}
 use Rattle.line_rows.specs.Lines.{lineColumns}
-use Rattle.line_rows.specs.Calls.{linesOf}
+use Rattle.line_calls.specs.Calls.{linesOf}
 use Rattle.serialize.specs.File.{serializeOf}
 
 -- ── A call ─────────────────────────────────────────────────────────────────────────────────────────────────────────────

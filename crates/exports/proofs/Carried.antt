@@ -29,7 +29,8 @@ use Rattle.symbol_call.specs.Calls.{Called, called, setup, finished, symbolOf}
 use Rattle.writer.specs.Calls.{rows-converted, treeOf}
 use Rattle.memory.specs.Record.{words-of, usable?, beginOf}
 use Rattle.steps.specs.Symbols.{symbolRow}
-use Rattle.line_rows.specs.Calls.{LinesCalled, unpackRoom?, linesOf}
+use Rattle.line_rows.specs.Numbers.{unpackRoom?}
+use Rattle.line_calls.specs.Calls.{LinesCalled, linesOf}
 use Rattle.slices.proofs.Runs.{sets-in}
 use Rattle.c_reading.specs.Stored.{stored}
 use Rattle.slices.specs.Slices.{yes, flagOf}

@@ -14,7 +14,7 @@ use Rattle.memory.specs.Record.{beginOf}
 use Rattle.symbol_call.specs.Calls.{symbolOf}
 use Rattle.writer.specs.Calls.{treeOf}
 use Rattle.line_rows.specs.Lines.{lineColumns}
-use Rattle.line_rows.specs.Calls.{linesOf}
+use Rattle.line_calls.specs.Calls.{linesOf}
 use Rattle.serialize.specs.File.{serializeOf}
 use Rattle.demand3.specs.Lists.{Call, tree, lines-tree, symbol, write, outcome, Standing, none-counted, run, by-value, beginning}
 use Rattle.demand3.specs.Demand3.{Reopened}

@@ -14,7 +14,7 @@ use Rattle.memory.specs.Memory.{Memory}
 use Rattle.memory.specs.declared.Converter.{Converter}
 use Rattle.memory.specs.Record.{usable?}
 use Rattle.line_rows.specs.Lines.{words64, words32, packed, lineColumns, linesTexts?}
-use Rattle.line_rows.specs.Calls.{unpackRoom?}
+use Rattle.line_rows.specs.Numbers.{unpackRoom?}
 use Rattle.line_rows.specs.Numbers.{usableBy, numberOf}
 use Rattle.line_rows.proofs.Packed.{length64, length32, refusal-lines}
 

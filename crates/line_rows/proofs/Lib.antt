@@ -4,5 +4,4 @@ pub mod Again
 pub mod Numbers
 pub mod Packed
 pub mod Entry
-pub mod AsTree
 pub mod Worked

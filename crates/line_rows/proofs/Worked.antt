@@ -9,7 +9,7 @@ use Rattle.rows.specs.Columns.{Columns, columns, functionInColumns, lineInColum
 use Rattle.rows.specs.declared.LineRow.{LineRow}
 use Rattle.rows.specs.declared.OptionalPart.{OptionalPart}
 use Rattle.line_rows.specs.Lines.{packed, lineColumns}
-use Rattle.line_rows.specs.Calls.{unpackRoom?}
+use Rattle.line_rows.specs.Numbers.{unpackRoom?}
 
 -- trk, /b, a.rs, src, pos, p.rs
 abbrev words : List ℕ

@@ -1,5 +1,5 @@
 // A tree call whose line rows are one lent list: their texts, the words that they are unpacked to, and the number that the call is refused with before
-// a word is unpacked. What the whole call leaves is said in specs/Calls.antt.
+// a word is unpacked. What the whole call leaves is said in crate line_calls.
 ghost use mathlib.Core.Path.{_≡_};
 ghost use Rattle.line_rows.specs.Lines.{words64, words32, linesTexts?, putRow, unpackedTo};
 ghost use Rattle.line_rows.specs.Numbers.{numberOf};

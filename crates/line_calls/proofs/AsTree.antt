@@ -18,7 +18,8 @@ use Rattle.symbol_call.specs.Calls.{Called, called, finished}
 use Rattle.writer.specs.Calls.{rows-converted, treeOf}
 use Rattle.slices.specs.Slices.{zeros}
 use Rattle.memory.specs.Record.{usable?}
-use Rattle.line_rows.specs.Calls.{LinesCalled, lines-called, unpackRoom?, linesOf}
+use Rattle.line_rows.specs.Numbers.{unpackRoom?}
+use Rattle.line_calls.specs.Calls.{LinesCalled, lines-called, linesOf}
 
 -- ── Rows that are refused for want of scratch alone ──
 

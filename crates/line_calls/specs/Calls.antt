@@ -1,8 +1,8 @@
 -- A tree call whose line rows are one lent list of rows, for every input: what the call over number slices gives for the columns that the rows stand for.
-use mathlib.Core.Bool.{Bool, cond, _&&_}
+use mathlib.Core.Bool.{cond, _&&_}
 use mathlib.Core.List.{List}
 use Prim.Native.Nat.{ℕ}
-use lib.Dec.{eqb, leb}
+use lib.Dec.{eqb}
 use lib.ListN.{length}
 use Rattle.rows.specs.Columns.{Columns}
 use Rattle.refusals.specs.Refusals.{treeRefusal}
@@ -12,6 +12,7 @@ use Rattle.symbol_call.specs.Calls.{Called, called}
 use Rattle.writer.specs.Calls.{treeOf}
 use Rattle.slices.specs.Slices.{zeros}
 use Rattle.memory.specs.Record.{usable?}
+use Rattle.line_rows.specs.Numbers.{unpackRoom?}
 
 -- what such a call leaves: what a tree call does, and the memory that the line rows were unpacked into
 pub record LinesCalled : Type 0 where
@@ -21,10 +22,6 @@ pub record LinesCalled : Type 0 where
 
 abbrev pub lines-called : Called → List ℕ → List ℕ → LinesCalled
 lines-called o u v = record { called = o; unpacked64 = u; unpacked32 = v }
-
--- the memory lent for the line rows holds as many rows as there are
-unfoldable pub unpackRoom? : Columns → List ℕ → List ℕ → Bool
-unpackRoom? k u v = leb (length (k .lines64)) (length u) && leb (length (k .lines32)) (length v)
 
 -- That memory counts as scratch: 16 where it has fewer rows than there are line rows, zero after 17 and after every accepted tree, and any other
 -- refusal changes none of it.
