@@ -14,7 +14,9 @@
  *
  * Numbers. A function that can refuse answers 0 for success, or the number of the one reason that
  * counts. Every refusal leaves all lent memory as it was, with two exceptions: SYMCACHE_TABLE_FULL
- * (17) empties the tables, and SYMCACHE_UNEXPECTED_STRING_BYTES (10) comes with its two counts.
+ * (17) empties the tables, and SYMCACHE_UNEXPECTED_STRING_BYTES (10) of symcache_parse and
+ * symcache_open stores its two counts in `cache`. Every other function that reads a file answers 10
+ * without counts and stores nothing; symcache_parse has them.
  *
  * No function has state of its own: different threads may call with different memory at the same
  * time.
@@ -95,6 +97,12 @@ extern "C" {
  *   strings         an index of the texts, a row for each; half as many rows as text bytes are
  *                   always enough
  *   files, functions, call_locations, ranges
+ * From one symcache_begin to the next lend each at the very length that it had there, with the
+ * content that the call before left. A table too short for what is in use is SYMCACHE_CLOSED (19),
+ * and nothing changes. Any other length than at the beginning is taken: the call ends, stays inside
+ * what is lent and has one outcome. But rows are found by places that go with the length, so
+ * what was stored before may be missed, stored twice or found where it is not, and the file need
+ * not show the frames of the rows. To go on with larger tables begin anew, and add all again.
  * A table's capacity is its length divided by 8, rounded down, in rows. Rows and text bytes that
  * calls need at most, with F function rows, L line rows and S symbols in all: functions F + S,
  * files L, call_locations L, ranges 2F + 2L + 2S, strings F + 6L + S, text bytes the texts' lengths

@@ -112,6 +112,43 @@ fn what_a_frame_holds() {
     assert_eq!(name, "pos");
 }
 
+/// The two trees of demand3/proofs/SmallCalls.antt: a line with no file name and a compilation directory that is not
+/// UTF-8; a root without lines.
+#[test]
+fn a_file_without_a_name() {
+    let mut rows = Rows::new();
+    rows.push_function(0, 0x1000, 4, false, 2, "f", b"\xff")
+        .unwrap();
+    rows.push_line(&LineInfo {
+        file: symcache::debuginfo::FileInfo::new("", "d"),
+        ..common::line(0x1000, 4, 7, "")
+    })
+    .unwrap();
+    let mut bare = Rows::new();
+    bare.push_function(0, 0x1004, 4, false, 3, "g", b"")
+        .unwrap();
+    let mut converter = Converter::builder().build();
+    converter.process_rows(&rows.columns()).unwrap();
+    converter.process_rows(&bare.columns()).unwrap();
+    let bytes = converter.serialize().unwrap();
+    assert_eq!(bytes.len(), 206);
+
+    let cache = SymCache::parse(&bytes).unwrap();
+    let frames: Vec<_> = cache.lookup(0x1002).collect();
+    assert_eq!(frames.len(), 1);
+    assert_eq!((frames[0].function().name(), frames[0].line()), ("f", 7));
+    let file = frames[0].file().unwrap();
+    assert_eq!(file.name(), "");
+    assert_eq!(file.directory(), Some("d"));
+    assert_eq!(file.comp_dir(), None);
+
+    let frames: Vec<_> = cache.lookup(0x1006).collect();
+    assert_eq!(frames.len(), 1);
+    assert_eq!((frames[0].function().name(), frames[0].line()), ("g", 0));
+    assert!(frames[0].file().is_none());
+    assert_eq!(cache.lookup(1 << 32).count(), 0);
+}
+
 #[test]
 fn tables() {
     let cache = SymCache::parse(STORED).unwrap();

@@ -1,2 +1,3 @@
 pub mod StoreLaws
 pub mod ReadLaws
+pub mod Numbers

@@ -152,9 +152,9 @@ gotName s i = andThen (gotFunction s i) (nameAfter s)
 unfoldable pub nameCall : List ℕ → ℕ → List ℕ → Filled
 nameCall s i t = answered partWords (gotName s i) t
 
--- the bytes of a name, "a part of the string section or of the stand-in the caller lent", as a caller takes them by the three words
-unfoldable pub nameBytes : List ℕ → List ℕ → List ℕ → List ℕ
-nameBytes s standIn t = cond (eqb (getD t 0 0) 0) standIn (take (getD t 2 0) (drop (getD t 1 0) s))
+-- the text that the three words tell of, as a caller takes it: a part of the file, or none
+unfoldable pub textTold : List ℕ → List ℕ → Option (List ℕ)
+textTold s t = cond (eqb (getD t 0 0) 0) none (some (take (getD t 2 0) (drop (getD t 1 0) s)))
 
 -- ── Files and functions ────────────────────────────────────────────────────────────────────────────────────────────────
 

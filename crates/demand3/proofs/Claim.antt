@@ -19,20 +19,22 @@ use Rattle.model.specs.Frames.{frames-at}
 use Rattle.model.specs.Counts.{Capacities, plain-fits?}
 use Rattle.model.specs.Premises.{reach, Legal, WellNested, line-at, nested-at}
 use Rattle.model.specs.Written.{as-written}
+use Rattle.model.specs.FileWords.{sections}
 use Rattle.model.proofs.Spans.{∈-elim, ∈-append, ∈-left}
 use Rattle.model.proofs.Demand.{demand-root, demand-stack, alone}
-use Rattle.model.proofs.Sections.{sections}
 use Rattle.rows.specs.Columns.{Columns}
 use Rattle.refusals.specs.Refusals.{treeRefusal}
 use Rattle.refusals.proofs.Accepted.{accepted}
 use Rattle.memory.specs.declared.Converter.{Converter}
 use Rattle.steps.proofs.Lengths.{Lens}
 use Rattle.serialize.specs.File.{Wrote, wrote, serializeOf}
+use Rattle.symcache.specs.declared.SymCache.{SymCache}
 use Rattle.symcache.specs.Answers.{gives}
 use Rattle.symcache.specs.Reader.{layoutOf, opened}
 use Rattle.read_back.specs.Bytes.{sections-header, file-bytes}
 use Rattle.read_back.specs.Shown.{with-stand-in, Found}
 use Rattle.read_back.proofs.Written.{file-shows, file-opened, file-demand}
+use Rattle.read_back.proofs.NeverCut.{opened-parsed, next-ends-by-rule}
 use Rattle.symbol_call.specs.Calls.{setup, symbolOf}
 use Rattle.writer.specs.Calls.{treeOf}
 use Rattle.memory.specs.Record.{usableIn, usable?, beginOf}
@@ -135,18 +137,20 @@ closed-writes n r out h = rw (h .closed)
 
 -- what an open list's file shows: f is its bytes
 open-shows : (n : Lens) (b : Converter) (r : Standing Converter) (id : List ℕ) (arch : ℕ) (X : Setup) (file : List ℕ) → Open n b r → setup b ≡ X → length id ≡ 32 → arch ≤ MAX
-    → ((g : Given) → g ∈ r .counted → Shaped g) → file ≡ file-bytes id arch (sections (as-written (converted X (r .counted)))) → Reopened X (r .counted) file
+    → ((g : Given) → g ∈ r .counted → Shaped g) → file ≡ file-bytes id arch (sections (as-written (converted X (r .counted)))) → Reopened id arch X (r .counted) file
 open-shows n b r id arch X file h same size small shaped e =
     record {
-      tables = layoutOf (sections-header id arch (sections (as-written (converted X gs))));
-      opens = subst (λ (f : List ℕ). opened f ≡ gives (layoutOf (sections-header id arch (sections (as-written (converted X gs)))))) at (file-opened X gs (h .fitting) K (capacities-lent n) room id arch size low [] [] 0);
+      laid-out = e;
+      parses = opened-parsed file c opens;
+      opens = opens;
       every-address = λ d x. subst (λ (f : List ℕ). Found f d x (map (with-stand-in d) (frames-at (converted X gs) x))) at (file-shows X gs (h .fitting) K (capacities-lent n) room id arch size low [] d x);
-      demanded = λ p q rs i l j x c.
+      ends-by-rule = next-ends-by-rule file;
+      demanded = λ p q rs i l j x m.
           let well : (g : Given) → g ∈ gs → WellNested g = λ g k. whole g (p .nested g k) (shaped g k) in
-          let some : nested-at X x (q ∷ rs) ≢ [] = found-some X q rs x (line-found (q .lines) l x j c) in
-          let dem = demand-root X gs well (p .separate) q rs i x l j c in
+          let some : nested-at X x (q ∷ rs) ≢ [] = found-some X q rs x (line-found (q .lines) l x j m) in
+          let dem = demand-root X gs well (p .separate) q rs i x l j m in
           record {
-            frames = λ d. subst (λ (f : List ℕ). Found f d x (asked X d x q rs)) at (file-demand X gs (h .fitting) K (capacities-lent n) room id arch size low [] d x well (p .separate) q rs i l j c .0);
+            frames = λ d. subst (λ (f : List ℕ). Found f d x (asked X d x q rs)) at (file-demand X gs (h .fitting) K (capacities-lent n) room id arch size low [] d x well (p .separate) q rs i l j m .0);
             one-a-depth = dem .1;
             by-recursion = sym (dem .0) ∙ demand-stack X gs well (p .separate) q rs i x some;
             alone = λ before after k t ts u. alone X gs well (p .separate) x q rs before after k some t ts u;
@@ -167,6 +171,13 @@ open-shows n b r id arch X file h same size small shaped e =
 
     at : file-bytes id arch (sections (as-written (converted X gs))) ++ [] ≡ file
     at = append-nil _ ∙ sym e
+
+    -- the tables that the header tells of
+    c : SymCache
+    c = layoutOf (sections-header id arch (sections (as-written (converted X gs))))
+
+    opens : opened file ≡ gives c
+    opens = subst (λ (f : List ℕ). opened f ≡ gives c) at (file-opened X gs (h .fitting) K (capacities-lent n) room id arch size low [] [] 0)
 
 -- ── ONE CLAIM ABOUT THE WHOLE LIST ──
 
@@ -190,7 +201,7 @@ demand3 id arch f s m calls size small typed before after out e z =
     o : Wrote
     o = serializeOf (r .carrier) (r .memory) out
 
-    while-open : Open (lengths-of m) b r → Reopened X (r .counted) (file-written o)
+    while-open : Open (lengths-of m) b r → Reopened id arch X (r .counted) (file-written o)
     while-open h =
         let i : r .carrier .«debug_id» ≡ id = ap (λ (c : Converter). c .«debug_id») (h .began) in
         let a : r .carrier .arch ≡ arch = ap (λ (c : Converter). c .arch) (h .began) in
@@ -198,5 +209,5 @@ demand3 id arch f s m calls size small typed before after out e z =
         taken _ out o (write-answers X (r .counted) (lengths-of m) (r .carrier) (r .memory) (h .opened) (h .enc) out) z in
         open-shows (lengths-of m) b r id arch X (file-written o) h refl size small (run-shaped before (beginning id arch f s m) (λ g k. elim k [ ])) (rw (i, a) at w)
 
-    while-closed : Closed (lengths-of m) r → Reopened X (r .counted) (file-written o)
+    while-closed : Closed (lengths-of m) r → Reopened id arch X (r .counted) (file-written o)
     while-closed h = let bad : _≡_ {A = ℕ} 19 0 = sym (closed-writes (lengths-of m) r out h) ∙ z in absurd (omega arith)

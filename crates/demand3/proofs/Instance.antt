@@ -223,7 +223,7 @@ second-counted = first-counted ++ (tree-rows third-root (inner ∷ innermost ∷
 
 pub record Computed : Type 0 where
   pub words-typed : every? typed? calls ≡ true
-  pub answers : numbers calls start ≡ 0 ∷ 0 ∷ 13 ∷ 14 ∷ 15 ∷ 16 ∷ 14 ∷ 18 ∷ 0 ∷ 0 ∷ 0 ∷ 0 ∷ 0 ∷ 0 ∷ 0 ∷ 0 ∷ 18 ∷ 0 ∷ 17 ∷ 19 ∷ 19 ∷ 19 ∷ []
+  pub answers : numbers by-value calls start ≡ 0 ∷ 0 ∷ 13 ∷ 14 ∷ 15 ∷ 16 ∷ 14 ∷ 18 ∷ 0 ∷ 0 ∷ 0 ∷ 0 ∷ 0 ∷ 0 ∷ 0 ∷ 0 ∷ 18 ∷ 0 ∷ 17 ∷ 19 ∷ 19 ∷ 19 ∷ []
   pub first-counts : first-stand .counted ≡ first-counted
   pub first-met : premises? first-counted ≡ true
   pub second-counts : second-stand .counted ≡ second-counted
@@ -264,19 +264,19 @@ second-file = file-written second-written
 
 -- both writes answer 0
 pub first-zero : first-written .code ≡ 0
-first-zero = sym (number-in first-calls (more-calls ++ (write second-output ∷ last-calls)) (write first-output) start) ∙ ap (λ (l : List ℕ). getD l 13 0) (computed .answers)
+first-zero = sym (number-in by-value first-calls (more-calls ++ (write second-output ∷ last-calls)) (write first-output) start) ∙ ap (λ (l : List ℕ). getD l 13 0) (computed .answers)
 
 pub second-zero : second-written .code ≡ 0
-second-zero = sym (number-in before-second last-calls (write second-output) start) ∙ ap (λ (l : List ℕ). getD l 17 0) (computed .answers)
+second-zero = sym (number-in by-value before-second last-calls (write second-output) start) ∙ ap (λ (l : List ℕ). getD l 17 0) (computed .answers)
 
-pub first-reopened : Reopened switches first-counted first-file
+pub first-reopened : Reopened id 5 switches first-counted first-file
 first-reopened =
-    subst (λ (gs : List Given). Reopened switches gs first-file) (computed .first-counts)
+    subst (λ (gs : List Given). Reopened id 5 switches gs first-file) (computed .first-counts)
     (demand3 id 5 true true lent calls refl (omega arith) (typed calls (computed .words-typed)) first-calls (more-calls ++ (write second-output ∷ last-calls)) first-output refl first-zero)
 
-pub second-reopened : Reopened switches second-counted second-file
+pub second-reopened : Reopened id 5 switches second-counted second-file
 second-reopened =
-    subst (λ (gs : List Given). Reopened switches gs second-file) (computed .second-counts)
+    subst (λ (gs : List Given). Reopened id 5 switches gs second-file) (computed .second-counts)
     (demand3 id 5 true true lent calls refl (omega arith) (typed calls (computed .words-typed)) before-second last-calls second-output refl second-zero)
 
 pub first-premises : Premises first-counted
@@ -292,7 +292,7 @@ frame name entry language number file comp-dir srcsrv-name revision = record {
   entry = entry;
   language = language;
   number = number;
-  file = some (record { name = some file; directory = some src; comp-dir = comp-dir; srcsrv-name = srcsrv-name; srcsrv-dir = none; revision = revision });
+  file = some (record { name = file; directory = some src; comp-dir = comp-dir; srcsrv-name = srcsrv-name; srcsrv-dir = none; revision = revision });
 }
 
 abbrev low-at : ℕ → Shown

@@ -13,3 +13,4 @@ pub mod Tests
 pub mod Sized
 pub mod Worked
 pub mod Instance
+pub mod SmallCalls

@@ -1,5 +1,5 @@
--- WHAT IS COMPUTED OF A LIST OF CALLS that stands there as numbers (Worked, Instance): the number of every call; a test of 32-bit words, for `Typed`; and a test of the premises. A test that is
--- true gives what demand 3 asks for.
+-- WHAT IS COMPUTED OF A LIST OF CALLS that stands there as numbers (Worked, Instance, SmallCalls, exports' Instance): the number of every call; a test of 32-bit words, for `Typed`; and a test of the
+-- premises. A test that is true gives what demand 3 asks for.
 use mathlib.Core.Path.{_≡_, refl}
 use mathlib.Core.Bool.{Bool, true, false, not, _&&_, _||_}
 use mathlib.Core.Option.{Option, none, some}
@@ -15,8 +15,8 @@ use Rattle.model.specs.Basics.{_∈_, here, there, Span, Asc, Disjoint, Apart}
 use Rattle.model.specs.Rows.{MAX, Text, LineRow, FunctionRow, SymbolRow, Given, tree-rows, symbol-row, line-size, symbol-skipped}
 use Rattle.model.specs.Premises.{reaches, all-reaches, inlinees, RowWell, LastAt, InlineeWell, RowsWell, Named, Counted, NotIn, SymbolClear, Separate, AllSeparate}
 use Rattle.model.proofs.Spans.{∈-elim}
-use Rattle.memory.specs.declared.Converter.{Converter}
-use Rattle.demand3.specs.Lists.{Call, tree, lines-tree, symbol, write, Standing, next, run, by-value, Typed}
+use Rattle.memory.specs.Memory.{Memory}
+use Rattle.demand3.specs.Lists.{Call, tree, lines-tree, symbol, write, Outcome, Standing, next, run, Typed}
 use Rattle.demand3.specs.Demand3.{Nested, Premises}
 
 -- ── Tests of a list ──
@@ -54,18 +54,20 @@ module _ {A : Type 0} (p : A → Bool) where
 
 -- ── The number of every call ──
 
-abbrev pub number-of : Call → Standing Converter → ℕ
-number-of k r = by-value k (r .carrier) (r .memory) .code
+-- `leaves` says of every call what it leaves, as for a list's `next` and `run`
+module _ {R : Type 0} (leaves : Call → R → Memory → Outcome R) where
+  abbrev pub number-of : Call → Standing R → ℕ
+  number-of k r = leaves k (r .carrier) (r .memory) .code
 
-unfoldable pub numbers : List Call → Standing Converter → List ℕ
-numbers [] r = []
-numbers (k ∷ ks) r = number-of k r ∷ numbers ks (next by-value k r)
+  unfoldable pub numbers : List Call → Standing R → List ℕ
+  numbers [] r = []
+  numbers (k ∷ ks) r = number-of k r ∷ numbers ks (next leaves k r)
 
--- the number of a call in the list
-pub number-in : (before after : List Call) (k : Call) (r : Standing Converter) → getD (numbers (before ++ (k ∷ after)) r) (length before) 0 ≡ number-of k (run by-value before r)
-unfolding numbers run
-number-in [] after k r = refl
-number-in (c ∷ before) after k r = number-in before after k (next by-value c r)
+  -- the number of a call in the list
+  pub number-in : (before after : List Call) (k : Call) (r : Standing R) → getD (numbers (before ++ (k ∷ after)) r) (length before) 0 ≡ number-of k (run leaves before r)
+  unfolding numbers run
+  number-in [] after k r = refl
+  number-in (c ∷ before) after k r = number-in before after k (next leaves c r)
 
 -- ── 32-bit words ──
 

@@ -69,7 +69,7 @@ written = serializeOf (stands .carrier) (stands .memory) output
 
 pub record Computed : Type 0 where
   pub words-typed : every? typed? calls ≡ true
-  pub answers : numbers calls start ≡ 0 ∷ 0 ∷ []
+  pub answers : numbers by-value calls start ≡ 0 ∷ 0 ∷ []
   pub counted : stands .counted ≡ worked
   pub file : written ≡ wrote 0 305 (original.worked ++ (7 ∷ []))  -- the original's 305 bytes, and the last byte as it was
   pub met : premises? worked ≡ true
@@ -81,11 +81,11 @@ computed = record { words-typed = refl; answers = refl; counted = refl; file = r
 -- ── What demand 3 gives ──
 
 -- the file, reopened
-pub reopened : Reopened plain-setup worked original.worked
+pub reopened : Reopened (replicate 32 0) 0 plain-setup worked original.worked
 unfolding original.worked
 reopened =
-    subst (λ (f : List ℕ). Reopened plain-setup worked f) (ap file-written (computed .file))
-    (subst (λ (gs : List Given). Reopened plain-setup gs (file-written written)) (computed .counted)
+    subst (λ (f : List ℕ). Reopened (replicate 32 0) 0 plain-setup worked f) (ap file-written (computed .file))
+    (subst (λ (gs : List Given). Reopened (replicate 32 0) 0 plain-setup gs (file-written written)) (computed .counted)
     (demand3 (replicate 32 0) 0 false false lent calls refl (omega arith) (typed calls (computed .words-typed)) one-tree [] output refl (ap (λ (o : Wrote). o .code) (computed .file))))
 
 pub worked-premises : Premises worked
@@ -98,7 +98,7 @@ frame name entry number file = record {
   entry = entry;
   language = 2;
   number = number;
-  file = some (record { name = some file; directory = some src; comp-dir = some b; srcsrv-name = none; srcsrv-dir = none; revision = none });
+  file = some (record { name = file; directory = some src; comp-dir = some b; srcsrv-name = none; srcsrv-dir = none; revision = none });
 }
 
 -- M1: at 0x1003 two frames, pos at line 50 of src/p.rs, inlined into trk at line 10 of src/a.rs

@@ -17,12 +17,11 @@ use Rattle.model.specs.Basics.{Span, Entry, before, place, sort}
 use Rattle.model.specs.Rows.{Text, Given}
 use Rattle.model.specs.Converter.{Setup, File, Function, Location, nowhere, at, Tables, range-at, converted}
 use Rattle.model.specs.Written.{place-range, by-start, as-written, locations}
-use Rattle.model.specs.FileWords.{file-words, function-words, location-words, starts, string-section}
+use Rattle.model.specs.FileWords.{file-words, function-words, location-words, starts, string-section, Sections, sections}
 use Rattle.model.proofs.Chains.{range-here, range-there, Unique}
 use Rattle.model.proofs.Always.{starts-unique, last-end-starts}
 use Rattle.model.proofs.Written.{by-start-same, by-start-length}
 use Rattle.model.proofs.FileRows.{section-length}
-use Rattle.model.proofs.Sections.{Sections, sections}
 use Rattle.slices.specs.Bytes.{le, wordBytes, tableBytes}
 use Rattle.raw.specs.Rows.{versionInfoBytes, headerBytes, fileBytes, functionBytes, locationBytes, rangeBytes}
 use Rattle.raw.specs.Head.{version-info, header, padding}

@@ -1,7 +1,7 @@
 -- DEMAND 3: what every reopened file shows. One claim about a whole list of calls after one beginning, in any order, refused ones included.
 -- The steps of the list are the definitions that the contracts of `begin`, `process_symbolic_function`, `process_symbolic_symbol` and `serialize` cite,
--- and the exported call over a list of line rows (Calls, Lists; serialize's File); and a file is read by those that `lookup`, `next`,
--- `function_name` and `read_string` cite (read_back's Shown). The premises are document 01's words, on the rows as they were given.
+-- and the exported call over a list of line rows (Calls, Lists; serialize's File); and a file is read by those that `parse`, `open`, `lookup`, `next`,
+-- `function_name`, `get_string` and `read_string` cite (read_back's Shown). The premises are document 01's words, on the rows as they were given.
 use mathlib.Core.Path.{_≡_}
 use mathlib.Core.Bool.{Bool, true, false}
 use mathlib.Core.List.{List, [], _∷_, _++_, map, reverse}
@@ -12,10 +12,16 @@ use Rattle.model.specs.Rows.{MAX, LineRow, FunctionRow, Given, tree-rows, symbo
 use Rattle.model.specs.Converter.{Setup, converted}
 use Rattle.model.specs.Frames.{frames-at}
 use Rattle.model.specs.Premises.{reach, RowsWell, AllSeparate, nested-at, stack-of}
+use Rattle.model.specs.Written.{as-written}
+use Rattle.model.specs.FileWords.{Sections, sections}
 use Rattle.symcache.specs.declared.SymCache.{SymCache}
 use Rattle.symcache.specs.Answers.{gives}
-use Rattle.symcache.specs.Reader.{opened}
+use Rattle.symcache.specs.Reader.{layoutOf, parsed, opened}
+use Rattle.lookup.specs.declared.SourceLocations.{SourceLocations}
+use Rattle.lookup.specs.declared.Frame.{Frame}
+use Rattle.read_back.specs.Bytes.{sections-header, file-bytes}
 use Rattle.read_back.specs.Shown.{Shown, with-stand-in, Found}
+use Rattle.read_back.specs.Ends.{Handed, EndsByRule}
 use Rattle.memory.specs.Memory.{Memory}
 use Rattle.serialize.specs.File.{Wrote, serializeOf}
 use Rattle.demand3.specs.Lists.{Call, write, run, by-value, beginning, Typed}
@@ -36,7 +42,7 @@ pub record Premises (gs : List Given) : Type 0 where
 -- ── What is asked for ──────────────────────────────────────────────────────────────────────────────────────────────────
 
 -- one frame for each row of the tree with a line covering x, "innermost first": with its name (undecorated where that is on, or the stand-in d),
--- entry, language, number and file
+-- entry, language, number and file, whose name is the covering line's own, empty where it is empty
 abbrev pub asked : Setup → List ℕ → ℕ → FunctionRow → List FunctionRow → List Shown
 asked X d x q rs = map (with-stand-in d) (reverse (items (nested-at X x (q ∷ rs))))
 
@@ -49,12 +55,27 @@ pub record Shows (X : Setup) (gs : List Given) (file : List ℕ) (q : FunctionRo
   pub alone : (before after : List Given) → gs ≡ before ++ (tree-rows q rs ∷ after)
       → (p : FunctionRow) (ps : List FunctionRow) → tree-rows p ps ∈ (before ++ after) → nested-at X x (p ∷ ps) ≡ []
 
--- a file: it is opened with 0; every lookup answers 0, at every address, and shows what the plain tables of the counted calls say; and where the
--- premises hold, demand 3
-pub record Reopened (X : Setup) (gs : List Given) (file : List ℕ) : Type 0 where
-  pub tables : SymCache
-  pub opens : opened file ≡ gives tables
+-- the sections of a file: the rows and texts of the plain tables of the counted calls
+abbrev pub plain-sections : Setup → List Given → Sections
+plain-sections X gs = sections (as-written (converted X gs))
+
+-- where they lie in the file, and how many rows each has
+abbrev pub plain-layout : List ℕ → ℕ → Setup → List Given → SymCache
+plain-layout id arch X gs = layoutOf (sections-header id arch (plain-sections X gs))
+
+-- a file, written after a beginning with this debug id and arch number, and after the counted calls gs:
+-- `laid-out`: as document 01's Rows and Writer say, with the true counts in the header, its bytes are those of the plain tables of the counted calls;
+-- `parses`, `opens`: as Reader says, `parse` and `open` answer 0, with these tables;
+-- `every-address`: as Lookup says, every lookup answers 0, at every address, and shows what the plain tables of the counted calls say;
+-- `ends-by-rule`: at every cursor that `lookup` and `next` hand out, `next` is at the end exactly where "The walk ends at MAX, outside the table, or at
+-- an index already met" says so;
+-- `demanded`: where the premises hold, demand 3
+pub record Reopened (id : List ℕ) (arch : ℕ) (X : Setup) (gs : List Given) (file : List ℕ) : Type 0 where
+  pub laid-out : file ≡ file-bytes id arch (plain-sections X gs)
+  pub parses : parsed file ≡ gives (plain-layout id arch X gs)
+  pub opens : opened file ≡ gives (plain-layout id arch X gs)
   pub every-address : (d : List ℕ) (x : ℕ) → Found file d x (map (with-stand-in d) (frames-at (converted X gs) x))
+  pub ends-by-rule : (fs : List Frame) (k : SourceLocations) → Handed file fs k → EndsByRule file fs k
   pub demanded : Premises gs → (q : FunctionRow) (rs : List FunctionRow) → tree-rows q rs ∈ gs
       → (n : LineRow) → n ∈ q .lines → (x : ℕ) → Covers (reach n) x → Shows X gs file q rs x
 
@@ -73,4 +94,4 @@ Demand3 =
     → (before after : List Call) (out : List ℕ) → calls ≡ before ++ (write out ∷ after)
     → let r = run by-value before (beginning id arch f s m) in
     let o = serializeOf (r .carrier) (r .memory) out in
-    o .code ≡ 0 → Reopened (record { functions-on = f; symbols-on = s }) (r .counted) (file-written o)
+    o .code ≡ 0 → Reopened id arch (record { functions-on = f; symbols-on = s }) (r .counted) (file-written o)

@@ -16,11 +16,27 @@ use Rattle.lookup.specs.declared.Functions.{Functions}
 use Rattle.lookup.specs.declared.Files.{Files}
 use Rattle.symcache.specs.Answers.{Answer, gives, andThen}
 use Rattle.lookup.specs.Answers.{Framed, NextFunction, NextFile}
-use Rattle.symcache.specs.Reader.{parsed, opened, locationIn, functionIn, fileIn}
+use Rattle.symcache.specs.Reader.{startAt, parsed, opened, locationIn, functionIn, fileIn}
 -- the search
 unfoldable pub use Rattle.search.specs.Search.{countIn, halfIn, quartersIn, searchIn, foundAmong, usable, foundIn}
 
--- the index of the location that an address belongs to, or MAX, in an opened file
+-- ── The location that an address belongs to ──
+
+-- the last of n starts that is at most the address
+unfoldable pub lastStart : (ℕ → ℕ) → ℕ → ℕ → Option ℕ
+lastStart f a zero = none
+lastStart f a (suc n) = cond (leb (f n) a) (some n) (lastStart f a n)
+
+-- the location of a range, or MAX where there is none. v9/lookup.rs: "The ranges section indexes into the tail of the source locations section"
+unfoldable pub locationOfRange : SymCache → Option ℕ → ℕ
+locationOfRange c none = max32
+locationOfRange c (some i) = (c .«num_source_locations» - c .«num_ranges») + i
+
+-- in an opened file, whose starts ascend: the location of the last start at most the address; an address above MAX has none
+unfoldable pub belongsTo : List ℕ → SymCache → ℕ → ℕ
+belongsTo s c a = cond (ltb max32 a) max32 (locationOfRange c (lastStart (startAt s (c .ranges)) a (c .«num_ranges»)))
+
+-- where the search ends, in bytes of any content. In an opened file it is `belongsTo`: proofs/ByMeaning.antt
 abbrev pub foundAt : List ℕ → SymCache → ℕ → ℕ
 foundAt s c a = foundIn s (c .«source_locations») (c .«num_source_locations») (c .ranges) (c .«num_ranges») a
 
@@ -29,14 +45,18 @@ foundAt s c a = foundIn s (c .«source_locations») (c .«num_source_locations»
 abbrev pub walkFrom : ℕ → SourceLocations
 walkFrom i = record { first = i; current = i; steps = 0 }
 
--- where a lookup in an opened file begins: "Only the first location is tested for the empty mapping"
-unfoldable pub walkAt : List ℕ → SymCache → ℕ → SourceLocations
-walkAt s c a =
-    cond (eqb (foundAt s c a) max32) (walkFrom max32)
-    (cond (isNoSourceLocation (locationIn s c (foundAt s c a))) (walkFrom max32) (walkFrom (foundAt s c a)))
+-- the walk from a location, or MAX: "Only the first location is tested for the empty mapping"
+abbrev pub walkTested : List ℕ → SymCache → ℕ → SourceLocations
+walkTested s c i =
+    cond (eqb i max32) (walkFrom max32) (cond (isNoSourceLocation (locationIn s c i)) (walkFrom max32) (walkFrom i))
 
+-- the walk of an address, from where the search ends
+unfoldable pub walkAt : List ℕ → SymCache → ℕ → SourceLocations
+walkAt s c a = walkTested s c (foundAt s c a)
+
+-- a lookup: 1 to 12, or the walk from the location that the address belongs to
 unfoldable pub lookedUp : List ℕ → ℕ → Answer SourceLocations
-lookedUp s a = andThen (opened s) (λ c. gives (walkAt s c a))
+lookedUp s a = andThen (opened s) (λ c. gives (walkTested s c (belongsTo s c a)))
 
 -- whether `i` is met among the first `n` indexes of the walk that begins at `j`
 unfoldable pub met : List ℕ → SymCache → ℕ → ℕ → ℕ → Bool

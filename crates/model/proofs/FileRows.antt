@@ -21,7 +21,7 @@ use Rattle.model.specs.Converter.{Setup, File, Function, Location, nowhe
 use Rattle.model.specs.Frames.{read}
 use Rattle.model.specs.Counts.{text-size, text-bytes, text-offset, Capacities, Lent, plain-fits?}
 use Rattle.model.specs.Written.{by-start, over, as-written, locations}
-use Rattle.model.specs.FileWords.{index-word, text-word, file-words, function-words, location-words, starts, string-section}
+use Rattle.model.specs.FileWords.{index-word, text-word, file-words, function-words, location-words, starts, string-section, Ascending}
 use Rattle.model.proofs.Intern.{At, at-append, at-map}
 use Rattle.model.proofs.Chains.{at-get, CallsDown, range-here, range-there}
 use Rattle.model.proofs.Always.{Within, InTables, starts-unique, callers-earlier, calls-within, ranges-within, names-within, files-within}
@@ -173,10 +173,6 @@ word-found xs none h = outside xs MAX h
 word-found xs (some i) h = refl
 
 -- ── The starts ──
-
-abbrev pub Ascending : ℕ → List ℕ → Type 0
-Ascending b [] = Unit {0}
-Ascending b (k ∷ ks) = (b ≤ k) × Ascending (suc k) ks
 
 pub starts-ascend : (b : ℕ) (t : List (Entry Location)) → Sorted b t → Ascending b (map (λ (e : Entry Location). e .key) t)
 starts-ascend b [] h = tt

@@ -15,7 +15,7 @@ use Rattle.model.specs.Converter.{Setup, Six, File, Function, Location, 
 use Rattle.model.specs.Frames.{Frame, read, read-six, file-at, function-at, frame-of, caller-of, frames-at}
 use Rattle.model.specs.Counts.{Capacities, Lent, plain-fits?}
 use Rattle.model.specs.Written.{as-written, locations, count, met?, follow, frames-from, looked-up}
-use Rattle.model.specs.FileWords.{index-word, text-word, file-words, function-words, location-words, starts, string-section}
+use Rattle.model.specs.FileWords.{index-word, text-word, file-words, function-words, location-words, string-section, Sections, sections}
 use Rattle.model.proofs.Intern.{At}
 use Rattle.model.proofs.Chains.{six-path, frame-path}
 use Rattle.model.proofs.Always.{Within, InTables}
@@ -24,23 +24,6 @@ use Rattle.model.proofs.Written.{written-looked-up}
 use Rattle.model.proofs.FileRows.{FileIn, InFile, written-in-file, somewhere, locations-count, starts-count, text-at, text-found, outside}
 
 -- ── What is read ──
-
--- rows as words
-pub record Sections : Type 0 where
-  pub files : List (List ℕ)
-  pub functions : List (List ℕ)
-  pub locations : List (List ℕ)
-  pub starts : List ℕ
-  pub strings : List ℕ
-
-abbrev pub sections : Tables → Sections
-sections s = record {
-  files = map (file-words (s .texts)) (s .files);
-  functions = map (function-words (s .texts)) (s .functions);
-  locations = map location-words (locations s);
-  starts = starts s;
-  strings = string-section (s .texts);
-}
 
 abbrev pub word : ℕ → List ℕ → ℕ
 word k r = getD r k 0

@@ -1,13 +1,14 @@
--- THE ROWS OF A FILE, as words: document 01's "Rows", with the fields in struct order (v9/raw.rs), and the string section.
+-- THE ROWS OF A FILE, as words: document 01's "Rows", with the fields in struct order (v9/raw.rs), and the string section; and all sections of a file.
 use mathlib.Core.Option.{Option, none, some}
 use mathlib.Core.List.{List, [], _∷_, _++_, map}
-use Prim.Native.Nat.{ℕ}
+use Prim.Native.Nat.{ℕ, suc, _≤_}
 use lib.ListN.{length}
 use Rattle.text.specs.Leb128.{encoded}
 use Rattle.model.specs.Basics.{Entry}
 use Rattle.model.specs.Rows.{MAX, Text}
 use Rattle.model.specs.Converter.{File, Function, Location, nowhere, at, Tables}
 use Rattle.model.specs.Counts.{text-offset}
+use Rattle.model.specs.Written.{locations}
 
 -- a reference to a row: its index, or MAX
 abbrev pub index-word : Option ℕ → ℕ
@@ -47,3 +48,28 @@ starts s = map (λ (e : Entry Location). e .key) (s .ranges)
 unfoldable pub string-section : List Text → List ℕ
 string-section [] = []
 string-section (t ∷ ts) = encoded (length t) ++ (t ++ string-section ts)
+
+-- ── The sections ───────────────────────────────────────────────────────────────────────────────────────────────────────
+
+-- what a file has after its header, in document 01's order ("Writer"): rows as words, the starts, the string section
+pub record Sections : Type 0 where
+  pub files : List (List ℕ)
+  pub functions : List (List ℕ)
+  pub locations : List (List ℕ)
+  pub starts : List ℕ
+  pub strings : List ℕ
+
+-- of tables whose ranges are in order: "files, functions, call locations followed by range locations, range starts, texts"
+abbrev pub sections : Tables → Sections
+sections s = record {
+  files = map (file-words (s .texts)) (s .files);
+  functions = map (function-words (s .texts)) (s .functions);
+  locations = map location-words (locations s);
+  starts = starts s;
+  strings = string-section (s .texts);
+}
+
+-- starts that ascend strictly, the first of them at least b: a reader refuses others (12)
+abbrev pub Ascending : ℕ → List ℕ → Type 0
+Ascending b [] = Unit {0}
+Ascending b (k ∷ ks) = (b ≤ k) × Ascending (suc k) ks

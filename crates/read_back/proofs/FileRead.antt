@@ -21,8 +21,9 @@ use Rattle.symcache.specs.Reader.{aligned, layoutOf, tested, parsed, opened, st
 use Rattle.symcache.specs.Reader.{locationIn, functionIn, fileIn}
 use Rattle.file_texts.specs.Strings.{sectionOf}
 use Rattle.symcache.proofs.ReaderLaws.{then-tables, opened-accepted}
+use Rattle.model.specs.FileWords.{Sections}
 use Rattle.model.proofs.FileRows.{ascending-next}
-use Rattle.model.proofs.Sections.{Sections, function-read}
+use Rattle.model.proofs.Sections.{function-read}
 use Rattle.read_back.specs.Bytes.{sections-header, file-bytes, Readable}
 use Rattle.read_back.proofs.RowsOfWords.{table-size, row-there, file-of, function-of, location-of, file-row, function-row, location-row}
 

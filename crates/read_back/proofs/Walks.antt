@@ -22,21 +22,21 @@ use Rattle.symcache.specs.declared.SymCache.{SymCache}
 use Rattle.lookup.specs.declared.SourceLocations.{SourceLocations}
 use Rattle.lookup.specs.declared.Frame.{Frame}
 use Rattle.symcache.specs.Answers.{gives, andThen}
-use Rattle.symcache.specs.Reader.{layoutOf, parsed, opened}
+use Rattle.symcache.specs.Reader.{layoutOf, parsed}
 use Rattle.lookup.specs.Lookup.{foundAt, walkFrom, walkAt, lookedUp, met, entryOf, languageOf, fileOf, frameIn, ended, stepIn, stepped}
 use Rattle.symcache.specs.Reader.{locationIn, functionIn, fileIn}
 use Rattle.file_texts.specs.Strings.{placed, gotString, orElse, stringOf, textOr, nameIn, nameOf}
 use Rattle.search.proofs.SearchLaws.{found-far}
-use Rattle.read_back.proofs.Found.{find-greatest, find-none}
 use Rattle.lookup.proofs.LookupLaws.{then-gives, walk-nowhere, walk-empty, walk-begins}
+use Rattle.lookup.proofs.ByMeaning.{find-greatest, find-none, by-meaning}
 use Rattle.model.specs.Rows.{MAX}
 use Rattle.model.specs.Written.{met?}
-use Rattle.model.proofs.Chains.{six-path}
+use Rattle.model.specs.FileWords.{Sections, Ascending}
 use Rattle.model.proofs.FileRows as file-rows
-use Rattle.model.proofs.FileRows.{Ascending, text-at, outside}
-use Rattle.model.proofs.Sections.{Sections, word, shown-file, file-read, function-read, frame-read, follow-words, empty-row, from-words, count-words, lookup-words}
+use Rattle.model.proofs.FileRows.{text-at, outside}
+use Rattle.model.proofs.Sections.{word, shown-file, file-read, function-read, frame-read, follow-words, empty-row, from-words, count-words, lookup-words}
 use Rattle.read_back.specs.Bytes.{sections-header, file-bytes, Readable}
-use Rattle.read_back.specs.Shown.{part-of, text-shown, file-shown, Shown, shown, name-or, with-stand-in, Walked, ends, goes, Found}
+use Rattle.read_back.specs.Shown.{part-of, text-shown, ShownFile, file-shown, Shown, shown, name-or, with-empty-name, with-stand-in, Walked, ends, goes, Found}
 use Rattle.read_back.proofs.RowsOfWords.{location-of}
 use Rattle.read_back.proofs.FileRead.{parsed-file, start-there, opened-file, location-there, function-there, function-outside, file-there, file-outside, section-there, part-there}
 use Rattle.read_back.proofs.Once.{Once, Below, not-met, few}
@@ -93,21 +93,21 @@ module _ (s : List ℕ) (c : SymCache) where
       ∙ shift (eqb j i) (ltb j (c .«num_source_locations»)) (met s c i (next j) n) (eqb k i) (lt-ltb j (c .«num_source_locations») (p .0))
 
   -- the cursor k has met the indexes of l, the last one first
-  record Has (k : SourceLocations) (l : List ℕ) : Type 0 where
-    leads : Leads (k .steps) (k .first) (k .current)
-    same : (i : ℕ) → met s c i (k .first) (k .steps) ≡ met? i l
-    size : length l ≡ k .steps
-    once : Once l
-    below : Below (c .«num_source_locations») l
+  pub record Has (k : SourceLocations) (l : List ℕ) : Type 0 where
+    pub leads : Leads (k .steps) (k .first) (k .current)
+    pub same : (i : ℕ) → met s c i (k .first) (k .steps) ≡ met? i l
+    pub size : length l ≡ k .steps
+    pub once : Once l
+    pub below : Below (c .«num_source_locations») l
 
   abbrev after : SourceLocations → SourceLocations
   after k = record { first = k .first; current = next (k .current); steps = k .steps + 1 }
 
-  begins : (i : ℕ) → Has (walkFrom i) []
+  pub begins : (i : ℕ) → Has (walkFrom i) []
   unfolding met met?
   begins i = record { leads = refl; same = λ j. refl; size = refl; once = tt; below = tt }
 
-  goes-on : (k : SourceLocations) (l : List ℕ) → Has k l → met? (k .current) l ≡ false → k .current < c .«num_source_locations» → Has (after k) (k .current ∷ l)
+  pub goes-on : (k : SourceLocations) (l : List ℕ) → Has k l → met? (k .current) l ≡ false → k .current < c .«num_source_locations» → Has (after k) (k .current ∷ l)
   unfolding met?
   goes-on k l h e g = record {
     leads = rw (add-one (k .steps)) (leads-on (k .steps) (k .first) (k .current) (h .leads) g);
@@ -126,13 +126,17 @@ module _ (s : List ℕ) (c : SymCache) where
   ended-out k h = rw (le-leb (c .«num_source_locations») (k .current) h) (out-ends (eqb (k .current) max32) (leb (c .«num_source_locations») (k .steps) || met s c (k .current) (k .first) (k .steps)))
 
   -- there are fewer steps than locations while an index inside the table isn't met
+  pub steps-left : (k : SourceLocations) (l : List ℕ) → Has k l → met? (k .current) l ≡ false → k .current < c .«num_source_locations» → k .steps < c .«num_source_locations»
+  steps-left k l h e g =
+      let f : suc (length l) ≤ c .«num_source_locations» = few (c .«num_source_locations») (k .current ∷ l) (not-met (k .current) l e, h .once) (g, h .below) in
+      let z = h .size in
+      omega arith
+
   not-ended : c .«num_source_locations» ≤ max32 → (k : SourceLocations) (l : List ℕ) → Has k l → met? (k .current) l ≡ false → k .current < c .«num_source_locations» → ended s c k ≡ false
   unfolding ended
   not-ended m k l h e g =
       let n = c .«num_source_locations» in
-      let f : suc (length l) ≤ n = few n (k .current ∷ l) (not-met (k .current) l e, h .once) (g, h .below) in
-      let z = h .size in
-      rw (ne-eqb (k .current) max32 (λ q. omega arith), lt-leb n (k .current) g, lt-leb n (k .steps) (omega arith), h .same (k .current), e)
+      rw (ne-eqb (k .current) max32 (λ q. omega arith), lt-leb n (k .current) g, lt-leb n (k .steps) (steps-left k l h e g), h .same (k .current), e)
 
   -- ── `next` ──
 
@@ -145,7 +149,7 @@ module _ (s : List ℕ) (c : SymCache) where
     unfolding stepIn
     stops k e = step-is k ∙ rw e
 
-    steps-on : (k : SourceLocations) → ended s c k ≡ false → stepped s k ≡ gives (some (record { frame = frameIn s c (k .current); next = after k }))
+    pub steps-on : (k : SourceLocations) → ended s c k ≡ false → stepped s k ≡ gives (some (record { frame = frameIn s c (k .current); next = after k }))
     unfolding stepIn
     steps-on k e = step-is k ∙ rw e
 
@@ -209,6 +213,9 @@ empties false b d e = refl
 
 shown-path : (a b : Shown) → a .name ≡ b .name → a .entry ≡ b .entry → a .language ≡ b .language → a .number ≡ b .number → a .file ≡ b .file → a ≡ b
 shown-path a b p q r t u = λ i. record { name = p i; entry = q i; language = r i; number = t i; file = u i }
+
+shown-file-same : (x y : ShownFile) → x .name ≡ y .name → x .directory ≡ y .directory → x .comp-dir ≡ y .comp-dir → x .srcsrv-name ≡ y .srcsrv-name → x .srcsrv-dir ≡ y .srcsrv-dir → x .revision ≡ y .revision → x ≡ y
+shown-file-same x y p q r t u v = λ i. record { name = p i; directory = q i; comp-dir = r i; srcsrv-name = t i; srcsrv-dir = u i; revision = v i }
 
 module _ (id : List ℕ) (a : ℕ) (z : Sections) (ok : Readable id a z) (rest d : List ℕ) where
   abbrev F : List ℕ
@@ -276,14 +283,15 @@ module _ (id : List ℕ) (a : ℕ) (z : Sections) (ok : Readable id a z) (rest d
   language-is i =
       ⊎-elim (λ h. ap languageOf (function-there id a z ok rest i h)) (λ h. ap languageOf (function-outside id a z ok rest i h) ∙ sym (ap (word 3) (missing i h))) (lt-or-ge i (length (z .functions)))
 
-  file-is : (i : ℕ) → file-shown F (fileOf (fileIn F c i)) ≡ file-read z i
+  -- the name by `get_string`, the others by `read_string`
+  file-is : (i : ℕ) → file-shown F (fileOf (fileIn F c i)) ≡ with-empty-name (file-read z i)
   file-is i =
       ⊎-elim
       (λ h. let r = getD (z .files) i [] in
       ap (λ (o : Option _). file-shown F (fileOf o)) (file-there id a z ok rest i h)
-      ∙ (ap some (six-path _ _ (text-is (word 2 r)) (text-is (word 1 r)) (text-is (word 0 r)) (text-is (word 3 r)) (text-is (word 4 r)) (text-is (word 5 r)))
-      ∙ sym (ap (shown-file (z .strings)) (there (z .files) [] i h))))
-      (λ h. ap (λ (o : Option _). file-shown F (fileOf o)) (file-outside id a z ok rest i h) ∙ sym (ap (shown-file (z .strings)) (outside (z .files) i h)))
+      ∙ (ap some (shown-file-same _ _ (bytes-is (word 2 r)) (text-is (word 1 r)) (text-is (word 0 r)) (text-is (word 3 r)) (text-is (word 4 r)) (text-is (word 5 r)))
+      ∙ sym (ap (λ (o : Option (List ℕ)). with-empty-name (shown-file (z .strings) o)) (there (z .files) [] i h))))
+      (λ h. ap (λ (o : Option _). file-shown F (fileOf o)) (file-outside id a z ok rest i h) ∙ sym (ap (λ (o : Option (List ℕ)). with-empty-name (shown-file (z .strings) o)) (outside (z .files) i h)))
       (lt-or-ge i (length (z .files)))
 
   -- THE FRAME OF A LOCATION
@@ -337,8 +345,7 @@ module _ (id : List ℕ) (a : ℕ) (z : Sections) (ok : Readable id a z) (rest d
   -- ── The lookup ──
 
   looked-is : (x : ℕ) → lookedUp F x ≡ gives (walkAt F c x)
-  unfolding lookedUp
-  looked-is x = sym (then-gives (opened F) c (λ (e : SymCache). gives (walkAt F e x)) (gives (walkAt F c x)) (opened-file id a z ok rest) refl)
+  looked-is x = sym (by-meaning F c (opened-file id a z ok rest) x .walk)
 
   found-by : (x : ℕ) (k : SourceLocations) (vs : List Shown) → k ≡ walkAt F c x → Shows k vs → Found F d x vs
   found-by x k vs e t = record { cursor = k; looked = looked-is x ∙ ap gives (sym e); frames = t .frames; walked = t .walked; shows = t .shows }

@@ -19,11 +19,10 @@ use Rattle.model.specs.Frames as plain
 use Rattle.model.specs.Frames.{frames-at}
 use Rattle.model.specs.Counts.{text-size, Capacities, Lent, plain-fits?}
 use Rattle.model.specs.Written.{place-range, by-start, as-written}
-use Rattle.model.specs.FileWords.{string-section}
+use Rattle.model.specs.FileWords.{string-section, sections}
 use Rattle.model.proofs.Spans.{∈-elim}
 use Rattle.model.proofs.Compact.{LineFits, RowFits, GivenFits}
 use Rattle.model.proofs.Worked.{plain-setup, trk, pos, ars, prs, line, root-row, inlinee-row, worked, frame, worked-file}
-use Rattle.model.proofs.Sections.{sections}
 use Rattle.read_back.specs.Bytes.{file-bytes}
 use Rattle.read_back.specs.Shown.{with-stand-in, Found}
 use Rattle.read_back.proofs.Written.{file-shows}

@@ -1,17 +1,20 @@
 -- Document 01's small worked file, read and looked up by computation: M1, M2, M3, and the address 2^32.
 use Prim.Native.Nat.{ℕ, _^_}
 use mathlib.Core.Path.{_≡_, refl}
+use mathlib.Core.Bool.{true, false}
 use mathlib.Core.List.{List, [], _∷_, map}
 use lib.ListN.{take, set}
 use lib.Seq.{sets}
 use Rattle.slices.specs.Bytes.{leAt, bytesAt}
 use Rattle.raw.specs.Rows.{max32, versionInfoAt, headerAt, fileAt, functionAt, locationAt, isNoSourceLocation, rangeAt}
 use Rattle.symcache.specs.declared.SymCache.{SymCache}
+use Rattle.lookup.specs.declared.SourceLocations.{SourceLocations}
 use Rattle.lookup.specs.declared.Frame.{Frame}
 use Rattle.symcache.specs.Answers.{gives, refuses, refuseIf, andThen}
 use Rattle.symcache.specs.Reader.{aligned, layoutOf, tested, parsed, ascendingFrom, ascending, opened}
 use Rattle.lookup.specs.Lookup.{countIn, searchIn, foundAmong, usable, foundIn, walkAt, met, frameIn, ended, stepIn, framesIn}
 use Rattle.symcache.specs.Reader.{locationIn, functionIn, fileIn}
+use Rattle.read_back.specs.Ends.{ends-by-rule?}
 
 -- the 305 bytes
 unfoldable pub worked : List ℕ
@@ -125,3 +128,11 @@ pub met-again : map listed (framesIn round tables 6 (walkAt round tables 0x1003)
     ≡ record { location = 2; function = 1; line = 0x32; file = 1 } ∷ record { location = 0; function = 0; line = 0xA; file = 0 } ∷ []
 unfolding worked walkAt foundIn foundAmong usable searchIn countIn framesIn stepIn ended met frameIn locationIn functionIn fileIn fileAt functionAt locationAt isNoSourceLocation rangeAt leAt
 met-again = refl
+
+-- a made-up cursor is cut by its steps where the rule goes on: no lookup and no step leads to it (NeverCut: `never-cut`)
+abbrev made-up : SourceLocations
+made-up = record { first = 3; current = 0; steps = 6 }
+
+pub made-up-cut : (ended worked tables made-up ≡ true) × (ends-by-rule? worked tables made-up ≡ false)
+unfolding worked ended ends-by-rule? met locationIn locationAt leAt
+made-up-cut = (refl, refl)

@@ -14,14 +14,14 @@ use Rattle.model.specs.Frames.{frames-at}
 use Rattle.model.specs.Counts.{Capacities, Lent, plain-fits?}
 use Rattle.model.specs.Premises.{reach, WellNested, AllSeparate, nested-at}
 use Rattle.model.specs.Written.{as-written, locations}
-use Rattle.model.specs.FileWords.{file-words, function-words, location-words}
+use Rattle.model.specs.FileWords.{file-words, function-words, location-words, sections}
 use Rattle.model.proofs.Intern.{At}
 use Rattle.model.proofs.Compact.{GivenFits}
 use Rattle.model.proofs.Demand.{demand-root}
 use Rattle.model.proofs.Always.{frames-short}
 use Rattle.model.proofs.FileRows as file-rows
 use Rattle.model.proofs.FileRows.{InFile, written-in-file, file-low, function-low, location-low, locations-count, starts-count, starts-ascend, section-length}
-use Rattle.model.proofs.Sections.{sections, lookup-words, words-looked-up}
+use Rattle.model.proofs.Sections.{lookup-words, words-looked-up}
 use Rattle.symcache.specs.Answers.{gives}
 use Rattle.symcache.specs.Reader.{layoutOf, opened}
 use Rattle.read_back.specs.Bytes.{sections-header, file-bytes, Rows, Readable}

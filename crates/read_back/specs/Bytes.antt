@@ -7,8 +7,7 @@ use Rattle.slices.specs.Bytes.{wordBytes, Words32, tableBytes}
 use Rattle.raw.specs.Rows.{versionInfoBytes, headerWords, headerBytes}
 use Rattle.raw.specs.Head.{version-info, header, padding}
 use Rattle.raw.specs.declared.Header.{Header}
-use Rattle.model.proofs.FileRows.{Ascending}
-use Rattle.model.proofs.Sections.{Sections}
+use Rattle.model.specs.FileWords.{Sections, Ascending}
 
 -- the header that tells of the sections
 abbrev pub sections-header : List ℕ → ℕ → Sections → Header

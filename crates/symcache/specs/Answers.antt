@@ -33,9 +33,13 @@ refusalOf kind.InvalidVariableHeader = only 11
 refusalOf kind.UnorderedRanges = only 12
 
 pub data Answer (A : Type 0) : Type 0 where
-  -- 0
   gives : A → Answer A
   refuses : Refusal → Answer A
+
+-- document 01's number of every answer: 0 where the call gives what was asked for, also where that is nothing
+abbrev pub answerNumber : {A : Type 0} → Answer A → ℕ
+answerNumber (gives a) = 0
+answerNumber (refuses r) = r .number
 
 -- tests in their order: the first that holds refuses
 unfoldable pub refuseIf : {A : Type 0} → Bool → Refusal → Answer A → Answer A

@@ -11,6 +11,31 @@ use std::time::Instant;
 use oracle::claims::take_apart;
 use reader::{Compared, Difference};
 
+/// Frames found equal whose file has an empty name, and the lists that have one.
+#[derive(Clone, Copy, Default)]
+pub struct EmptyNames {
+    frames: u64,
+    lists: u64,
+}
+
+impl EmptyNames {
+    /// So many frames of a list.
+    pub fn add(&mut self, frames: u64) {
+        self.frames += frames;
+        self.lists += u64::from(frames > 0);
+    }
+
+    /// Prints them; whether a run of so many random lists has one, as it must from 1,000 lists on.
+    pub fn shown(&self, lists: u64) -> bool {
+        println!("frames with an empty file name, found equal: {}, in {} lists", self.frames, self.lists);
+        let enough = self.frames > 0 || lists < 1000;
+        if !enough {
+            println!("no frame with an empty file name was found equal: a run of 1,000 lists or more must have some");
+        }
+        enough
+    }
+}
+
 /// The bytes of a file twice: on a multiple of 8 for the original, and anywhere for the library.
 #[derive(Default)]
 pub struct TwoFiles {

@@ -18,6 +18,8 @@ pub type Difference = String;
 pub struct Compared {
     pub lookups: u64,
     pub frames: u64,
+    /// Frames whose file has an empty name.
+    pub empty_names: u64,
 }
 
 /// A file that the library has opened.
@@ -151,6 +153,11 @@ impl<'a> Reader<'a> {
             });
         }
     }
+}
+
+/// How many of the frames have a file with an empty name.
+pub fn empty_names(frames: &[Frame<'_>]) -> u64 {
+    frames.iter().filter(|f| f.texts.as_ref().is_some_and(|t| t.name.is_empty())).count() as u64
 }
 
 /// Every start and its neighbours, and addresses below, above and past 32 bits.
@@ -369,6 +376,7 @@ pub fn compare(file: &[u8], bytes: &[u8]) -> Result<Compared, Difference> {
         let theirs = cache.frames(address);
         let ours = reader.frames(address)?;
         compared.frames += theirs.len() as u64;
+        compared.empty_names += empty_names(&theirs);
         if theirs != ours {
             return Err(format!("frames at {address}: the original {theirs:?}, ours {ours:?}"));
         }

@@ -5,12 +5,14 @@
 //!     claims exhaustive     # every small tree in five addresses, with every symbol, and pairs of trees
 //!
 //! Every list meets demand 3's premises. Refused calls stand in between, and files are written in between. Last line:
-//! 'LISTS lists, WRITES files, LOOKUPS lookups, N differences'. Exit code 1 if there is one.
+//! 'LISTS lists, WRITES files, LOOKUPS lookups, N differences'. Exit code 1 if there is one, or if 1,000 random lists
+//! or more give no frame with an empty file name.
 
 use std::time::{Duration, Instant};
 
+use compare::EmptyNames;
 use compare::ours::{Ours, bounds};
-use compare::reader::Reader;
+use compare::reader::{Reader, empty_names};
 use oracle::answers::Columns;
 use oracle::claims::{breakpoints, demand3_at, is_covered, take_apart, violations};
 use oracle::lists::{refused, vary};
@@ -28,6 +30,8 @@ struct Tally {
     /// Lookups at addresses that a root's line covers, and the frames found there.
     covered: u64,
     frames: u64,
+    /// Of these frames, those that fit and whose file has an empty name.
+    empty_names: u64,
     /// Refused calls by number.
     refused: [u64; 20],
 }
@@ -60,6 +64,7 @@ fn check_file(begin: &Begin, calls: &[Call], file: &[u8], tally: &mut Tally) -> 
             tally.frames += frames.len() as u64;
             demand3_at(begin, calls, address, &frames)
                 .map_err(|f| format!("{} at {address}: {}", f.claim, f.what))?;
+            tally.empty_names += empty_names(&frames);
         }
     }
     Ok(())
@@ -200,6 +205,7 @@ fn list(r: &mut Random) -> (Begin, Vec<Call>) {
 struct Run {
     ours: Ours,
     tally: Tally,
+    empty_names: EmptyNames,
     lists: u64,
     differences: u64,
     begun: Instant,
@@ -207,12 +213,22 @@ struct Run {
 
 impl Run {
     fn new() -> Run {
-        Run { ours: Ours::default(), tally: Tally::default(), lists: 0, differences: 0, begun: Instant::now() }
+        Run {
+            ours: Ours::default(),
+            tally: Tally::default(),
+            empty_names: EmptyNames::default(),
+            lists: 0,
+            differences: 0,
+            begun: Instant::now(),
+        }
     }
 
     fn list(&mut self, begin: &Begin, calls: &[Call], spoiled: &[(usize, Refused)], full_first: bool) {
         self.lists += 1;
-        let Err(what) = run(&mut self.ours, begin, calls, spoiled, full_first, &mut self.tally) else { return };
+        let before = self.tally.empty_names;
+        let result = run(&mut self.ours, begin, calls, spoiled, full_first, &mut self.tally);
+        self.empty_names.add(self.tally.empty_names - before);
+        let Err(what) = result else { return };
         self.differences += 1;
         if self.differences > 3 {
             return;
@@ -232,18 +248,20 @@ impl Run {
         }
     }
 
-    /// Prints what was found; whether nothing differs.
-    fn end(&self) -> bool {
+    /// Prints what was found; whether nothing differs, and random lists gave empty file names (every file of
+    /// `exhaustive` has a name).
+    fn end(&self, random: bool) -> bool {
         let by_number = self.tally.refused.iter().enumerate().filter(|(_, n)| **n > 0);
         let by_number: Vec<String> = by_number.map(|(i, n)| format!("{i}: {n}")).collect();
         println!("refused calls by number: {}", by_number.join(", "));
         let seconds = self.begun.elapsed().as_secs_f64();
         println!("{} lookups at addresses of lines, {} frames, {seconds:.0} s", self.tally.covered, self.tally.frames);
+        let enough = !random || self.empty_names.shown(self.lists);
         println!(
             "{} lists, {} files, {} lookups, {} differences",
             self.lists, self.tally.files, self.tally.lookups, self.differences
         );
-        self.differences == 0
+        self.differences == 0 && enough
     }
 }
 
@@ -257,13 +275,13 @@ fn random(lists: u64, seed: u64) -> bool {
         let full_first = r.one_in(20);
         run.list(&begin, &calls, &spoiled, full_first);
     }
-    run.end()
+    run.end(true)
 }
 
 fn exhaustive() -> bool {
     let mut run = Run::new();
     oracle::exhaustive::lists(|calls| run.list(&Begin::default(), calls, &[], false));
-    run.end()
+    run.end(false)
 }
 
 fn main() {

@@ -2,15 +2,16 @@
 //!
 //!     compare LISTS SEED
 //!
-//! Last line: 'LISTS lists, FILES files, N differences'. Exit code 1 if there is one.
+//! Last line: 'LISTS lists, FILES files, N differences'. Exit code 1 if there is one, or if 1,000 lists or more give no
+//! frame with an empty file name.
 
 use std::time::{Duration, Instant};
 
-use compare::TwoFiles;
 use compare::case::{Case, Item, Op, Room, TRAITS};
 use compare::generate;
 use compare::memory::Memory;
-use compare::reader::addresses;
+use compare::reader::{Compared, addresses};
+use compare::{EmptyNames, TwoFiles};
 use oracle::answers::Columns;
 use oracle::claims::take_apart;
 use oracle::lists::small;
@@ -41,6 +42,8 @@ struct Run {
     read: [u64; 13],
     lookups: u64,
     frames: u64,
+    /// Of files that lists wrote.
+    empty_names: EmptyNames,
 }
 
 impl Run {
@@ -75,7 +78,7 @@ impl Run {
         }
     }
 
-    fn file(&mut self, file: &[u8]) {
+    fn file(&mut self, file: &[u8]) -> Compared {
         self.files += 1;
         match self.two.compare(file) {
             Ok(compared) => {
@@ -84,6 +87,7 @@ impl Run {
                 self.read[if number == 0 && unordered { 12 } else { number as usize }] += 1;
                 self.lookups += compared.lookups;
                 self.frames += compared.frames;
+                compared
             }
             Err(what) => {
                 self.differences += 1;
@@ -97,6 +101,7 @@ impl Run {
                         println!("lookup {}", at.join(" "));
                     }
                 }
+                Compared::default()
             }
         }
     }
@@ -137,7 +142,8 @@ fn run(lists: u64, seed: u64) -> bool {
         let case = generate::case(&mut r);
         let written = run.list(&case);
         if !written.is_empty() {
-            run.file(&written);
+            let compared = run.file(&written);
+            run.empty_names.add(compared.empty_names);
         }
         let other = generate::file(&mut r, &written);
         run.file(&other);
@@ -152,8 +158,9 @@ fn run(lists: u64, seed: u64) -> bool {
     println!("calls by number: {}", shown(&run.numbers));
     println!("files by number: {}", shown(&run.read));
     println!("{} lookups, {} frames, {:.0} s", run.lookups, run.frames, begun.elapsed().as_secs_f64());
+    let enough = run.empty_names.shown(run.lists);
     println!("{} lists, {} files, {} differences", run.lists, run.files, run.differences);
-    run.differences == 0
+    run.differences == 0 && enough
 }
 
 fn main() {

@@ -7,7 +7,7 @@ use Rattle.slices.specs.Bytes.{leAt, bytesAt}
 use Rattle.raw.specs.Rows.{max32, versionInfoAt, headerAt, fileAt, functionAt, locationAt, isNoSourceLocation, rangeAt}
 use Rattle.symcache.specs.Answers.{refuseIf, andThen}
 use Rattle.symcache.specs.Reader.{aligned, layoutOf, tested, parsed, ascendingFrom, ascending, opened}
-use Rattle.lookup.specs.Lookup.{countIn, searchIn, foundAmong, usable, foundIn, walkAt, lookedUp, met, frameIn, ended, stepIn, stepped}
+use Rattle.lookup.specs.Lookup.{lastStart, locationOfRange, belongsTo, lookedUp, met, frameIn, ended, stepIn, stepped}
 use Rattle.symcache.specs.Reader.{locationIn, functionIn, fileIn}
 use Rattle.read_back.proofs.WorkedBytes.{worked}
 use Rattle.memory.specs.Memory.{memory}
@@ -31,7 +31,7 @@ unfolding worked parseCall cached refused parsed refuseIf tested layoutOf aligne
 worked-cut = refl
 
 pub worked-looked-up : lookupCall worked 0x1003 (7 ∷ 7 ∷ 7 ∷ []) ≡ filled 0 (2 ∷ 2 ∷ 0 ∷ [])
-unfolding worked lookupCall answered lookedUp opened parsed refuseIf andThen tested layoutOf aligned ascending ascendingFrom versionInfoAt headerAt rangeAt leAt bytesAt walkAt foundIn foundAmong usable searchIn countIn locationIn locationAt isNoSourceLocation
+unfolding worked lookupCall answered lookedUp opened parsed refuseIf andThen tested layoutOf aligned ascending ascendingFrom versionInfoAt headerAt rangeAt leAt bytesAt belongsTo locationOfRange lastStart locationIn locationAt isNoSourceLocation
 worked-looked-up = refl
 
 -- the inlinee pos: a file; location 2, function 1, line 50, file 1, no entry, language 2; its six texts

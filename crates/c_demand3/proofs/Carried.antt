@@ -49,7 +49,7 @@ unfolding le
 bytes-le zero v = tt
 bytes-le (suc w) v = (omega arith, bytes-le w (v / 256))
 
-bytes-words : (vs : List ℕ) → Bytes (wordBytes vs)
+pub bytes-words : (vs : List ℕ) → Bytes (wordBytes vs)
 unfolding wordBytes
 bytes-words [] = tt
 bytes-words (v ∷ vs) = bytes-append (le 4 v) (wordBytes vs) (bytes-le 4 v) (bytes-words vs)

@@ -1,0 +1,1 @@
+// No functions: demand 3 of the exported calls, over words.
