@@ -17,7 +17,7 @@ use Rattle.raw.proofs.Rows.{length-version-info}
 use Rattle.symcache.specs.declared.SymCache.{SymCache}
 use Rattle.symcache.specs.Answers.{gives, answerNumber}
 use Rattle.symcache.specs.Reader.{layoutOf, parsed, opened}
-use Rattle.symcache.proofs.ReaderLaws.{parsed-within}
+use Rattle.symcache.proofs.ReaderLaws.{parsed-within, opened-parsed}
 use Rattle.lookup.specs.declared.SourceLocations.{SourceLocations}
 use Rattle.lookup.specs.declared.Frame.{Frame}
 use Rattle.lookup.specs.declared.FrameFile.{FrameFile}
@@ -28,7 +28,6 @@ use Rattle.file_texts.specs.Strings.{stringOf, nameOf}
 use Rattle.model.specs.FileWords.{Sections}
 use Rattle.read_back.specs.Bytes.{sections-header, file-bytes}
 use Rattle.read_back.specs.Shown.{Shown, shown, file-shown, text-shown, ends, goes, Walked, Found}
-use Rattle.read_back.proofs.NeverCut.{opened-parsed}
 use Rattle.c_reading.specs.Stored.{stored}
 use Rattle.c_reading.specs.Reading.{Filled, filled, answered, Moved, moved, stepsTo, cacheWords, cacheOf, cached, openCall, findCall, walkWords, walkOf, walkCall, lookupCall}
 use Rattle.c_reading.specs.Reading.{headWords, withFile, frameWords, nextCall, cursorIndex, stringCall, nameCall}

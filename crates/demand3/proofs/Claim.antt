@@ -34,7 +34,8 @@ use Rattle.symcache.specs.Reader.{layoutOf, opened}
 use Rattle.read_back.specs.Bytes.{sections-header, file-bytes}
 use Rattle.read_back.specs.Shown.{with-stand-in, Found}
 use Rattle.read_back.proofs.Written.{file-shows, file-opened, file-demand}
-use Rattle.read_back.proofs.NeverCut.{opened-parsed, next-ends-by-rule}
+use Rattle.symcache.proofs.ReaderLaws.{opened-parsed}
+use Rattle.read_back.proofs.NeverCut.{next-ends-by-rule}
 use Rattle.symbol_call.specs.Calls.{setup, symbolOf}
 use Rattle.writer.specs.Calls.{treeOf}
 use Rattle.memory.specs.Record.{usableIn, usable?, beginOf}

@@ -1,176 +1,156 @@
-// Document 01, "Lister": reads cache.sym, and looks up the address that each line of standard input has.
+// Document 01, "Lister": reads cache.sym, and lists what standard input asks for. What is printed is crate listing's; this program opens, reads, hands
+// pieces over and writes.
+ghost use Prim.Native.Nat.{_≤_};
+ghost use lib.ListN.{length};
 use libc::STDIN_FILENO;
 use libc::STDOUT_FILENO;
-use listing::LineRead;
-use listing::LineState;
-use lookup::Frame;
-use lookup::SourceLocations;
-use lookup::Step;
-use symcache::Parsed;
-use symcache::SymCache;
+use listing::Begun;
+use listing::Listing;
 
-// The line that is being read, and its number from 1 modulo 2^32.
-struct Input {
-    line: LineState,
-    number: u32,
-}
-
-// What one read gives: whether there may be more, and the input after it.
-struct Chunk {
+// A listing, whether there may be more input, and whether output was lost.
+struct Turn {
+    listing: Listing,
     more: bool,
-    input: Input,
+    lost: bool,
 }
 
-// The lines printed
+// A listing, the place in a piece from which on to list, and whether output was lost.
+struct Place {
+    listing: Listing,
+    from: usize,
+    lost: bool,
+}
+
+// Output
+
+// Writes the bytes, and answers whether some were lost, which is said on standard error.
+fn send(bytes: &[u8]) -> bool {
+    if io::write_all(STDOUT_FILENO, bytes) {
+        return false;
+    }
+    os::fail(b"lister: standard output");
+    true
+}
 
 fn print_refused(number: u32) {
     let mut out = [0u8; 11];
-    listing::refused_line(&mut out, 0, number);
-    io::write_all(STDOUT_FILENO, &out);
+    printed_lines::refused_line(&mut out, 0, number);
+    send(&out);
 }
 
-fn print_bad(number: u32) {
-    let mut out = [0u8; 11];
-    listing::bad_line(&mut out, 0, number);
-    io::write_all(STDOUT_FILENO, &out);
-}
+// Input
 
-fn print_no_frame(address: u64) {
-    let mut out = [0u8; 26];
-    listing::no_frame_line(&mut out, 0, address);
-    io::write_all(STDOUT_FILENO, &out);
-}
-
-fn print_frame(address: u64, number: u32, frame: Frame) {
-    let mut out = [0u8; 62];
-    listing::frame_line(
-        &mut out,
-        0,
-        address,
-        number,
-        frame.location_idx,
-        frame.function_idx,
-        frame.line,
-        frame.file_idx,
-    );
-    io::write_all(STDOUT_FILENO, &out);
-}
-
-// Prints the frames of a walk and answers how many there are. No walk has more than u32::MAX, as no file has more source locations.
-fn print_frames(file: &[u8], address: u64, walk: SourceLocations) -> u32 {
-    let mut now = walk;
-    let mut number: u32 = 0;
-    while number < u32::MAX {
-        let Step::Frame { frame, next } = now.next(file) else {
-            break;
-        };
-        print_frame(address, number, frame);
-        now = next;
-        number += 1;
-    }
-    number
-}
-
-// What a good line prints.
-fn print_address(file: &[u8], cache: SymCache, address: u64) {
-    let walk = lookup::walk(file, cache, address);
-    if print_frames(file, address, walk) == 0 {
-        print_no_frame(address);
+// One call of the library, and one write.
+fn list_some(file: &[u8], listing: Listing, piece: &[u8], from: usize) -> Place
+    requires { ⌜ from ≤ length (now piece) ⌝ }
+    ensures { λ r. ⌜ r .from ≤ length (now (piece .entry)) ⌝ }
+{
+    let mut out = io::large_buffer();
+    let listed = listing::list(file, listing, &piece[from..], &mut out);
+    let end = listed.written;
+    let lost = send(&out[..end]);
+    let listing = listed.listing;
+    Place {
+        listing,
+        from: from + listed.used,
+        lost,
     }
 }
 
-// The lines read
-
-// Before the first byte.
-fn start() -> Input {
-    Input {
-        line: LineState::start(),
-        number: 1,
-    }
-}
-
-// The line is at its end: what it prints, and the next line.
-fn finish(file: &[u8], cache: SymCache, input: Input) -> Input {
-    let line = input.line;
-    let read = line.finish();
-    match read {
-        LineRead::Address(address) => print_address(file, cache, address),
-        LineRead::Bad => print_bad(input.number),
-    }
-    Input {
-        line: LineState::start(),
-        number: std::num::wrapping_add_u32(input.number, 1),
-    }
-}
-
-fn feed(file: &[u8], cache: SymCache, input: Input, byte: u8) -> Input {
-    if byte == 10 {
-        return finish(file, cache, input);
-    }
-    let line = input.line;
-    Input {
-        line: line.feed(byte),
-        number: input.number,
-    }
-}
-
-// The bytes of one read.
-fn feed_all(file: &[u8], cache: SymCache, input: Input, bytes: &[u8]) -> Input {
-    let mut now = input;
-    let mut i: usize = 0;
-    while i < bytes.len() {
-        now = feed(file, cache, now, bytes[i]);
-        i += 1;
-    }
-    now
-}
-
-// Reads once, and answers whether to go on.
-fn read_some(file: &[u8], cache: SymCache, input: Input) -> Chunk {
-    let mut buf = [0u8; 4096];
-    let got = libc::read(STDIN_FILENO, &mut buf);
-    if got <= 0 {
-        return Chunk { more: false, input };
-    }
-    let n = io::count(got, &buf);
-    let next = feed_all(file, cache, input, &buf[..n]);
-    Chunk {
-        more: true,
-        input: next,
-    }
-}
-
-// To the end of the input. Nothing says that it ends, so the reads are counted down.
-fn read_all(file: &[u8], cache: SymCache) -> Input {
-    let mut input = start();
+// Lists a piece of the input until it is used up and nothing waits. The calls are counted down.
+fn list_piece(file: &[u8], listing: Listing, piece: &[u8]) -> Turn {
+    let mut listing = listing;
+    let mut from: usize = 0;
     let mut turns = u64::MAX;
-    while turns > 0 {
-        let chunk = read_some(file, cache, input);
-        input = chunk.input;
-        if !chunk.more {
-            break;
+    while 0 < turns {
+        let place = list_some(file, listing, piece, from);
+        let rest = place.listing;
+        listing = rest;
+        from = place.from;
+        if place.lost {
+            return Turn {
+                listing,
+                more: false,
+                lost: true,
+            };
+        }
+        if piece.len() <= from {
+            if !listing.is_waiting() {
+                break;
+            }
         }
         turns -= 1;
     }
-    input
+    Turn {
+        listing,
+        more: true,
+        lost: false,
+    }
 }
 
-// Bytes after the last 0A are a line too.
-fn list_lines(file: &[u8], cache: SymCache) {
-    let last = read_all(file, cache);
-    let line = last.line;
-    if line.is_empty() {
+// Whether to read again after a read that gave nothing: after one that a signal interrupted. One that fails is said on standard error, and ends the
+// input.
+fn read_again(got: isize) -> bool {
+    if got == 0 {
+        return false;
+    }
+    if os::errno() == libc::EINTR {
+        return true;
+    }
+    os::fail(b"lister: standard input");
+    false
+}
+
+// Reads once, and lists what was read.
+fn read_some(file: &[u8], listing: Listing) -> Turn {
+    let mut piece = io::large_buffer();
+    let got = libc::read(STDIN_FILENO, &mut piece);
+    if got <= 0 {
+        return Turn {
+            listing,
+            more: read_again(got),
+            lost: false,
+        };
+    }
+    let n = io::count(got, &piece);
+    list_piece(file, listing, &piece[..n])
+}
+
+// To the end of the input. Nothing says that it ends, so the reads are counted down.
+fn read_all(file: &[u8], listing: Listing) -> Turn {
+    let mut turn = Turn {
+        listing,
+        more: true,
+        lost: false,
+    };
+    let mut turns = u64::MAX;
+    while 0 < turns {
+        if !turn.more {
+            break;
+        }
+        let listing = turn.listing;
+        turn = read_some(file, listing);
+        turns -= 1;
+    }
+    turn
+}
+
+// The whole input.
+fn list_input(file: &[u8], listing: Listing) {
+    let last = read_all(file, listing);
+    if last.lost {
         return;
     }
-    finish(file, cache, last);
+    let listing = last.listing;
+    list_piece(file, listing.end(file), &file[..0]);
 }
 
-// All of the work, over the bytes that were read. The starts are tested here, so 12 comes without input too.
-fn list(file: &[u8]) {
-    let opened = symcache::open(file);
-    match opened {
-        Parsed::Cache(cache) => list_lines(file, cache),
-        Parsed::Refused(kind) => print_refused(kind.number()),
+// All of the work, over the bytes that were read.
+fn list(file: &[u8], too_long: bool) {
+    let begun = listing::begin(file, too_long);
+    match begun {
+        Begun::Open(listing) => list_input(file, listing),
+        Begun::Refused(number) => print_refused(number),
     }
 }
 
@@ -179,16 +159,12 @@ fn main() {
     let mut file = [0u8; 65536];
     let fd = os::open_read(b"cache.sym");
     if fd < 0 {
-        list(&file[..0]);
+        list(&file[..0], false);
         return;
     }
     let used = io::read_full(fd, &mut file);
     let mut extra = [0u8; 1];
     let over = io::read_full(fd, &mut extra);
     libc::close(fd);
-    if over > 0 {
-        print_refused(20);
-        return;
-    }
-    list(&file[..used]);
+    list(&file[..used], 0 < over);
 }

@@ -1,5 +1,6 @@
-pub mod Digits
-pub mod Lines
-pub mod Runs
-pub mod Whole
-pub mod Examples
+pub mod Steps
+pub mod Printing
+pub mod Calls
+pub mod Cut
+pub mod Inside
+pub mod Worked

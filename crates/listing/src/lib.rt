@@ -1,228 +1,271 @@
-// Document 01, "Lister": a line of its input, byte by byte, and the lines that it prints.
+// Document 01, "Lister": the listing of a file, from pieces of the input to pieces of the output.
 ghost use mathlib.Core.Path.{_≡_};
-ghost use mathlib.Core.Bool.{cond};
-ghost use Prim.Native.Nat.{_+_, _*_, _%_, _<_, _≤_};
-ghost use lib.ListN.{length};
-ghost use lib.Seq.{sets};
-ghost use lib.Dec.{eqb, ltb};
-ghost use Rattle.listing.specs.Line.{digitOf, line-start, feedOf, finishOf};
-ghost use Rattle.listing.specs.Printed.{hexDigit, hexField, spaced, frameLine, noFrameLine, badLine, refusedLine, wrote-line, putLine};
+ghost use Prim.Native.Nat.{_+_};
+ghost use lib.Dec.{leb};
+ghost use Rattle.printed_lines.specs.Printed.{wrote-line, putLine};
+ghost use Rattle.listing.specs.declared.Waiting.the-variants as waiting;
+ghost use Rattle.listing.specs.Pieces.{listing-start, begunOf, waits?, waitingFor, frame-line, printed-out, printOf, badPrinted, no-more, listed-out, listOf, endOf};
+use input_lines::Got;
+use input_lines::Input;
+use lookup::Frame;
+use lookup::SourceLocations;
+use lookup::Step;
+use symcache::Parsed;
+use symcache::SymCache;
 
-// What is kept of the line that is being read: its bytes, counted up to 17, the number that its digits write,
-// and whether a byte was no digit.
-pub struct LineState {
-    pub digits: u32,
-    pub value: u64,
-    pub bad: bool,
+// What is waiting to be printed: nothing; a bad line, with its number; the frames of an address from here on, or that it has none.
+pub enum Waiting {
+    Nothing,
+    Bad(u32),
+    Frames { address: u64, walk: SourceLocations },
 }
 
-// What a whole line says.
-pub enum LineRead {
-    Address(u64),
-    Bad,
+// A listing under way: where the file's tables lie, the input at hand, and what is waiting.
+pub struct Listing {
+    pub cache: SymCache,
+    pub input: Input,
+    pub waiting: Waiting,
 }
 
-// The value of a hexadecimal digit of either case; 16 for any other byte.
-fn digit(b: u8) -> u64
-    ensures { λ r. ⌜ r ≡ digitOf b ⌝ }
+// What a beginning gives: a listing, or the number that the file is refused with.
+pub enum Begun {
+    Open(Listing),
+    Refused(u32),
+}
+
+// What a call gives: the listing after it, how many bytes of the input it used, and how many of the output it wrote.
+pub struct Listed {
+    pub listing: Listing,
+    pub used: usize,
+    pub written: usize,
+}
+
+// What is still waiting, and the place in the output after what was printed.
+struct Printed {
+    waiting: Waiting,
+    at: usize,
+}
+
+fn start(cache: SymCache) -> Listing
+    ensures { λ r. ⌜ r ≡ listing-start cache ⌝ }
 {
-    match b {
-        b'0'..=b'9' => (b - 48) as u64,
-        b'A'..=b'F' => (b - 55) as u64,
-        b'a'..=b'f' => (b - 87) as u64,
-        _ => 16,
+    Listing {
+        cache,
+        input: Input::start(),
+        waiting: Waiting::Nothing,
     }
 }
 
-// One more, up to 17.
-fn one_more(n: u32) -> u32
-    ensures { λ r. ⌜ r ≡ cond (ltb n 17) (n + 1) 17 ⌝ }
+// Begins to list a file, or what fits of one that is too long: "20 file above 65,536 bytes, before 1". The starts are tested here, so 12 comes
+// without input too.
+pub fn begin(file: &[u8], too_long: bool) -> Begun
+    ensures { λ r. ⌜ r ≡ begunOf (now (file .entry)) «too_long» ⌝ }
 {
-    if n < 17 {
-        return n + 1;
+    if too_long {
+        return Begun::Refused(20);
     }
-    17
-}
-
-impl LineState {
-    // Before a line's first byte.
-    pub fn start() -> LineState
-        ensures { λ r. ⌜ r ≡ line-start ⌝ }
-    {
-        LineState {
-            digits: 0,
-            value: 0,
-            bad: false,
-        }
-    }
-
-    // After one byte more, which isn't the line's 0A.
-    pub fn feed(self, byte: u8) -> LineState
-        ensures { λ r. ⌜ r ≡ feedOf self byte ⌝ }
-    {
-        let d = digit(byte);
-        let digits = one_more(self.digits);
-        let value = self.value % 1152921504606846976 * 16 + d % 16;
-        if self.bad {
-            return LineState {
-                digits,
-                value,
-                bad: true,
-            };
-        }
-        LineState {
-            digits,
-            value,
-            bad: 16 <= d,
-        }
-    }
-
-    // Whether no byte has come yet.
-    pub fn is_empty(self) -> bool
-        ensures { λ r. ⌜ r ≡ eqb (self .digits) 0 ⌝ }
-    {
-        self.digits == 0
-    }
-
-    // What the line says, now that it is whole.
-    pub fn finish(self) -> LineRead
-        ensures { λ r. ⌜ r ≡ finishOf self ⌝ }
-    {
-        if self.digits < 1 {
-            return LineRead::Bad;
-        }
-        if 16 < self.digits {
-            return LineRead::Bad;
-        }
-        if self.bad {
-            return LineRead::Bad;
-        }
-        LineRead::Address(self.value)
+    let opened = symcache::open(file);
+    match opened {
+        Parsed::Cache(cache) => Begun::Open(start(cache)),
+        Parsed::Refused(kind) => Begun::Refused(kind.number()),
     }
 }
 
-fn hex_digit(d: u64) -> u8
-    requires { ⌜ d < 16 ⌝ }
-    ensures { λ r. ⌜ r ≡ hexDigit d ⌝ }
+// Printing. Each of the following prints to `out` from `at` on, line by line, as long as there is room.
+
+// Whether the longest line has room.
+fn has_room(len: usize, at: usize) -> bool
+    ensures { λ r. ⌜ r ≡ leb (at + 62) len ⌝ }
 {
-    if d < 10 {
-        return (48 + d) as u8;
+    if len < 62 {
+        return false;
     }
-    (55 + d) as u8
+    at <= len - 62
 }
 
-// A number in `width` digits from `at` on, the last digit first.
-fn put_hex(out: &mut [u8], at: usize, value: u64, width: usize)
-    requires { ⌜ at + width ≤ length (now out) ⌝ }
-    ensures { λ _. ⌜ now (out .exit) ≡ sets (now (out .entry)) at (hexField width value) ⌝ }
+fn print_bad(number: u32, out: &mut [u8], at: usize) -> Printed
+    ensures { λ r. ⌜ printed-out (r .waiting) (r .at) (now (out .exit)) ≡ badPrinted number (now (out .entry)) at ⌝ }
 {
-    let mut left = width;
-    let mut rest = value;
-    while 0 < left {
-        left -= 1;
-        out[at + left] = hex_digit(rest % 16);
-        rest = rest / 16;
+    if !has_room(out.len(), at) {
+        return Printed {
+            waiting: Waiting::Bad(number),
+            at,
+        };
+    }
+    Printed {
+        waiting: Waiting::Nothing,
+        at: printed_lines::bad_line(out, at, number),
     }
 }
 
-// A space, then 8 digits.
-fn put_spaced(out: &mut [u8], at: usize, value: u32)
-    requires { ⌜ at + 9 ≤ length (now out) ⌝ }
-    ensures { λ _. ⌜ now (out .exit) ≡ sets (now (out .entry)) at (spaced value) ⌝ }
+// The walk has ended, after so many frames.
+fn no_more_frames(address: u64, frames: u32, out: &mut [u8], at: usize) -> Printed
+    ensures { λ r. ⌜ printed-out (r .waiting) (r .at) (now (out .exit)) ≡ no-more address frames (now (out .entry)) at ⌝ }
 {
-    out[at] = 32;
-    put_hex(out, at + 1, value as u64, 8);
+    if 0 < frames {
+        return Printed {
+            waiting: Waiting::Nothing,
+            at,
+        };
+    }
+    Printed {
+        waiting: Waiting::Nothing,
+        at: printed_lines::no_frame_line(out, at, address),
+    }
 }
 
-// Each of the following prints a line to `out` from `at` on and answers the place after it. Where the line has no
-// room, nothing changes and the answer is `at`.
+fn print_frame(out: &mut [u8], at: usize, address: u64, number: u32, frame: Frame) -> usize
+    ensures { λ r. ⌜ wrote-line r (now (out .exit)) ≡ putLine (now (out .entry)) at (frame-line address number frame) ⌝ }
+{
+    printed_lines::frame_line(
+        out,
+        at,
+        address,
+        number,
+        frame.location_idx,
+        frame.function_idx,
+        frame.line,
+        frame.file_idx,
+    )
+}
 
-// A frame: 62 bytes.
-pub fn frame_line(
+fn print_frames(
+    file: &[u8],
+    address: u64,
+    walk: SourceLocations,
     out: &mut [u8],
     at: usize,
-    address: u64,
-    number: u32,
-    location: u32,
-    function: u32,
-    line: u32,
-    file: u32,
-) -> usize
-    ensures { λ r. ⌜ wrote-line r (now (out .exit)) ≡ putLine (now (out .entry)) at (frameLine address number location function line file) ⌝ }
+) -> Printed
+    ensures { λ r. ⌜ printed-out (r .waiting) (r .at) (now (out .exit)) ≡ printOf (now (file .entry)) (waiting.Frames address walk) (now (out .entry)) at ⌝ }
 {
-    if out.len() < 62 {
-        return at;
+    let mut walk = walk;
+    let mut at = at;
+    while has_room(out.len(), at) {
+        let step = walk.next(file);
+        match step {
+            Step::Frame { frame, next } => {
+                at = print_frame(out, at, address, walk.steps, frame);
+                walk = next;
+            }
+            Step::End => return no_more_frames(address, walk.steps, out, at),
+            Step::Refused(_) => return no_more_frames(address, walk.steps, out, at),
+        }
     }
-    if out.len() - 62 < at {
-        return at;
-    }
-    put_hex(out, at, address, 16);
-    put_spaced(out, at + 16, number);
-    put_spaced(out, at + 25, location);
-    put_spaced(out, at + 34, function);
-    put_spaced(out, at + 43, line);
-    put_spaced(out, at + 52, file);
-    out[at + 61] = 10;
-    at + 62
-}
-
-// No frame: 26 bytes.
-pub fn no_frame_line(out: &mut [u8], at: usize, address: u64) -> usize
-    ensures { λ r. ⌜ wrote-line r (now (out .exit)) ≡ putLine (now (out .entry)) at (noFrameLine address) ⌝ }
-{
-    if out.len() < 26 {
-        return at;
-    }
-    if out.len() - 26 < at {
-        return at;
-    }
-    put_hex(out, at, address, 16);
-    put_spaced(out, at + 16, u32::MAX);
-    out[at + 25] = 10;
-    at + 26
-}
-
-// A bad line, with its number: 11 bytes.
-pub fn bad_line(out: &mut [u8], at: usize, number: u32) -> usize
-    ensures { λ r. ⌜ wrote-line r (now (out .exit)) ≡ putLine (now (out .entry)) at (badLine number) ⌝ }
-{
-    if out.len() < 11 {
-        return at;
-    }
-    if out.len() - 11 < at {
-        return at;
-    }
-    out[at] = 63;
-    put_spaced(out, at + 1, number);
-    out[at + 10] = 10;
-    at + 11
-}
-
-// The bytes of `word` from `at` on.
-fn put_bytes(out: &mut [u8], at: usize, word: &[u8])
-    requires { ⌜ at + length (now word) ≤ length (now out) ⌝ }
-    ensures { λ _. ⌜ now (out .exit) ≡ sets (now (out .entry)) at (now (word .entry)) ⌝ }
-{
-    let mut i: usize = 0;
-    while i < word.len() {
-        out[at + i] = word[i];
-        i += 1;
+    Printed {
+        waiting: Waiting::Frames { address, walk },
+        at,
     }
 }
 
-// A refused file, with the number of the refusal: 11 bytes.
-pub fn refused_line(out: &mut [u8], at: usize, number: u32) -> usize
-    ensures { λ r. ⌜ wrote-line r (now (out .exit)) ≡ putLine (now (out .entry)) at (refusedLine number) ⌝ }
+fn print(file: &[u8], waiting: Waiting, out: &mut [u8], at: usize) -> Printed
+    ensures { λ r. ⌜ printed-out (r .waiting) (r .at) (now (out .exit)) ≡ printOf (now (file .entry)) waiting (now (out .entry)) at ⌝ }
 {
-    if out.len() < 11 {
-        return at;
+    match waiting {
+        Waiting::Nothing => Printed { waiting, at },
+        Waiting::Bad(number) => print_bad(number, out, at),
+        Waiting::Frames { address, walk } => print_frames(file, address, walk, out, at),
     }
-    if out.len() - 11 < at {
-        return at;
+}
+
+// Listing
+
+// Whether something waits.
+fn waits(waiting: Waiting) -> bool
+    ensures { λ r. ⌜ r ≡ waits? waiting ⌝ }
+{
+    match waiting {
+        Waiting::Nothing => false,
+        Waiting::Bad(_) => true,
+        Waiting::Frames {
+            address: _,
+            walk: _,
+        } => true,
     }
-    put_bytes(out, at, b"REFUSED ");
-    out[at + 8] = (48 + number / 10 % 10) as u8;
-    out[at + 9] = (48 + number % 10) as u8;
-    out[at + 10] = 10;
-    at + 11
+}
+
+impl Printed {
+    fn waits(self) -> bool
+        ensures { λ r. ⌜ r ≡ waits? (self .waiting) ⌝ }
+    {
+        let waiting = self.waiting;
+        waits(waiting)
+    }
+}
+
+// What a line of the input leaves to print.
+fn waiting_for(file: &[u8], cache: SymCache, got: Got) -> Waiting
+    ensures { λ r. ⌜ r ≡ waitingFor (now (file .entry)) cache got ⌝ }
+{
+    match got {
+        Got::Address(address) => Waiting::Frames {
+            address,
+            walk: lookup::walk(file, cache, address),
+        },
+        Got::Bad(number) => Waiting::Bad(number),
+        Got::More => Waiting::Nothing,
+    }
+}
+
+// Lists a piece of the input to `out`, as far as there is room for what it prints. The next call takes what this one left of the piece, or the
+// next piece; a piece of no bytes prints what is waiting.
+pub fn list(file: &[u8], listing: Listing, piece: &[u8], out: &mut [u8]) -> Listed
+    ensures { λ r.
+        let after = listed-out (r .listing) (r .used) (r .written) (now (out .exit)) in
+        ⌜ after ≡ listOf (now (file .entry)) listing (now (piece .entry)) (now (out .entry)) ⌝ }
+{
+    let cache = listing.cache;
+    let mut input = listing.input;
+    let mut used: usize = 0;
+    let waiting = listing.waiting;
+    let mut printed = print(file, waiting, out, 0);
+    while used < piece.len() {
+        if printed.waits() {
+            break;
+        }
+        let read = input.read(piece, used);
+        let got = read.got;
+        let rest = read.input;
+        input = rest;
+        used = read.next;
+        printed = print(file, waiting_for(file, cache, got), out, printed.at);
+    }
+    let waiting = printed.waiting;
+    Listed {
+        listing: Listing {
+            cache,
+            input,
+            waiting,
+        },
+        used,
+        written: printed.at,
+    }
+}
+
+impl Listing {
+    // Whether something waits to be printed.
+    pub fn is_waiting(self) -> bool
+        ensures { λ r. ⌜ r ≡ waits? (self .waiting) ⌝ }
+    {
+        let waiting = self.waiting;
+        waits(waiting)
+    }
+
+    // The input has ended. Its last line may have no 0A; it is taken where nothing waits any more.
+    pub fn end(self, file: &[u8]) -> Listing
+        ensures { λ r. ⌜ r ≡ endOf (now (file .entry)) self ⌝ }
+    {
+        if self.is_waiting() {
+            return self;
+        }
+        let cache = self.cache;
+        let input = self.input;
+        let last = input.end();
+        let input = last.input;
+        let got = last.got;
+        Listing {
+            cache,
+            input,
+            waiting: waiting_for(file, cache, got),
+        }
+    }
 }

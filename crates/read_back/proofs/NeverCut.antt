@@ -1,7 +1,7 @@
 -- NO WALK FROM A LOOKUP IS CUT by the clause on the steps: while it is at an index inside the table that it hasn't met, there are fewer steps than locations.
 use Prim.Native.Nat.{ℕ}
 use mathlib.Core.Path.{_≡_, refl, sym, _∙_, subst}
-use mathlib.Core.Bool.{Bool, true, false, cond, not, _||_}
+use mathlib.Core.Bool.{Bool, true, false, cond, _||_}
 use mathlib.Core.Logic.{_↔_}
 use mathlib.Core.Option.{none, some}
 use mathlib.Core.List.{List, [], _∷_, map}
@@ -10,8 +10,9 @@ use lib.Dec.{leb, eqb}
 use borrow.Author.Tests.{lt-leb, leb-false}
 use Rattle.raw.specs.Rows.{max32, isNoSourceLocation}
 use Rattle.symcache.specs.declared.SymCache.{SymCache}
-use Rattle.symcache.specs.Answers.{Answer, gives, refuses, only, refuseIf, andThen}
-use Rattle.symcache.specs.Reader.{parsed, startAt, ascending, opened, locationIn}
+use Rattle.symcache.specs.Answers.{Answer, gives, refuses, andThen}
+use Rattle.symcache.specs.Reader.{parsed, opened, locationIn}
+use Rattle.symcache.proofs.ReaderLaws.{opened-parsed}
 use Rattle.lookup.specs.declared.SourceLocations.{SourceLocations}
 use Rattle.lookup.specs.declared.Frame.{Frame}
 use Rattle.lookup.specs.Answers.{Framed}
@@ -83,17 +84,6 @@ then-gave : {A B : Type 0} (p : Answer A) (f : A → Answer B) (b : B) → andTh
 unfolding andThen
 then-gave (gives a) f b e = (a, refl, e)
 then-gave (refuses r) f b e = let bad : _≡_ {A = ℕ} 0 1 = cc in absurd (omega arith)
-
--- what was opened was read
-pub opened-parsed : (s : List ℕ) (c : SymCache) → opened s ≡ gives c → parsed s ≡ gives c
-unfolding opened refuseIf
-opened-parsed s c e =
-    let (d, p, r) = then-gave (parsed s) (λ d. refuseIf (not (ascending (startAt s (d .ranges)) (d .«num_ranges»))) (only 12) (gives d)) c e in
-    p ∙ passed (not (ascending (startAt s (d .ranges)) (d .«num_ranges»))) (gives d) r
-  where
-    passed : (b : Bool) (a : Answer SymCache) → refuseIf b (only 12) a ≡ gives c → a ≡ gives c
-    passed true a h = let bad : _≡_ {A = ℕ} 0 1 = cc in absurd (omega arith)
-    passed false a h = h
 
 -- a lookup begins a walk, at some index
 walk-from : (s : List ℕ) (c : SymCache) (j : ℕ) → (i : ℕ) × (walkTested s c j ≡ walkFrom i)

@@ -146,6 +146,16 @@ pub opened-refused : (s : List ℕ) (r : Refusal) → parsed s ≡ refuses r →
 unfolding opened andThen refuseIf
 opened-refused s r e = rw (e, andThen)
 
+-- what was opened was read
+pub opened-parsed : (s : List ℕ) (c : SymCache) → opened s ≡ gives c → parsed s ≡ gives c
+unfolding opened andThen
+opened-parsed s c e = go (parsed s) e
+  where
+    go : (p : Answer SymCache) → andThen p (λ d. refuseIf (not (ascending (startAt s (d .ranges)) (d .«num_ranges»))) (refusalOf kind.UnorderedRanges) (gives d)) ≡ gives c
+        → p ≡ gives c
+    go (gives d) h = passed (not (ascending (startAt s (d .ranges)) (d .«num_ranges»))) (refusalOf kind.UnorderedRanges) (gives d) c h .1
+    go (refuses r) h = let z : _≡_ {A = ℕ} 0 1 = cc in absurd (omega arith)
+
 -- what an opened file has
 pub opened-has : (s : List ℕ) (c : SymCache) → opened s ≡ gives c → Within (length s) c × (ascending (startAt s (c .ranges)) (c .«num_ranges») ≡ true)
 unfolding opened andThen

@@ -4,10 +4,10 @@ use Rattle.lister.proofs.read_all.Statement.{statement}
 use Rattle.lister.proofs.read_all.Tie as tie
 
 abbrev Inv-loop : tie.InvT-loop
-Inv-loop file cache input₀ turns₀ input turns = Unit {0}
+Inv-loop file turn₀ turns₀ turn turns = Unit {0}
 
 abbrev μ-loop : tie.MeasureT-loop
-μ-loop file cache input₀ turns₀ input turns = turns
+μ-loop file turn₀ turns₀ turn turns = turns
 
 pub read-all-spec : {M : Type 1} → statement M
 read-all-spec =
@@ -15,5 +15,5 @@ read-all-spec =
     (tie.spec
     Inv-loop
     μ-loop
-    (λ c κs. search needs) (λ c. search needs) (λ c κs. search needs) (λ c. search needs) (λ c. search needs)
-    (λ c. search needs) (λ c. search needs) (λ c. search needs))
+    (λ c. search needs) (λ c κs. search needs) (λ c. search needs) (λ c. search needs) (λ c. search needs)
+    (λ c. search needs) (λ c. search needs))

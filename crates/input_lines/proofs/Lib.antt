@@ -1,0 +1,4 @@
+pub mod Digits
+pub mod Lines
+pub mod Pieces
+pub mod Examples
