@@ -12,8 +12,19 @@ use lib.ListN.{length}
 use borrow.Author.Tests.{lt-ltb, le-leb, lt-leb, ltb-true, ltb-false, leb-true, leb-false, ne-eqb}
 use Rattle.slices.proofs.Cases.{lt-or-ge, both-true}
 use Rattle.input_lines.specs.declared.LineState.{LineState}
+use Rattle.input_lines.specs.declared.LineRead.{LineRead}
 use Rattle.input_lines.specs.declared.LineRead.the-variants.{Address, Bad}
-use Rattle.input_lines.specs.Line.{digitOf, allDigits, numberFrom, meaning, line-start, feedOf, finishOf, feedAll, lines-after, runLines}
+use Rattle.input_lines.specs.Line.{digitOf, allDigits, numberFrom, meaning, line-start, feedOf, finishOf, lines-after}
+
+-- all bytes of a line, one after the other
+unfoldable pub feedAll : LineState → List ℕ → LineState
+feedAll s [] = s
+feedAll s (b ∷ bs) = feedAll (feedOf s b) bs
+
+-- what an input says byte by byte, with the state `s` of the line at hand
+unfoldable pub runLines : LineState → List ℕ → List LineRead
+runLines s [] = cond (eqb (s .digits) 0) [] (finishOf s ∷ [])
+runLines s (b ∷ rest) = cond (eqb b 10) (finishOf s ∷ runLines line-start rest) (runLines (feedOf s b) rest)
 
 -- ---- the count
 few : (s : LineState) (line : List ℕ) → s .digits + length line ≤ 17 → (feedAll s line) .digits ≡ s .digits + length line

@@ -16,9 +16,9 @@ use Rattle.input_lines.specs.declared.LineState.{LineState}
 use Rattle.input_lines.specs.declared.Input.{Input}
 use Rattle.input_lines.specs.declared.Got.{Got}
 use Rattle.input_lines.specs.declared.Got.the-variants as got
-use Rattle.input_lines.specs.Line.{meaning, lines-after, line-start, feedOf, finishOf, runLines}
+use Rattle.input_lines.specs.Line.{meaning, lines-after, line-start, feedOf, finishOf}
 use Rattle.input_lines.specs.Input.{told, all-told, input-says, input-start, fed, after-line, whole-line, line-at, readOn, atEnd}
-use Rattle.input_lines.proofs.Lines.{lines-read}
+use Rattle.input_lines.proofs.Lines.{runLines, lines-read}
 
 module _ (s : Input) (bytes : List ℕ) (i : ℕ) where
   pub at-line : i < length bytes → getD bytes i 0 ≡ 10 → line-at s (i + 1) ≡ readOn s i (drop i bytes)

@@ -45,19 +45,9 @@ feedOf s b = record {
 unfoldable pub finishOf : LineState → LineRead
 finishOf s = cond (leb 1 (s .digits) && leb (s .digits) 16 && not (s .bad)) (Address (s .value)) Bad
 
--- all bytes of a line, one after the other
-unfoldable pub feedAll : LineState → List ℕ → LineState
-feedAll s [] = s
-feedAll s (b ∷ bs) = feedAll (feedOf s b) bs
-
 -- "Lines end with byte 0A ..; bytes after the last 0A, if any, are a line": the lines of an input, where `line` is
 -- what has come of the line at hand
 unfoldable pub lines-after : List ℕ → List ℕ → List (List ℕ)
 lines-after [] [] = []
 lines-after (b ∷ bs) [] = (b ∷ bs) ∷ []
 lines-after line (b ∷ rest) = cond (eqb b 10) (line ∷ lines-after [] rest) (lines-after (line ++ (b ∷ [])) rest)
-
--- what the lister makes of its input byte by byte, with the state `s` of the line at hand
-unfoldable pub runLines : LineState → List ℕ → List LineRead
-runLines s [] = cond (eqb (s .digits) 0) [] (finishOf s ∷ [])
-runLines s (b ∷ rest) = cond (eqb b 10) (finishOf s ∷ runLines line-start rest) (runLines (feedOf s b) rest)

@@ -45,7 +45,7 @@ fn one_more(n: u32) -> u32
 
 impl LineState {
     // Before a line's first byte.
-    pub fn start() -> LineState
+    fn start() -> LineState
         ensures { λ r. ⌜ r ≡ line-start ⌝ }
     {
         LineState {
@@ -56,7 +56,7 @@ impl LineState {
     }
 
     // After one byte more, which isn't the line's 0A.
-    pub fn feed(self, byte: u8) -> LineState
+    fn feed(self, byte: u8) -> LineState
         ensures { λ r. ⌜ r ≡ feedOf self byte ⌝ }
     {
         let d = digit(byte);
@@ -77,14 +77,14 @@ impl LineState {
     }
 
     // Whether no byte has come yet.
-    pub fn is_empty(self) -> bool
+    fn is_empty(self) -> bool
         ensures { λ r. ⌜ r ≡ eqb (self .digits) 0 ⌝ }
     {
         self.digits == 0
     }
 
     // What the line says, now that it is whole.
-    pub fn finish(self) -> LineRead
+    fn finish(self) -> LineRead
         ensures { λ r. ⌜ r ≡ finishOf self ⌝ }
     {
         if self.digits < 1 {
