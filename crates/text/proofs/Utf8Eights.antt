@@ -1,32 +1,39 @@
--- Eight times UTF8-1 at once: the test by a sum (`eight-sum`), and that the rest of the list decides then too (`runLen-le`, `utf8-no-run`, `utf8-run`).
-use Prim.Native.Nat.{ℕ, zero, suc, _+_, _/_, _<_, _≤_}
+-- Eight times UTF8-1 at once: the test by a count (`eight-sum`), and that the rest of the list decides then too (`runLen-le`, `utf8-no-run`, `utf8-run`).
+use Prim.Native.Nat.{ℕ, suc, _+_, _<_, _≤_}
 use mathlib.Core.Path.{_≡_, refl, sym, _∙_, ap}
-use mathlib.Core.Bool.{Bool, true, false, cond, false≢true, and-false}
+use mathlib.Core.Bool.{Bool, true, false, cond, _&&_, false≢true}
 use mathlib.Core.List.{List, [], _∷_}
-use mathlib.Core.Logic.{⊎-elim}
 use native.Mathlib.Omega.{arith}
-use lib.Dec.{leb, eqb}
+use lib.Dec.{eqb}
 use lib.ListN.{length, getD, drop}
 use lib.Seq.{drop-drop}
-use borrow.Author.Tests.{le-leb, lt-leb, ne-eqb}
-use Rattle.text.specs.Utf8.{Range, _to_, UTF8-char, within, fits, charLen, eights, runLen, utf8}
-use Rattle.slices.proofs.Cases.{lt-or-ge, and-left, and-right}
+use borrow.Author.Tests.{ne-eqb}
+use Rattle.text.specs.Utf8.{Range, _to_, UTF8-char, within, fits, charLen, utf8}
+use Rattle.text.specs.Utf8Runs.{eights, runLen}
+use Rattle.slices.proofs.Cases.{and-left, and-right}
 use Rattle.text.proofs.Utf8Steps.{fits-le, charLen-le, utf8-none, utf8-char}
 
--- One octet more: its quotient by 128 is 0 where it is UTF8-1.
-one-more : (b a n : ℕ) (rs : List Range) (s : List ℕ) → a ≡ b / 128 → eqb n 0 ≡ fits rs s → eqb (a + n) 0 ≡ fits (0x00 to 0x7F ∷ rs) (b ∷ s)
-unfolding fits within
-one-more b a n rs s e f =
-    ⊎-elim
-    (λ h. let z : a + n ≡ n = omega (arith, e, h) in rw (z, le-leb 0 b (omega arith), le-leb b 0x7F (omega (arith, h))) f)
-    (λ h. rw (ne-eqb (a + n) 0 (λ z. omega (arith, e, h, z)), lt-leb b 0x7F (omega (arith, h)), and-false (leb 0 b)))
-    (lt-or-ge b 128)
+-- 1 for an octet that is not UTF8-1
+abbrev pub counted : ℕ → ℕ
+counted b = cond (within (0x00 to 0x7F) b) 0 1
+
+-- one octet more
+one-more : (b a n : ℕ) (rs : List Range) (s : List ℕ) → a ≡ counted b → eqb n 0 ≡ fits rs s → eqb (a + n) 0 ≡ fits (0x00 to 0x7F ∷ rs) (b ∷ s)
+unfolding fits
+one-more b a n rs s e f = go (within (0x00 to 0x7F) b) e
+  where
+    go : (t : Bool) → a ≡ cond t 0 1 → eqb (a + n) 0 ≡ (t && fits rs s)
+    go true e = let same : a + n ≡ n = omega (arith, e) in rw same f
+    go false e = ne-eqb (a + n) 0 (λ z. omega (arith, e, z))
 
 none : (t : List ℕ) → eqb 0 0 ≡ fits [] t
 unfolding fits
 none t = refl
 
-pub eight-sum : (s : List ℕ) → 8 ≤ length s → {a0 a1 a2 a3 a4 a5 a6 a7 : ℕ} → a0 ≡ getD s 0 0 / 128 → a1 ≡ getD s 1 0 / 128 → a2 ≡ getD s 2 0 / 128 → a3 ≡ getD s 3 0 / 128 → a4 ≡ getD s 4 0 / 128 → a5 ≡ getD s 5 0 / 128 → a6 ≡ getD s 6 0 / 128 → a7 ≡ getD s 7 0 / 128 → eqb (a0 + a1 + a2 + a3 + a4 + a5 + a6 + a7) 0 ≡ fits eights s
+pub eight-sum : (s : List ℕ) → 8 ≤ length s → {a0 a1 a2 a3 a4 a5 a6 a7 : ℕ}
+    → a0 ≡ counted (getD s 0 0) → a1 ≡ counted (getD s 1 0) → a2 ≡ counted (getD s 2 0) → a3 ≡ counted (getD s 3 0)
+    → a4 ≡ counted (getD s 4 0) → a5 ≡ counted (getD s 5 0) → a6 ≡ counted (getD s 6 0) → a7 ≡ counted (getD s 7 0)
+    → eqb (a0 + a1 + a2 + a3 + a4 + a5 + a6 + a7) 0 ≡ fits eights s
 unfolding eights
 eight-sum [] h e0 e1 e2 e3 e4 e5 e6 e7 = absurd (omega (arith, h))
 eight-sum (b0 ∷ []) h e0 e1 e2 e3 e4 e5 e6 e7 = absurd (omega (arith, h))

@@ -1,44 +1,36 @@
 -- How the definitions of specs/Utf8.antt go on: one range more, one alternative more, one char more.
 use Prim.Native.Nat.{ℕ, zero, suc, _<_, _≤_}
 use mathlib.Core.Path.{_≡_, refl, sym, _∙_}
-use mathlib.Core.Bool.{Bool, true, false, cond, _&&_, false≢true, and-true, and-assoc}
+use mathlib.Core.Bool.{Bool, true, false, cond, _&&_, false≢true, and-assoc}
 use mathlib.Core.List.{List, [], _∷_, _++_}
-use mathlib.Core.Logic.{_⊎_, inl, inr}
 use native.Mathlib.Omega.{arith}
-use lib.Dec.{ltb, leb·suc-suc, eqb·suc-zero}
+use lib.Dec.{eqb·suc-zero}
 use lib.ListN.{length, drop, length-drop}
-use borrow.Author.Tests.{lt-ltb}
-use Rattle.slices.proofs.Cases.{and-right}
-use Rattle.text.specs.Utf8.{Range, UTF8-char, within, octetIn, fits, charLen, chars, utf8}
+use Rattle.slices.proofs.Cases.{and-right, and-stop, and-then}
+use Rattle.text.specs.Utf8.{Range, UTF8-char, within, fits, charLen, chars, utf8}
 
--- One octet more. An alternative with a range r at its end fits where the ranges before r fit and the octet after theirs lies in r.
-octet-suc : (b : ℕ) (s : List ℕ) (k : ℕ) (r : Range) → octetIn (b ∷ s) (suc k) r ≡ octetIn s k r
-unfolding octetIn
-octet-suc b s k r = rw (leb·suc-suc (suc k) (length s))
-
-pub fits-snoc : (rs : List Range) (r : Range) (s : List ℕ) → fits (rs ++ (r ∷ [])) s ≡ (fits rs s && octetIn s (length rs) r)
-unfolding fits octetIn
-fits-snoc [] r [] = refl
-fits-snoc [] r (b ∷ s) = rw (and-true (within r b), lt-ltb 0 (length (b ∷ s)) (omega arith))
-fits-snoc (q ∷ rs) r [] = refl
-fits-snoc (q ∷ rs) r (b ∷ s) = rw (fits-snoc rs r s, octet-suc b s (length rs) r) (sym (and-assoc (within q b) (fits rs s) (octetIn s (length rs) r)))
-
-pub fits-one : (r : Range) (s : List ℕ) → fits (r ∷ []) s ≡ octetIn s 0 r
+-- One range more. An alternative with a range r at its end fits where the ranges before r fit and what is left after their octets begins with one in r.
+fits-snoc : (rs : List Range) (r : Range) (s : List ℕ) → fits (rs ++ (r ∷ [])) s ≡ (fits rs s && fits (r ∷ []) (drop (length rs) s))
 unfolding fits
-fits-one r s = fits-snoc [] r s
+fits-snoc [] r s = refl
+fits-snoc (q ∷ rs) r [] = refl
+fits-snoc (q ∷ rs) r (b ∷ s) = rw (fits-snoc rs r s) (sym (and-assoc (within q b) (fits rs s) (fits (r ∷ []) (drop (length rs) s))))
 
--- The first alternative fits, or the length is that by the others
+-- as code tests it: x says whether the ranges before r fit, and where they do, y of the last
+pub fits-more : (rs : List Range) (r : Range) (s : List ℕ) {x y : Bool} → x ≡ fits rs s → x ≡ true → y ≡ fits (r ∷ []) (drop (length rs) s) → y ≡ fits (rs ++ (r ∷ [])) s
+fits-more rs r s {x} {y} e t f = and-then (fits rs s) (fits (r ∷ []) (drop (length rs) s)) y (sym e ∙ t) f ∙ sym (fits-snoc rs r s)
+
+pub fits-stop : (rs : List Range) (r : Range) (s : List ℕ) {x : Bool} → x ≡ fits rs s → x ≡ false → false ≡ fits (rs ++ (r ∷ [])) s
+fits-stop rs r s e t = and-stop (fits rs s) (fits (r ∷ []) (drop (length rs) s)) (sym e ∙ t) ∙ sym (fits-snoc rs r s)
+
+-- The first alternative fits, and gives the length; or it does not, and the length is that by the others.
 pub hit : (r : List Range) (rs : List (List Range)) (s : List ℕ) {x : Bool} → x ≡ fits r s → x ≡ true → length r ≡ charLen (r ∷ rs) s
 unfolding charLen
 hit r rs s e t = rw (← e, t)
 
-pub miss : (r : List Range) (rs : List (List Range)) (s : List ℕ) {x : Bool} {n : ℕ} → x ≡ fits r s → x ≡ false → n ≡ charLen rs s → n ≡ charLen (r ∷ rs) s
+pub miss : (r : List Range) (rs : List (List Range)) (s : List ℕ) {x : Bool} → x ≡ fits r s → x ≡ false → charLen rs s ≡ charLen (r ∷ rs) s
 unfolding charLen
-miss r rs s e t f = rw (← e, t) f
-
-pub no-more : (s : List ℕ) → 0 ≡ charLen [] s
-unfolding charLen
-no-more s = refl
+miss r rs s e t = rw (← e, t)
 
 -- An alternative that fits is no longer than the list.
 pub fits-le : (rs : List Range) (s : List ℕ) → fits rs s ≡ true → length rs ≤ length s

@@ -2,8 +2,8 @@
 use Prim.Native.Nat.{ℕ, zero, suc, _+_, _/_, _%_}
 use mathlib.Core.Bool.{Bool, true, false, cond, _&&_, _||_}
 use mathlib.Core.List.{List, [], _∷_, _++_}
-use lib.Dec.{leb, ltb, eqb}
-use lib.ListN.{length, getD, drop}
+use lib.Dec.{leb, eqb}
+use lib.ListN.{length, drop}
 
 -- Section 4. A range of octets, as %xC2-DF.
 pub record Range : Type 0 where
@@ -40,10 +40,6 @@ UTF8-char =
 unfoldable pub within : Range → ℕ → Bool
 within r b = leb (r .lo) b && leb b (r .hi)
 
--- octet k is there and lies in the range
-unfoldable pub octetIn : List ℕ → ℕ → Range → Bool
-octetIn s k r = ltb k (length s) && within r (getD s k 0)
-
 -- the list begins with an octet in each of the ranges, in order
 unfoldable pub fits : List Range → List ℕ → Bool
 fits [] s = true
@@ -54,13 +50,6 @@ fits (r ∷ rs) (b ∷ s) = within r b && fits rs s
 unfoldable pub charLen : List (List Range) → List ℕ → ℕ
 charLen [] s = 0
 charLen (r ∷ rs) s = cond (fits r s) (length r) (charLen rs s)
-
--- eight times UTF8-1, which private contracts take at once: the length of the chars that the list begins with
-unfoldable pub eights : List Range
-eights = 0x00 to 0x7F ∷ 0x00 to 0x7F ∷ 0x00 to 0x7F ∷ 0x00 to 0x7F ∷ 0x00 to 0x7F ∷ 0x00 to 0x7F ∷ 0x00 to 0x7F ∷ 0x00 to 0x7F ∷ []
-
-unfoldable pub runLen : List ℕ → ℕ
-runLen s = cond (fits eights s) 8 (charLen UTF8-char s)
 
 -- UTF8-octets = *( UTF8-char ), of n chars at most
 unfoldable pub chars : ℕ → List ℕ → Bool

@@ -7,7 +7,8 @@ use native.Mathlib.Omega.{arith}
 use lib.ListN.{length, take, drop, length-drop, drop-of-length-le}
 use lib.Seq.{take-all, drop-drop}
 use borrow.Author.Needs.{needs}
-use Rattle.text.specs.Utf8.{runLen, chars, utf8}
+use Rattle.text.specs.Utf8.{chars, utf8}
+use Rattle.text.specs.Utf8Runs.{runLen}
 use Rattle.text.proofs.Utf8Eights.{runLen-le, utf8-no-run, utf8-run}
 use Rattle.text.proofs.utf8.is_utf8.Statement.{statement}
 use Rattle.text.proofs.utf8.is_utf8.Tie as tie
@@ -22,7 +23,7 @@ abbrev μ-loop : tie.MeasureT-loop
 left : (s : List ℕ) (i : ℕ) {n : ℕ} → n ≡ runLen (take (length s - i) (drop i s)) → n ≡ runLen (drop i s)
 left s i e = rw (take-all (length s - i) (drop i s) (omega (arith, length-drop i s))) at e
 
--- the chars at i, of n octets, lie within the list; with none there the list isn't UTF-8; and with one the rest decides
+-- the char at i, of n octets, lies within the list; with none there the list isn't UTF-8; and with one the rest decides
 fits-in : (s : List ℕ) (i n : ℕ) → i < length s → n ≡ runLen (take (length s - i) (drop i s)) → i + n ≤ length s
 fits-in s i n h e = omega (arith, left s i e, runLen-le (drop i s), length-drop i s)
 

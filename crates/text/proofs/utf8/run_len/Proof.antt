@@ -4,7 +4,8 @@ use mathlib.Core.Path.{_≡_, refl, sym, _∙_}
 use mathlib.Core.Bool.{Bool, true, false}
 use mathlib.Core.List.{List}
 use borrow.Author.Needs.{needs}
-use Rattle.text.specs.Utf8.{UTF8-char, charLen, fits, eights, runLen}
+use Rattle.text.specs.Utf8.{UTF8-char, charLen, fits}
+use Rattle.text.specs.Utf8Runs.{eights, runLen}
 use Rattle.text.proofs.utf8.run_len.Statement.{statement}
 use Rattle.text.proofs.utf8.run_len.Tie as tie
 
