@@ -1,6 +1,6 @@
 -- Eight times UTF8-1 at once: the test by a count (`eight-sum`), and that the rest of the list decides then too (`runLen-le`, `utf8-no-run`, `utf8-run`).
 use Prim.Native.Nat.{ℕ, suc, _+_, _<_, _≤_}
-use mathlib.Core.Path.{_≡_, refl, sym, _∙_, ap}
+use mathlib.Core.Path.{_≡_, refl, _∙_, ap}
 use mathlib.Core.Bool.{Bool, true, false, cond, _&&_, false≢true}
 use mathlib.Core.List.{List, [], _∷_}
 use native.Mathlib.Omega.{arith}

@@ -1,14 +1,5 @@
 -- `eight` meets its contract: the octets that are not UTF8-1 are counted.
-use Prim.Native.Nat.{ℕ, _<_}
-use mathlib.Core.Path.{_≡_}
-use mathlib.Core.Bool.{false}
-use mathlib.Core.List.{List}
-use native.Mathlib.Omega.{arith}
-use lib.ListN.{length}
 use borrow.Author.Needs.{needs}
-use Rattle.text.specs.Utf8.{fits}
-use Rattle.text.specs.Utf8Runs.{eights}
-use Rattle.text.proofs.Utf8Steps.{fits-le}
 use Rattle.text.proofs.Utf8Eights.{eight-sum, too-short}
 use Rattle.text.proofs.utf8.eight.Statement.{statement}
 use Rattle.text.proofs.utf8.eight.Tie as tie

@@ -23,7 +23,7 @@ abbrev μ-loop : tie.MeasureT-loop
 left : (s : List ℕ) (i : ℕ) {n : ℕ} → n ≡ runLen (take (length s - i) (drop i s)) → n ≡ runLen (drop i s)
 left s i e = rw (take-all (length s - i) (drop i s) (omega (arith, length-drop i s))) at e
 
--- the char at i, of n octets, lies within the list; with none there the list isn't UTF-8; and with one the rest decides
+-- the chars at i, of n octets, lie within the list; with none there the list isn't UTF-8; and with one the rest decides
 fits-in : (s : List ℕ) (i n : ℕ) → i < length s → n ≡ runLen (take (length s - i) (drop i s)) → i + n ≤ length s
 fits-in s i n h e = omega (arith, left s i e, runLen-le (drop i s), length-drop i s)
 
