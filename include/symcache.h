@@ -66,7 +66,7 @@ extern "C" {
 
 /* ---- How much memory to lend ---- */
 
-#define SYMCACHE_RECORD_WORDS 20u      /* uint32_t: the converter's record */
+#define SYMCACHE_RECORD_WORDS 18u      /* uint32_t: the converter's record */
 #define SYMCACHE_DEBUG_ID_BYTES 32u    /* uint8_t */
 #define SYMCACHE_TABLE_ROW_WORDS 8u    /* uint32_t a row of a table */
 #define SYMCACHE_SCRATCH_ROW_WORDS 4u  /* uint32_t a function row, and a line row */
@@ -121,9 +121,7 @@ enum {
     SYMCACHE_RECORD_FUNCTIONS = 14,
     SYMCACHE_RECORD_CALL_LOCATIONS = 15,
     SYMCACHE_RECORD_RANGES = 16,
-    SYMCACHE_RECORD_LAST_END_SET = 17,
-    SYMCACHE_RECORD_LAST_END = 18,
-    SYMCACHE_RECORD_OPEN = 19
+    SYMCACHE_RECORD_OPEN = 17
 };
 
 /*
@@ -200,8 +198,8 @@ enum {
  * nothing in it. debug_id: its first 32 bytes count, missing ones are 0. arch, and the two switches
  * (0 no, anything else yes: names of functions, and of symbols, are freed of their Windows
  * decorations before they are stored).
- * Answers 0, or SYMCACHE_CLOSED where the record has fewer than 20 words; then nothing changes.
- * Lend: record 20 words; tables as large as all calls to come need (see above).
+ * Answers 0, or SYMCACHE_CLOSED where the record has fewer than 18 words; then nothing changes.
+ * Lend: record 18 words; tables as large as all calls to come need (see above).
  */
 uint32_t symcache_begin(
     uint32_t *SYMCACHE_RESTRICT record, size_t record_len,
@@ -325,7 +323,7 @@ uint32_t symcache_serialize(
     uint64_t *SYMCACHE_RESTRICT len, size_t len_len);
 
 /*
- * The length of the file that symcache_serialize writes for this record of 20 words: 80 bytes, the
+ * The length of the file that symcache_serialize writes for this record of 18 words: 80 bytes, the
  * rows, four bytes of padding where the ranges are odd, and the texts. (Not a function of the
  * library: it is counted here, from the record.)
  */

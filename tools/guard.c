@@ -60,8 +60,8 @@ enum function {
 /*
  * Each function: the slices that it may write, those that it only reads, and those that it has no
  * reason to look at, at their end or at their front. Writing takes the texts from their bytes and
- * needs no index of them, nor, of a table other than the ranges, the words that index it, which are
- * its last. The search and the walk need only the words 4 to 7 of the cache.
+ * needs no index of them, nor, of the other tables, the words that index them, which are their last.
+ * The search and the walk need only the words 4 to 7 of the cache.
  */
 static const struct {
     const char *name;
@@ -75,7 +75,7 @@ static const struct {
         BIT(FUNCTIONS64) | BIT(FUNCTIONS32) | BIT(LINES) | BIT(TEXT), {0, 0}},
     [SYMBOL] = {"symcache_process_symbolic_symbol", BIT(RECORD) | TABLE_BITS, BIT(TEXT), {0, 0}},
     [SERIALIZE] = {"symcache_serialize", BIT(OUT) | BIT(LENGTH), BIT(RECORD) | TABLE_BITS,
-        {BIT(STRINGS) | BIT(FILES) | BIT(FUNCTIONS) | BIT(CALL_LOCATIONS), BIT(STRINGS)}},
+        {BIT(STRINGS) | BIT(FILES) | BIT(FUNCTIONS) | BIT(CALL_LOCATIONS) | BIT(RANGES), BIT(STRINGS)}},
     [PARSE] = {"symcache_parse", BIT(CACHE), BIT(BYTES), {0, 0}},
     [OPEN] = {"symcache_open", BIT(CACHE), BIT(BYTES), {0, 0}},
     [FIND] = {"symcache_find", 0, BIT(BYTES) | BIT(CACHE), {0, BIT(CACHE)}},
@@ -465,7 +465,6 @@ static void any_record(void)
     for (size_t i = 0; i < 6; i++)
         r[SYMCACHE_RECORD_STRING_BYTES + i] = any_count(capacity(tables[i]));
     r[SYMCACHE_RECORD_UNDECORATE_FUNCTIONS] = (uint32_t)below(3);
-    r[SYMCACHE_RECORD_LAST_END_SET] = (uint32_t)below(3);
     r[SYMCACHE_RECORD_OPEN] = 1;
 }
 

@@ -78,7 +78,7 @@ uint32_t symcache_process_symbolic_function(uint32_t *record, size_t record_len,
     if (answer == 0) {
         trees++;
         if (broken() == 10 && scratch_len > 0) scratch[scratch_len - 1] = 1; /* scratch not zero after a tree */
-        if (broken() == 11) record[SYMCACHE_RECORD_LAST_END]++; /* the last end one too high */
+        if (broken() == 11) record[SYMCACHE_RECORD_RANGES]++; /* a range too many is counted */
         if (broken() == 12 && scratch_len > 0) scratch[scratch_len] = 0; /* a word after the scratch */
     } else if (answer == 17) {
         if (broken() == 13 && scratch_len > 0) scratch[0] = 1; /* scratch not zero after 17 */

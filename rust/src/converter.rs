@@ -490,7 +490,7 @@ impl Converter {
         Ok(len[0] as usize)
     }
 
-    /// Begins: the tables become zero and the record that of an open converter. A record of 20
+    /// Begins: the tables become zero and the record that of an open converter. A record of 18
     /// words is never refused.
     fn begin(&mut self) {
         let Setup {

@@ -474,7 +474,7 @@ mod tests {
             words: std::array::from_fn(|_| vec![7; 80]),
         };
 
-        // One of 19 words is a closed converter, and stays.
+        // One of 17 words is a closed converter, and stays.
         let mut short = [7; RECORD_WORDS - 1];
         assert_eq!(begin(&mut short, &[1], 2, 1, 0, memory.lent()), 19);
         assert_eq!(short, [7; RECORD_WORDS - 1]);
@@ -501,18 +501,18 @@ mod tests {
             0
         );
         assert_eq!(scratch, [0; 5]);
-        // Four text bytes, one text, one function, its start and its end; the last end.
+        // Four text bytes, one text, one function, its start and its end.
         wanted[c::SYMCACHE_RECORD_STRING_BYTES..c::SYMCACHE_RECORD_OPEN]
-            .copy_from_slice(&[4, 1, 0, 1, 0, 2, 1, 0x1010]);
+            .copy_from_slice(&[4, 1, 0, 1, 0, 2]);
         assert_eq!(record, wanted);
 
         assert_eq!(
             process_symbolic_symbol(&mut record, memory.lent(), b"xsy", 0x2000, 0, 1, 1, 2),
             0
         );
-        // A symbol above the last end clears it.
+        // Its three text bytes, its function and its start.
         wanted[c::SYMCACHE_RECORD_STRING_BYTES..c::SYMCACHE_RECORD_OPEN]
-            .copy_from_slice(&[7, 2, 0, 2, 0, 3, 0, 0]);
+            .copy_from_slice(&[7, 2, 0, 2, 0, 3]);
         assert_eq!(record, wanted);
     }
 

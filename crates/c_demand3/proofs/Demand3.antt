@@ -53,10 +53,10 @@ call-carried (symbol t address size name) r m =
     ap (λ (c : Converter). outcome (o .code) c (o .memory)) (symbol-carried r m t address size name)
 call-carried (write output) r m = refl
 
-module _ (r id : List ℕ) (arch f s : ℕ) (m : Memory) (long : 20 ≤ length r) (bytes : Bytes id) where
+module _ (r id : List ℕ) (arch f s : ℕ) (m : Memory) (long : 18 ≤ length r) (bytes : Bytes id) where
   begun-memory : beginCall r id arch f s m .memory ≡ beginOf (bytesAt 32 id 0) arch (yes f) (yes s) m .1
   unfolding beginCall
-  begun-memory = rw (le-ltb (length r) 20 long)
+  begun-memory = rw (le-ltb (length r) 18 long)
 
   begun-carried : standing-of (exported-beginning r id arch f s m) ≡ beginning (bytesAt 32 id 0) arch (yes f) (yes s) m
   begun-carried = ap₂ (λ (c : Converter) (n : Memory). none-counted c n) (begin-carried r id arch f s m long bytes) begun-memory

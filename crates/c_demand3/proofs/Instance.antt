@@ -29,7 +29,7 @@ use Rattle.writer.specs.Calls.{treeOf}
 use Rattle.line_rows.specs.Lines.{packed}
 use Rattle.line_rows.specs.Numbers.{unpackRoom?}
 use Rattle.line_calls.specs.Calls.{linesOf}
-use Rattle.serialize.specs.Sections.{file-row, function-row, call-row, entries, in-order, entry-location, location-row, start-row}
+use Rattle.serialize.specs.Sections.{file-row, function-row, call-row, entries, in-order, location-row, start-row}
 use Rattle.serialize.specs.File.{written-file, serializeOf}
 use Rattle.read_back.specs.Shown.{Found}
 use Rattle.demand3.specs.Lists.{Standing, write, next, run}
@@ -49,7 +49,7 @@ abbrev id : List ℕ
 id = 1 ∷ 2 ∷ []
 
 abbrev start : Standing (List ℕ)
-start = exported-beginning (replicate 21 7) id 5 0 0 lent
+start = exported-beginning (replicate 19 7) id 5 0 0 lent
 
 abbrev stands : Standing (List ℕ)
 stands = run exported two-trees start
@@ -60,16 +60,16 @@ written = serializeCall (stands .carrier) (stands .memory) output (7 ∷ [])
 
 -- ── What is computed ──
 
--- the 21st word stays as it was
+-- the 19th word stays as it was
 pub record Computed : Type 0 where
-  pub begun : start .carrier ≡ 513 ∷ 0 ∷ 0 ∷ 0 ∷ 0 ∷ 0 ∷ 0 ∷ 0 ∷ 5 ∷ 0 ∷ 0 ∷ 0 ∷ 0 ∷ 0 ∷ 0 ∷ 0 ∷ 0 ∷ 0 ∷ 0 ∷ 1 ∷ 7 ∷ []
+  pub begun : start .carrier ≡ 513 ∷ 0 ∷ 0 ∷ 0 ∷ 0 ∷ 0 ∷ 0 ∷ 0 ∷ 5 ∷ 0 ∷ 0 ∷ 0 ∷ 0 ∷ 0 ∷ 0 ∷ 0 ∷ 0 ∷ 1 ∷ 7 ∷ []
   pub answers : numbers exported calls start ≡ 0 ∷ 0 ∷ 0 ∷ []
-  pub record-left : stands .carrier ≡ 513 ∷ 0 ∷ 0 ∷ 0 ∷ 0 ∷ 0 ∷ 0 ∷ 0 ∷ 5 ∷ 0 ∷ 0 ∷ 6 ∷ 3 ∷ 1 ∷ 2 ∷ 0 ∷ 3 ∷ 1 ∷ 0x1008 ∷ 1 ∷ 7 ∷ []
+  pub record-left : stands .carrier ≡ 513 ∷ 0 ∷ 0 ∷ 0 ∷ 0 ∷ 0 ∷ 0 ∷ 0 ∷ 5 ∷ 0 ∷ 0 ∷ 6 ∷ 3 ∷ 1 ∷ 2 ∷ 0 ∷ 3 ∷ 1 ∷ 7 ∷ []
   pub counted : stands .counted ≡ given
   pub length-left : written .len ≡ 206 ∷ []
 
 pub computed : Computed
-unfolding numbers next run beginCall treeCall linesCall serializeCall idOf stateOf converterOf wordsOf kept lenWords bytes.bytesAt bytes.leAt usableIn finished beginOf treeOf linesOf packed unpackRoom? functionInColumns lineInColumns partOf lineAt linesFrom treeRow treeRowsFrom each total lengths? count? depth? shaped? inside? readable? optional? functionTexts? lineTexts? texts? end? ends? room? treeRefusal utf8 chars charLen UTF8-char fits within before place sort advanceM set-atM kid-spansM unless-held put-end walkM loopM entryM closingM rowM convertM startM isNoSourceLocation rowAt linkAt headAt setRow appendOf overOf bucketOf walk keyOf sameRow hashOf hitAt newestOf lookupOf insertAt insertOf capacityOf getOf replaceOf putAt putOf textCapacityOf encoded-in encoded storedText textSize hashFrom textHash textRow isText textAt newestText findText indexOf fullOf storeOf insertTextAt insertTextOf fitsIn store add-function add-file-row add-call put-range store-six locate-six begin-named serializeOf written-file versionInfoBytes headerBytes bytes.wordBytes bytes.le bytes.tableBytes file-row fileBytes function-row functionBytes call-row locationBytes location-row entry-location start-row rangeBytes padding in-order entries table.rowsFrom
+unfolding numbers next run beginCall treeCall linesCall serializeCall idOf stateOf converterOf wordsOf kept lenWords bytes.bytesAt bytes.leAt usableIn finished beginOf treeOf linesOf packed unpackRoom? functionInColumns lineInColumns partOf lineAt linesFrom treeRow treeRowsFrom each total lengths? count? depth? shaped? inside? readable? optional? functionTexts? lineTexts? texts? end? ends? room? treeRefusal utf8 chars charLen UTF8-char fits within before place sort advanceM set-atM kid-spansM unless-held put-end walkM loopM entryM closingM rowM convertM startM isNoSourceLocation rowAt linkAt headAt setRow appendOf overOf bucketOf walk keyOf sameRow hashOf hitAt newestOf lookupOf insertAt insertOf capacityOf getOf replaceOf putAt putOf textCapacityOf encoded-in encoded storedText textSize hashFrom textHash textRow isText textAt newestText findText indexOf fullOf storeOf insertTextAt insertTextOf fitsIn store add-function add-file-row add-call put-range store-six locate-six begin-named serializeOf written-file versionInfoBytes headerBytes bytes.wordBytes bytes.le bytes.tableBytes file-row fileBytes function-row functionBytes call-row locationBytes location-row start-row rangeBytes padding in-order entries table.rowsFrom
 computed = record { begun = refl; answers = refl; record-left = refl; counted = refl; length-left = refl }
 
 -- ── What demand 3 gives ──
@@ -87,7 +87,7 @@ zero-answered =
 pub left : FileLeft (bytes.bytesAt 32 id 0) 5 plain-setup given output (7 ∷ []) written
 left =
     subst (λ (gs : List Given). FileLeft (bytes.bytesAt 32 id 0) 5 plain-setup gs output (7 ∷ []) written) (computed .counted)
-    (exported-demand3 (replicate 21 7) id 5 0 0 lent calls (omega arith) (omega arith, (omega arith, tt)) (omega arith) (typed calls (small.computed .words-typed))
+    (exported-demand3 (replicate 19 7) id 5 0 0 lent calls (omega arith) (omega arith, (omega arith, tt)) (omega arith) (typed calls (small.computed .words-typed))
     two-trees [] output (7 ∷ []) refl zero-answered)
 
 -- the frames of SmallCalls, of this file: by value, and by the exported readers

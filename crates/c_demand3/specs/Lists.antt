@@ -50,13 +50,13 @@ pub record FileLeft (id : List ℕ) (arch : ℕ) (X : Setup) (gs : List Given) (
   pub demanded : Premises gs → (q : FunctionRow) (rs : List FunctionRow) → tree-rows q rs ∈ gs
       → (n : LineRow) → n ∈ q .lines → (x : ℕ) → Covers (reach n) x → (d : List ℕ) → FoundByCalls file d x (asked X d x q rs)
 
--- for every record of twenty words or more, every debug id and arch, both switches, any lent lengths, any content before the beginning, every list of
+-- for every record of eighteen words or more, every debug id and arch, both switches, any lent lengths, any content before the beginning, every list of
 -- calls, and every write in it that answers 0, whatever words it is lent for the length. The file's debug id is what the beginning stores: the first 32
 -- bytes of the one lent, and 0 for each that is missing
 abbrev pub ExportedDemand3 : Type 0
 ExportedDemand3 =
     (r id : List ℕ) (arch f s : ℕ) (m : Memory) (calls : List Call)
-    → 20 ≤ length r → Bytes id → arch ≤ MAX → ((k : Call) → k ∈ calls → Typed k)
+    → 18 ≤ length r → Bytes id → arch ≤ MAX → ((k : Call) → k ∈ calls → Typed k)
     → (before after : List Call) (out l : List ℕ) → calls ≡ before ++ (write out ∷ after)
     → let x = run exported before (exported-beginning r id arch f s m) in
     let o = serializeCall (x .carrier) (x .memory) out l in

@@ -1,28 +1,19 @@
 -- The record's words, read and stored.
-use Prim.Native.Nat.{ℕ, _+_, _*_}
-use mathlib.Core.Bool.{Bool, cond}
-use mathlib.Core.Path.{_≡_, refl, sym, ap, _∙_}
-use mathlib.Core.List.{List, [], _∷_, _++_}
-use lib.Dec.{eqb}
+use Prim.Native.Nat.{ℕ, _*_}
+use mathlib.Core.Bool.{Bool}
+use mathlib.Core.Path.{_≡_, ap, _∙_}
+use mathlib.Core.List.{List}
 use lib.ListN.{getD, set, replicate}
 use lib.Seq.{sets}
-use borrow.Author.Tests.{eq-eqb, ne-eqb}
+use borrow.Author.Tests.{ne-eqb}
 use Rattle.slices.specs.Bytes.{le, leAt, bytesAt, wordBytes}
-use Rattle.memory.specs.declared.LastAddr.{LastAddr}
-use Rattle.memory.specs.declared.LastAddr.the-variants.{Unset, Set}
 use Rattle.memory.specs.declared.State.{State}
 use Rattle.memory.specs.declared.Converter.{Converter}
 use Rattle.c_reading.specs.Stored.{stored}
 use Rattle.slices.specs.Slices.{yes, flagOf}
-use Rattle.c_words.specs.Record.{lastOf, idOf, stateOf, converterOf, lastWords, idWords, countWords, switchWords, wordsOf, kept, lenWords}
+use Rattle.c_words.specs.Record.{idOf, stateOf, converterOf, idWords, countWords, switchWords, wordsOf, kept, lenWords}
 
 -- ── Read ───────────────────────────────────────────────────────────────────────────────────────────────────────────────
-
-pub last-unset : (present a : ℕ) → present ≡ 0 → Unset ≡ lastOf present a
-last-unset present a e = sym (ap (λ (b : Bool). cond b Unset (Set a)) (eq-eqb present 0 e))
-
-pub last-set : (present a : ℕ) → (present ≡ 0 → ⊥) → Set a ≡ lastOf present a
-last-set present a n = sym (ap (λ (b : Bool). cond b Unset (Set a)) (ne-eqb present 0 n))
 
 pub word-bytes : (t : List ℕ) (k : ℕ) (r : List ℕ) (v : ℕ) {t₁ : List ℕ} → v ≡ getD r k 0 → t₁ ≡ sets t (4 * k) (le 4 v) → t₁ ≡ sets t (4 * k) (le 4 (getD r k 0))
 word-bytes t k r v e h = h ∙ ap (λ (n : ℕ). sets t (4 * k) (le 4 n)) e
@@ -33,14 +24,13 @@ pub id-read : (r : List ℕ) {t₁ t₂ t₃ t₄ t₅ t₆ t₇ t₈ : List ℕ
 unfolding idOf wordBytes bytesAt le
 id-read r e₁ e₂ e₃ e₄ e₅ e₆ e₇ e₈ = rw (e₈, e₇, e₆, e₅, e₄, e₃, e₂, e₁)
 
-pub state-read : (r : List ℕ) {a b c d e f : ℕ} {l : LastAddr} {p q : ℕ} → a ≡ getD r 11 0 → b ≡ getD r 12 0 → c ≡ getD r 13 0 → d ≡ getD r 14 0 → e ≡ getD r 15 0 → f ≡ getD r 16 0
-    → p ≡ getD r 17 0 → q ≡ getD r 18 0 → l ≡ lastOf p q
-    → record { «string_bytes» = a; strings = b; files = c; functions = d; «call_locations» = e; ranges = f; «last_addr» = l } ≡ stateOf r
+pub state-read : (r : List ℕ) {a b c d e f : ℕ} → a ≡ getD r 11 0 → b ≡ getD r 12 0 → c ≡ getD r 13 0 → d ≡ getD r 14 0 → e ≡ getD r 15 0 → f ≡ getD r 16 0
+    → record { «string_bytes» = a; strings = b; files = c; functions = d; «call_locations» = e; ranges = f } ≡ stateOf r
 unfolding stateOf
-state-read r ea eb ec ed ee ef ep eq el = rw (ea, eb, ec, ed, ee, ef, el, ep, eq)
+state-read r ea eb ec ed ee ef = rw (ea, eb, ec, ed, ee, ef)
 
 pub converter-read : (r : List ℕ) {i : List ℕ} {s : State} {a u v w : ℕ} {f g o : Bool} → i ≡ idOf r → s ≡ stateOf r → a ≡ getD r 8 0 → u ≡ getD r 9 0 → f ≡ yes u → v ≡ getD r 10 0 → g ≡ yes v
-    → w ≡ getD r 19 0 → o ≡ yes w
+    → w ≡ getD r 17 0 → o ≡ yes w
     → record { «debug_id» = i; arch = a; «undecorate_functions» = f; «undecorate_symbols» = g; «open» = o; state = s } ≡ converterOf r
 unfolding converterOf
 converter-read r ei es ea eu ef ev eg ew eo = rw (ei, es, ea, ef, eg, eo, eu, ev, ew)
@@ -50,16 +40,10 @@ converter-read r ei es ea eu ef ev eg ew eo = rw (ei, es, ea, ef, eg, eo, eu, ev
 pub word-of-id : (t : List ℕ) (k : ℕ) (b : List ℕ) (w : ℕ) {t₁ : List ℕ} → w ≡ leAt 4 b (4 * k) → t₁ ≡ set t k w → t₁ ≡ set t k (leAt 4 b (4 * k))
 word-of-id t k b w e h = h ∙ ap (λ (v : ℕ). set t k v) e
 
-last-then : (x : List ℕ) (l : LastAddr) (w : ℕ) → set (sets x 17 (lastWords l)) 19 w ≡ sets x 17 (lastWords l ++ (w ∷ []))
-last-then x Unset w = refl
-last-then x (Set a) w = refl
-
-pub record-stored : (t : List ℕ) (c : Converter) {t₁ t₂ t₃ t₄ t₅ : List ℕ} {w : ℕ} → t₁ ≡ stored (idWords (c .«debug_id»)) t → t₂ ≡ sets t₁ 8 (switchWords c)
-    → t₃ ≡ sets t₂ 11 (countWords (c .state)) → t₄ ≡ sets t₃ 17 (lastWords (c .state .«last_addr»)) → w ≡ flagOf (c .«open») → t₅ ≡ set t₄ 19 w → t₅ ≡ stored (wordsOf c) t
+pub record-stored : (t : List ℕ) (c : Converter) {t₁ t₂ t₃ t₄ : List ℕ} {w : ℕ} → t₁ ≡ stored (idWords (c .«debug_id»)) t → t₂ ≡ sets t₁ 8 (switchWords c)
+    → t₃ ≡ sets t₂ 11 (countWords (c .state)) → w ≡ flagOf (c .«open») → t₄ ≡ set t₃ 17 w → t₄ ≡ stored (wordsOf c) t
 unfolding wordsOf
-record-stored t c e₁ e₂ e₃ e₄ ew e₅ =
-    rw (e₅, ew, e₄, e₃, e₂, e₁)
-    (last-then (sets (sets (sets t 0 (idWords (c .«debug_id»))) 8 (switchWords c)) 11 (countWords (c .state))) (c .state .«last_addr») (flagOf (c .«open»)))
+record-stored t c e₁ e₂ e₃ ew e₄ = rw (e₄, ew, e₃, e₂, e₁)
 
 -- "only accepted calls and 17 store it"
 pub kept-accepted : (n : ℕ) (c : Converter) (t : List ℕ) {t₁ : List ℕ} → n ≡ 0 → t₁ ≡ stored (wordsOf c) t → t₁ ≡ kept n c t

@@ -1,6 +1,5 @@
--- The converter's record in twenty words: 0 to 7 the debug id, four bytes a word, little-endian; 8 arch; 9 and 10 the two switches; 11 to 16 what is
--- in use of the six tables; 17 whether the last
--- end is set; 18 the last end, 0 where unset; 19 open.
+-- The converter's record in eighteen words: 0 to 7 the debug id, four bytes a word, little-endian; 8 arch; 9 and 10 the two switches; 11 to 16 what is
+-- in use of the six tables; 17 open.
 use Prim.Native.Nat.{ℕ, _<_}
 use mathlib.Core.Bool.{cond, _||_}
 use mathlib.Core.Path.{_≡_}
@@ -8,17 +7,12 @@ use mathlib.Core.List.{List, [], _∷_, _++_}
 use lib.Dec.{eqb}
 use lib.ListN.{length, getD}
 use Rattle.slices.specs.Bytes.{leAt, bytesAt, wordBytes}
-use Rattle.memory.specs.declared.LastAddr.{LastAddr}
-use Rattle.memory.specs.declared.LastAddr.the-variants.{Unset, Set}
 use Rattle.memory.specs.declared.State.{State}
 use Rattle.memory.specs.declared.Converter.{Converter}
 use Rattle.c_reading.specs.Stored.{stored}
 use Rattle.slices.specs.Slices.{yes, flagOf}
 
 -- ── Read ───────────────────────────────────────────────────────────────────────────────────────────────────────────────
-
-abbrev pub lastOf : ℕ → ℕ → LastAddr
-lastOf present a = cond (eqb present 0) Unset (Set a)
 
 unfoldable pub idOf : List ℕ → List ℕ
 idOf r = wordBytes (bytesAt 8 r 0)
@@ -31,25 +25,20 @@ stateOf r = record {
   functions = getD r 14 0;
   «call_locations» = getD r 15 0;
   ranges = getD r 16 0;
-  «last_addr» = lastOf (getD r 17 0) (getD r 18 0);
 }
 
--- "A record of fewer than 20 words is a closed converter": its last word is read as 0
+-- "A record of fewer than 18 words is a closed converter": its last word is read as 0
 unfoldable pub converterOf : List ℕ → Converter
 converterOf r = record {
   «debug_id» = idOf r;
   arch = getD r 8 0;
   «undecorate_functions» = yes (getD r 9 0);
   «undecorate_symbols» = yes (getD r 10 0);
-  «open» = yes (getD r 19 0);
+  «open» = yes (getD r 17 0);
   state = stateOf r;
 }
 
 -- ── Stored ─────────────────────────────────────────────────────────────────────────────────────────────────────────────
-
-abbrev pub lastWords : LastAddr → List ℕ
-lastWords Unset = 0 ∷ 0 ∷ []
-lastWords (Set a) = 1 ∷ a ∷ []
 
 abbrev pub idWords : List ℕ → List ℕ
 idWords b = leAt 4 b 0 ∷ leAt 4 b 4 ∷ leAt 4 b 8 ∷ leAt 4 b 12 ∷ leAt 4 b 16 ∷ leAt 4 b 20 ∷ leAt 4 b 24 ∷ leAt 4 b 28 ∷ []
@@ -61,8 +50,7 @@ abbrev pub switchWords : Converter → List ℕ
 switchWords c = c .arch ∷ flagOf (c .«undecorate_functions») ∷ flagOf (c .«undecorate_symbols») ∷ []
 
 unfoldable pub wordsOf : Converter → List ℕ
-wordsOf c =
-    idWords (c .«debug_id») ++ (switchWords c ++ (countWords (c .state) ++ (lastWords (c .state .«last_addr») ++ (flagOf (c .«open») ∷ []))))
+wordsOf c = idWords (c .«debug_id») ++ (switchWords c ++ (countWords (c .state) ++ (flagOf (c .«open») ∷ [])))
 
 -- "On a refusal other than 17 no word of the record changes"
 unfoldable pub kept : ℕ → Converter → List ℕ → List ℕ

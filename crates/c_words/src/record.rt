@@ -1,14 +1,13 @@
-// The converter's record as twenty words: the debug id in eight, four bytes a word, little-endian; arch; the two switches; what is in use of the
-// six tables; the last end; whether it is open.
+// The converter's record as eighteen words: the debug id in eight, four bytes a word, little-endian; arch; the two switches; what is in use of the
+// six tables; whether it is open.
 ghost use mathlib.Core.Path.{_≡_};
 ghost use Prim.Native.Nat.{_*_};
 ghost use lib.ListN.{getD, set};
 ghost use lib.Seq.{sets};
 ghost use Rattle.slices.specs.Bytes.{le, leAt};
 ghost use Rattle.c_reading.specs.Stored.{stored};
-ghost use Rattle.c_words.specs.Record.{lastOf, idOf, stateOf, converterOf, lastWords, idWords, countWords, switchWords, wordsOf, kept};
+ghost use Rattle.c_words.specs.Record.{idOf, stateOf, converterOf, idWords, countWords, switchWords, wordsOf, kept};
 use memory::Converter;
-use memory::LastAddr;
 use memory::State;
 use slices::flag;
 use slices::is_set;
@@ -43,15 +42,6 @@ fn put_word(id: &mut [u8], record: &[u32], k: u32)
     store_u32(id, 4 * j, word(record, j));
 }
 
-fn last_addr(is_some: u32, a: u32) -> LastAddr
-    ensures { λ r. ⌜ r ≡ lastOf «is_some» a ⌝ }
-{
-    if is_some == 0 {
-        return LastAddr::Unset;
-    }
-    LastAddr::Set(a)
-}
-
 fn state(record: &[u32]) -> State
     ensures { λ r. ⌜ r ≡ stateOf (now («record» .entry)) ⌝ }
 {
@@ -62,11 +52,10 @@ fn state(record: &[u32]) -> State
         functions: word(record, 14),
         call_locations: word(record, 15),
         ranges: word(record, 16),
-        last_addr: last_addr(word(record, 17), word(record, 18)),
     }
 }
 
-// A record of fewer than twenty words is closed: its last word is read as 0.
+// A record of fewer than eighteen words is closed: its last word is read as 0.
 pub fn load(record: &[u32]) -> Converter
     ensures { λ r. ⌜ r ≡ converterOf (now («record» .entry)) ⌝ }
 {
@@ -77,7 +66,7 @@ pub fn load(record: &[u32]) -> Converter
         arch: word(record, 8),
         undecorate_functions: is_set(word(record, 9)),
         undecorate_symbols: is_set(word(record, 10)),
-        open: is_set(word(record, 19)),
+        open: is_set(word(record, 17)),
         state,
     }
 }
@@ -106,18 +95,6 @@ fn put_id(record: &mut [u32], id: &[u8])
     put_id_word(record, id, 7);
 }
 
-fn put_last_addr(record: &mut [u32], last: LastAddr)
-    ensures { λ _. ⌜ now («record» .exit) ≡ sets (now («record» .entry)) 17 (lastWords last) ⌝ }
-{
-    let LastAddr::Set(a) = last else {
-        put(record, 17, 0);
-        put(record, 18, 0);
-        return;
-    };
-    put(record, 17, 1);
-    put(record, 18, a);
-}
-
 fn put_counts(record: &mut [u32], s: State)
     ensures { λ _. ⌜ now («record» .exit) ≡ sets (now («record» .entry)) 11 (countWords s) ⌝ }
 {
@@ -142,12 +119,10 @@ pub fn store(record: &mut [u32], c: Converter)
 {
     let id = c.debug_id;
     let state = c.state;
-    let last = state.last_addr;
     put_id(record, &id);
     put_switches(record, c);
     put_counts(record, state);
-    put_last_addr(record, last);
-    put(record, 19, flag(c.open));
+    put(record, 17, flag(c.open));
 }
 
 // Accepted calls and 17 store it; no other refusal does.

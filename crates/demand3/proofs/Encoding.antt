@@ -33,7 +33,6 @@ use Rattle.table_laws.proofs.Sets as sets
 use Rattle.table_laws.proofs.TextTables as text-tables
 use Rattle.memory.specs.Memory.{Words}
 use Rattle.memory.specs.Record.{fitsIn, fits?}
-use Rattle.steps.specs.Steps.{last-of}
 use Rattle.steps.proofs.Lengths.{Lens, lens}
 use Rattle.demand3.proofs.WordRows.{file-row, function-row, call-row, range-row, source, grows-length, within-later, text-word-later, Few}
 use Rattle.demand3.proofs.Interned.{holds-count, bytes-same}
@@ -120,7 +119,6 @@ pub record Enc (n : Lens) (s : Tables) (w : Words) : Type 0 where
   pub functions : Holds 6 (w .mm .functions) (w .st .functions) (map (function-row (s .texts)) (s .functions))
   pub calls : Holds 6 (w .mm .calls) (w .st .«call_locations») (map call-row (s .calls))
   pub ranges : Holds 1 (w .mm .ranges) (w .st .ranges) (map range-row (s .ranges))
-  pub last : s .last ≡ last-of (w .st .«last_addr»)
   pub inside : Inside s
 
 -- a reference to a text and its word

@@ -103,6 +103,5 @@ begun-holds n = record {
   functions = sets.begun 6 (n .functions);
   calls = sets.begun 6 (n .calls);
   ranges = sets.begun 1 (n .ranges);
-  last = refl;
   inside = record { files = λ i x h. absurd h; functions = λ i f h. absurd h; calls = λ i l h. absurd h; ranges = λ i e h. absurd h };
 }

@@ -1,18 +1,18 @@
 -- THE CONVERTER OVER WORDS ENCODES THE PLAIN ONE, whatever is given: every operation of the machine `over-words X` goes as that of `plain X` (`words-encode`). So, of each call and of every
 -- list of calls, the crate model's `encoded-call` and `encoded-list` hold.
-use mathlib.Core.Path.{_≡_, refl, sym, ap, _∙_, subst}
+use mathlib.Core.Path.{_≡_, refl, sym, ap, subst}
 use mathlib.Core.Bool.{Bool, true, false, cond, _&&_}
 use mathlib.Core.Option.{Option, none, some}
 use mathlib.Core.List.{List, [], _∷_}
 use Prim.Native.Nat.{ℕ, suc, _<_}
 use native.Mathlib.Omega.{arith}
-use lib.Dec.{ltb, eqb}
+use lib.Dec.{eqb}
 use lib.ListN.{length}
 use borrow.Author.Tests.{ne-eqb}
 use Rattle.slices.proofs.Cases.{none-some}
 use Rattle.model.specs.Basics.{Entry, intern}
 use Rattle.model.specs.Rows.{MAX, LineRow, FunctionRow, SymbolRow}
-use Rattle.model.specs.Converter.{Setup, File, Function, Location, nowhere, at, Tables, is-nowhere, file-eq, function-eq, location-eq, intern-text, intern-six, function-name, symbol-name, line-texts, entry-of, range-at, begin-row, locate-line, begin-symbol, locate-symbol, enter-call, later, cleared}
+use Rattle.model.specs.Converter.{Setup, File, Function, Location, nowhere, at, Tables, is-nowhere, file-eq, function-eq, location-eq, intern-text, intern-six, function-name, symbol-name, line-texts, entry-of, range-at, begin-row, locate-line, begin-symbol, locate-symbol, enter-call}
 use Rattle.model.specs.FileWords.{index-word}
 use Rattle.model.proofs.Intern.{At, Grows, intern-grows}
 use Rattle.model.proofs.Chains.{file-eq-ok, function-eq-ok, location-eq-ok}
@@ -23,15 +23,13 @@ use Rattle.model.proofs.Encoded.{Holds, Goes, goes-then, Encodes}
 use Rattle.raw.specs.Rows.{max32, isNoSourceLocation}
 use Rattle.raw.specs.declared.SourceLocation.{SourceLocation}
 use Rattle.memory.specs.Memory.{Words}
-use Rattle.steps.specs.Steps.{add-call, fileRow, locate-six, begin-named, get-range, last-of, later-of, cleared-of, over-words}
+use Rattle.steps.specs.Steps.{add-call, fileRow, locate-six, begin-named, get-range, over-words}
 use Rattle.steps.specs.Steps.{store, store-six, add-function}
-use Rattle.memory.specs.declared.LastAddr.{LastAddr}
-use Rattle.memory.specs.declared.LastAddr.the-variants.{Unset, Set}
 use Rattle.steps.proofs.Lengths.{Lens}
 use Rattle.demand3.proofs.WordRows.{source, grows-length, within-later, in-later, Few}
 use Rattle.demand3.proofs.Interned.{intern-below, shown, got}
 use Rattle.demand3.proofs.Encoding.{capacities, full, Enc, TextIs, text-is-later, encoding, any, few, went}
-use Rattle.demand3.proofs.StepLaws.{with-texts, with-files, with-functions, store-full, store-went, file-full, file-went, function-full, function-went, call-full, call-went, range-full, range-went, last-full, last-went, answer, six-full, six-goes}
+use Rattle.demand3.proofs.StepLaws.{with-texts, with-files, with-functions, store-full, store-went, file-full, file-went, function-full, function-went, call-full, call-went, range-full, range-went, answer, six-full, six-goes}
 
 -- ── What is read ──
 
@@ -150,24 +148,6 @@ module _ (n : Lens) (X : Setup) where
       answer n (λ (b, e). ((b, tt, tt), ap (λ (j : ℕ). record { «file_idx» = MAX; line = 0; «function_idx» = j; «inlined_into_idx» = MAX }) e))
       (function-goes p p′ (y .address) MAX s w (h .enc) i)
 
-  -- ── The last end ──
-
-  later-same : (o : Option ℕ) (a : LastAddr) (e : ℕ) → o ≡ last-of a → later o e ≡ last-of (later-of a e)
-  later-same o Unset e h = ap (λ (p : Option ℕ). later p e) h
-  later-same o (Set a) e h = ap (λ (p : Option ℕ). later p e) h ∙ go (ltb a e)
-    where
-      go : (b : Bool) → cond b (some e) (some a) ≡ last-of (cond b (Set e) (Set a))
-      go true = refl
-      go false = refl
-
-  cleared-same : (o : Option ℕ) (a : LastAddr) (y : ℕ) → o ≡ last-of a → cleared o y ≡ last-of (cleared-of a y)
-  cleared-same o Unset y h = ap (λ (p : Option ℕ). cleared p y) h
-  cleared-same o (Set a) y h = ap (λ (p : Option ℕ). cleared p y) h ∙ go (ltb y a)
-    where
-      go : (b : Bool) → cond b (some a) none ≡ last-of (cond b (Set a) Unset)
-      go true = refl
-      go false = refl
-
   -- ── All of it ──
 
   pub words-encode : Encodes (capacities n) (encoding n) X (over-words X) any
@@ -179,9 +159,7 @@ module _ (n : Lens) (X : Setup) where
     keys = λ l. (tt, tt);
     row-keys = λ d q ok z. (tt, tt);
     symbol-keys = λ y ok z. (tt, λ e h. tt);
-    last-key = λ s w h a e. tt;
     get-law = λ k s w b h. get-same k s w h;
-    last-law = λ s w h. h .enc .last;
     none-law = λ s. (tt, refl);
     base-law = λ s. (tt, refl);
     bare-law = λ s q r r′ h. ((h .0, tt, tt), ap (λ (i : ℕ). record { «file_idx» = MAX; line = 0; «function_idx» = i; «inlined_into_idx» = MAX }) (h .1));
@@ -191,14 +169,10 @@ module _ (n : Lens) (X : Setup) where
     enter-law = λ l l′ s w h e. enter-goes l l′ s w h e;
     sym-begin-law = λ y s w ok z h. symbol-goes y s w h;
     sym-locate-law = λ y p p′ s w ok z h i. symbol-located y p p′ s w h i;
-    mark-end-law = λ a s w b h. went n _ _ (last-went n _ _ s w (later-same (s .last) (w .st .«last_addr») a (h .enc .last)) (h .enc));
-    mark-symbol-law = λ a s w b h. went n _ _ (last-went n _ _ s w (cleared-same (s .last) (w .st .«last_addr») a (h .enc .last)) (h .enc));
     put-full = λ k l w e. range-full k l w e;
     begin-full = λ q w e. begin-stays q w e;
     locate-full = λ q r l c w e. locate-stays q r l c w e;
     enter-full = λ l w e. call-full l w e;
     sym-begin-full = λ y w e. store-full (symbol-name X y) w e;
     sym-locate-full = λ y p w e. function-full p (y .address) MAX w e;
-    mark-end-full = λ a w e. last-full (later-of (w .st .«last_addr») a) w e;
-    mark-symbol-full = λ a w e. last-full (cleared-of (w .st .«last_addr») a) w e;
   }

@@ -1,4 +1,4 @@
--- EACH STEP OF THE CONVERTER OVER WORDS GOES AS THE PLAIN ONE: a text, a file, a function, a call location, a range, the last end. From words that hold tables it comes to words that hold
+-- EACH STEP OF THE CONVERTER OVER WORDS GOES AS THE PLAIN ONE: a text, a file, a function, a call location, a range. From words that hold tables it comes to words that hold
 -- the plain tables after the step; or to words with no room, and the plain tables don't fit. Words without room stay so.
 use mathlib.Core.Path.{_≡_, refl, sym, ap, subst}
 use mathlib.Core.Bool.{Bool, true, false, cond}
@@ -11,7 +11,7 @@ use lib.Dec.{eqb}
 use lib.ListN.{length}
 use Rattle.model.specs.Basics.{Entry, intern}
 use Rattle.model.specs.Rows.{Text}
-use Rattle.model.specs.Converter.{Six, File, Function, Location, Tables, file-eq, function-eq, location-eq, intern-text, intern-six, range-put, put-at, ending}
+use Rattle.model.specs.Converter.{Six, File, Function, Location, Tables, file-eq, function-eq, location-eq, intern-text, intern-six, range-put, put-at}
 use Rattle.model.specs.FileWords.{text-word}
 use Rattle.model.proofs.Intern.{At, Grows, intern-grows, intern-new}
 use Rattle.model.proofs.Chains.{file-eq-ok, function-eq-ok, location-eq-ok, store-grows, Larger}
@@ -19,7 +19,7 @@ use Rattle.model.proofs.Always.{Within, InTables}
 use Rattle.model.proofs.Compact.{file-whole, function-whole, location-whole}
 use Rattle.model.proofs.FileRows.{FileIn}
 use Rattle.model.proofs.Grown.{Grown}
-use Rattle.model.proofs.Keeps.{Any, put-larger, ending-larger}
+use Rattle.model.proofs.Keeps.{Any, put-larger}
 use Rattle.model.proofs.Encoded.{Goes, goes-then}
 use Rattle.raw.specs.declared.SourceLocation.{SourceLocation}
 use Rattle.tables.specs.Table.{capacityOf, insertOf}
@@ -27,10 +27,8 @@ use Rattle.tables.specs.Ranges.{rangeRow, putOf}
 use Rattle.strings.specs.Strings.{textCapacityOf, insertTextOf}
 use Rattle.table_laws.specs.Plain.{Holds}
 use Rattle.tables.specs.declared.Row.{Row}
-use Rattle.memory.specs.declared.LastAddr.{LastAddr}
 use Rattle.memory.specs.Memory.{Words}
-use Rattle.memory.specs.Record.{fitsIn, with-last}
-use Rattle.steps.specs.Steps.{add-file-row, add-call, fileRow, functionRow, locationRow, last-of, store, store-six, add-function, put-range}
+use Rattle.steps.specs.Steps.{add-file-row, add-call, fileRow, functionRow, locationRow, store, store-six, add-function, put-range}
 use Rattle.steps.proofs.Lengths.{Lens, lens, insert-long, put-long, text-long, text-long-index, store-lens, add-function-lens, add-file-row-lens, add-call-lens, put-range-lens}
 use Rattle.demand3.proofs.WordRows.{file-row, function-row, call-row, range-row, source, call-row-is, range-row-is, grows-length, grows-bytes, within-later, in-later, file-in-later, file-row-later, function-row-later, file-row-one, function-row-one, call-row-one, row-path}
 use Rattle.demand3.proofs.Interned.{Added, added, set-back, placed, put-back, stored, stored-within, texts-back}
@@ -47,7 +45,7 @@ by-own {n} {s} {t} {w} {u} {r} h g = subst (λ (m : Lens). Went m t u r) (h .len
 -- ── A text ──
 
 abbrev pub with-texts : Tables → List Text → Tables
-with-texts s ts = record { texts = ts; files = s .files; functions = s .functions; calls = s .calls; ranges = s .ranges; last = s .last }
+with-texts s ts = record { texts = ts; files = s .files; functions = s .functions; calls = s .calls; ranges = s .ranges }
 
 texts-larger : (s : Tables) (ts : List Text) → Grows (s .texts) ts → Larger s (with-texts s ts)
 texts-larger s ts g = record { texts = g; files = λ i a h. h; functions = λ i a h. h; calls = λ i a h. h }
@@ -98,7 +96,6 @@ module _ (t : Text) (s : Tables) (w : Words) where
           functions = subst (Holds 6 (m .functions) (w .st .functions)) (map-same (function-row (s .texts)) (function-row stored-texts) (s .functions) (λ i f z. sym (function-row-later (s .texts) stored-texts g f (h .inside .functions i f z)))) (h .functions);
           calls = h .calls;
           ranges = h .ranges;
-          last = h .last;
           inside = texts-kept n h;
         },
         (stored-within (s .texts) t, d .offset),
@@ -112,7 +109,7 @@ module _ (t : Text) (s : Tables) (w : Words) where
 -- ── A file ──
 
 abbrev pub with-files : Tables → List File → Tables
-with-files s fs = record { texts = s .texts; files = fs; functions = s .functions; calls = s .calls; ranges = s .ranges; last = s .last }
+with-files s fs = record { texts = s .texts; files = fs; functions = s .functions; calls = s .calls; ranges = s .ranges }
 
 pub file-full : (row : Row) (w : Words) → full w ≡ true → full (add-file-row row w .1) ≡ true
 unfolding add-file-row
@@ -147,7 +144,6 @@ module _ (x : File) (s : Tables) (w : Words) where
           functions = h .functions;
           calls = h .calls;
           ranges = h .ranges;
-          last = h .last;
           inside = record {
             files = λ j y z. ⊎-elim (λ p. h .inside .files j y p) (λ (p, e). subst (FileIn (length (s .texts))) (sym e) i) (intern-new file-eq (s .files) x j y z);
             functions = h .inside .functions;
@@ -168,7 +164,7 @@ module _ (x : File) (s : Tables) (w : Words) where
 -- ── A function ──
 
 abbrev pub with-functions : Tables → List Function → Tables
-with-functions s fs = record { texts = s .texts; files = s .files; functions = fs; calls = s .calls; ranges = s .ranges; last = s .last }
+with-functions s fs = record { texts = s .texts; files = s .files; functions = fs; calls = s .calls; ranges = s .ranges }
 
 pub function-full : (name entry lang : ℕ) (w : Words) → full w ≡ true → full (add-function name entry lang w .1) ≡ true
 unfolding add-function
@@ -205,7 +201,6 @@ module _ (x : Function) (s : Tables) (w : Words) where
           functions = k;
           calls = h .calls;
           ranges = h .ranges;
-          last = h .last;
           inside = record {
             files = h .inside .files;
             functions = λ j y z. ⊎-elim (λ p. h .inside .functions j y p) (λ (p, e). subst (λ (f : Function). Within (f .name) (length (s .texts))) (sym e) i) (intern-new function-eq (s .functions) x j y z);
@@ -224,7 +219,7 @@ module _ (x : Function) (s : Tables) (w : Words) where
 -- ── A call location ──
 
 abbrev pub with-calls : Tables → List Location → Tables
-with-calls s cs = record { texts = s .texts; files = s .files; functions = s .functions; calls = cs; ranges = s .ranges; last = s .last }
+with-calls s cs = record { texts = s .texts; files = s .files; functions = s .functions; calls = cs; ranges = s .ranges }
 
 pub call-full : (l : SourceLocation) (w : Words) → full w ≡ true → full (add-call l w .1) ≡ true
 unfolding add-call
@@ -262,7 +257,6 @@ module _ (l : Location) (s : Tables) (w : Words) where
           functions = h .functions;
           calls = k;
           ranges = h .ranges;
-          last = h .last;
           inside = record {
             files = h .inside .files;
             functions = h .inside .functions;
@@ -322,7 +316,6 @@ module _ (k : ℕ) (l : Location) (s : Tables) (w : Words) where
           functions = h .functions;
           calls = h .calls;
           ranges = z;
-          last = h .last;
           inside = record {
             files = h .inside .files;
             functions = h .inside .functions;
@@ -337,34 +330,6 @@ module _ (k : ℕ) (l : Location) (s : Tables) (w : Words) where
 
   pub range-went : (n : Lens) (v : SourceLocation) → InTables s l → v ≡ source l → Enc n s w → Went n (put-at k l s) (put-range k v w) (Unit {0})
   range-went n v i e h = subst (λ (x : SourceLocation). Went n (put-at k l s) (put-range k x w) (Unit {0})) (sym e) (range-row-went n i h)
-
--- ── The last end ──
-
-pub last-full : (a : LastAddr) (w : Words) → full w ≡ true → full (record { st = with-last (w .st) a; mm = w .mm }) ≡ true
-unfolding fitsIn
-last-full a w h = h
-
-pub last-went : (n : Lens) (o : Option ℕ) (a : LastAddr) (s : Tables) (w : Words) → o ≡ last-of a → Enc n s w → Went n (ending s o) (record { st = with-last (w .st) a; mm = w .mm }) (Unit {0})
-last-went n o a s w e h =
-    let b : Larger s (ending s o) = ending-larger Any s o in
-    inl (
-      record {
-        lent = h .lent;
-        texts = h .texts;
-        files = h .files;
-        functions = h .functions;
-        calls = h .calls;
-        ranges = h .ranges;
-        last = e;
-        inside = record {
-          files = h .inside .files;
-          functions = h .inside .functions;
-          calls = λ j y p. in-later b y (h .inside .calls j y p);
-          ranges = λ j y p. in-later b (y .value) (h .inside .ranges j y p);
-        };
-      },
-      tt,
-    )
 
 -- ── Six texts ──
 

@@ -1,48 +1,43 @@
 -- WHAT IS WRITTEN IS THE PLAIN FILE: where words hold the plain tables of a list, the bytes that `serialize` writes are the sections of these tables, with the ranges ascending by start.
--- Section by section: a row of words is the file's row. The ranges: sorting entries (start, row number) is putting what they stand for in order of start, since no start stands twice;
--- and there is no sentinel, since a set last end is a start.
+-- Section by section: a row of words is the file's row. The ranges: sorting entries (start, row number) is putting what they stand for in order of start, since no start stands twice.
 use mathlib.Core.Path.{_≡_, refl, sym, ap, ap₂, _∙_, subst}
 use mathlib.Core.Bool.{Bool, true, false, cond, _&&_}
-use mathlib.Core.Option.{Option, none, some}
+use mathlib.Core.Option.{none}
+use mathlib.Core.Logic.{⊎-elim}
 use mathlib.Core.List.{List, [], _∷_, _++_, map, append-assoc, append-nil}
-use Prim.Native.Nat.{ℕ, zero, suc, _+_, _*_, _≤_, _<_}
+use Prim.Native.Nat.{ℕ, suc, _+_, _*_, _<_}
 use native.Mathlib.Nat.{zero-add, add-zero, add-suc, suc-add}
 use native.Mathlib.Omega.{arith}
 use lib.Dec.{ltb, leb, eqb}
 use lib.ListN.{length, getD, take, drop, length-map, length-append, List·getD-map}
-use borrow.Author.Tests.{ltb-true, ltb-false, eqb-true, eqb-false}
+use borrow.Author.Tests.{eqb-true, eqb-false}
 use Rattle.slices.proofs.Cases.{none-some, both-of}
 use Rattle.text.specs.Leb128.{encoded}
-use Rattle.model.specs.Basics.{Span, Entry, before, place, sort}
+use Rattle.model.specs.Basics.{_∈_, here, there, Span, Entry, before, place, sort}
 use Rattle.model.specs.Rows.{Text, Given}
 use Rattle.model.specs.Converter.{Setup, File, Function, Location, nowhere, at, Tables, range-at, converted}
 use Rattle.model.specs.Written.{place-range, by-start, as-written, locations}
 use Rattle.model.specs.FileWords.{file-words, function-words, location-words, starts, string-section, Sections, sections}
 use Rattle.model.proofs.Chains.{range-here, range-there, Unique}
-use Rattle.model.proofs.Always.{starts-unique, last-end-starts}
+use Rattle.model.proofs.Always.{starts-unique}
+use Rattle.model.proofs.Spans.{∈-cases, sort-∈}
 use Rattle.model.proofs.Written.{by-start-same, by-start-length}
 use Rattle.model.proofs.FileRows.{section-length}
 use Rattle.slices.specs.Bytes.{le, wordBytes, tableBytes}
 use Rattle.raw.specs.Rows.{versionInfoBytes, headerBytes, fileBytes, functionBytes, locationBytes, rangeBytes}
 use Rattle.raw.specs.Head.{version-info, header, padding}
-use Rattle.raw.specs.declared.SourceLocation.{SourceLocation}
 use Rattle.tables.specs.Table.{rowAt, rowsOf}
-use Rattle.tables.specs.Ranges.{getOf, locationOf}
+use Rattle.tables.specs.Ranges.{locationOf}
 use Rattle.strings.specs.Strings.{storedText}
 use Rattle.table_laws.specs.Plain.{Holds}
 use Rattle.table_laws.specs.PlainTexts.{section}
 use Rattle.tables.specs.declared.Row.{Row}
-use Rattle.tables.specs.declared.ranges.Found.{Found}
-use Rattle.tables.specs.declared.ranges.Found.the-variants.{Absent, At}
-use Rattle.table_laws.proofs.Rows.{rows-getD}
+use Rattle.table_laws.proofs.Rows.{rows-getD, rows-length}
 use Rattle.memory.specs.Memory.{Memory}
 use Rattle.memory.specs.Record.{fits?, usableIn}
-use Rattle.steps.specs.Steps.{held, last-of}
-use Rattle.memory.specs.declared.LastAddr.{LastAddr}
-use Rattle.memory.specs.declared.LastAddr.the-variants.{Unset, Set}
 use Rattle.memory.specs.declared.Converter.{Converter}
 use Rattle.steps.proofs.Lengths.{Lens}
-use Rattle.serialize.specs.Sections.{file-row, function-row, call-row, entries, if-vacant, vacant-end, in-order, entry-location, location-row, start-row}
+use Rattle.serialize.specs.Sections.{file-row, function-row, call-row, entries, in-order, location-row, start-row}
 use Rattle.serialize.specs.File.{ranges-of, header-of, written-file, wrote, serializeOf}
 use Rattle.serialize.proofs.Rows.{table-append}
 use Rattle.read_back.specs.Bytes.{file-bytes}
@@ -50,7 +45,6 @@ use Rattle.read_back.specs.Bytes as reads
 use Rattle.memory.specs.Record.{words-of}
 use Rattle.demand3.proofs.WordRows.{range-row, source, range-row-location}
 use Rattle.demand3.proofs.WordRows as rows
-use Rattle.demand3.proofs.Interned.{shown, got, holds-count}
 use Rattle.demand3.proofs.Encoding.{Enc, has-room, enc-room, count-bytes, count-files, count-functions, count-calls}
 
 -- ── Tables of rows ──
@@ -64,6 +58,12 @@ table-same : {A : Type 0} (p q : A → List ℕ) → ((x : A) → p x ≡ q x) �
 unfolding tableBytes
 table-same p q h [] = refl
 table-same p q h (x ∷ xs) = ap₂ (λ (a b : List ℕ). a ++ b) (h x) (table-same p q h xs)
+
+-- the same, where it holds of the rows that are there
+table-same-in : {A : Type 0} (p q : A → List ℕ) (xs : List A) → ((x : A) → x ∈ xs → p x ≡ q x) → tableBytes p xs ≡ tableBytes q xs
+unfolding tableBytes
+table-same-in p q [] h = refl
+table-same-in p q (x ∷ xs) h = ap₂ (λ (a b : List ℕ). a ++ b) (h x here) (table-same-in p q xs (λ y i. h y (there i)))
 
 -- a table that holds rows f x, where the file's bytes of such a row are the words g x
 section-is : {A : Type 0} (bytes : Row → List ℕ) (f : A → Row) (g : A → List ℕ) → ((x : A) → bytes (f x) ≡ wordBytes (g x)) → (w : ℕ) (t : List ℕ) (n : ℕ) (xs : List A) → Holds w t n (map f xs)
@@ -139,10 +139,16 @@ entries-are at-row k (e ∷ rs) h =
     ap₂ (λ (l : Location) (r : List (Entry Location)). record { key = e .key; value = l } ∷ r) first
     (entries-are at-row (suc k) rs (λ i. ap at-row (suc-add k i ∙ sym (add-suc k i)) ∙ h (suc i)))
 
-past-end : (rs : List (Entry Location)) (i : ℕ) → length rs ≤ i → location-at rs i ≡ nowhere
-past-end [] i h = refl
-past-end (e ∷ rs) zero h = absurd (omega arith)
-past-end (e ∷ rs) (suc i) h = past-end rs i (omega arith)
+-- an entry's number is that of a row
+entry-low : (k : ℕ) (rs : List Row) (p : Span) → p ∈ entries k rs → p .to < k + length rs
+unfolding entries
+entry-low k [] p i = elim i [ ]
+entry-low k (r ∷ rs) p i =
+    ⊎-elim (λ e. let z : p .to ≡ k = ap (λ (q : Span). q .to) e in omega arith) (λ j. let h : p .to < suc k + length rs = entry-low (suc k) rs p j in omega arith) (∈-cases i)
+
+in-order-low : (t : List ℕ) (n : ℕ) (p : Span) → p ∈ in-order t n → p .to < n
+unfolding in-order
+in-order-low t n p i = let h : p .to < 0 + length (rowsOf t n) = entry-low 0 (rowsOf t n) p (sort-∈ (entries 0 (rowsOf t n)) i) in omega (arith, rows-length t 0 n)
 
 -- what an entry of the ranges rs stands for
 abbrev pub stands-for : List (Entry Location) → Span → Entry Location
@@ -163,22 +169,14 @@ module _ (t : List ℕ) (n : ℕ) (rs : List (Entry Location)) (h : Holds 1 t n 
   row-is : (i : ℕ) → i < n → rowAt t i ≡ range-row (getD rs i no-entry)
   row-is i k = ap (rowAt t) (sym (zero-add i)) ∙ sym (rows-getD t 0 n i (range-row no-entry) k) ∙ ap (λ (l : List Row). getD l i (range-row no-entry)) (h .same) ∙ List·getD-map range-row rs i no-entry
 
-  entry-location-is : (p : Span) → entry-location t n p ≡ source (location-at rs (p .to))
-  unfolding entry-location
-  entry-location-is p = go (ltb (p .to) n) refl
-    where
-      go : (b : Bool) → ltb (p .to) n ≡ b → entry-location t n p ≡ source (location-at rs (p .to))
-      go true e = rw e (ap locationOf (row-is (p .to) (ltb-true _ _ e)) ∙ range-row-location (getD rs (p .to) no-entry))
-      go false e = rw e (ap source (sym (past-end rs (p .to) (let c : length rs ≡ n = holds-count range-row 1 t n rs h in let k : n ≤ p .to = ltb-false _ _ e in omega arith))))
-
-  location-row-is : (p : Span) → location-row t n p ≡ wordBytes (location-words (location-at rs (p .to)))
+  location-row-is : (p : Span) → p .to < n → location-row t p ≡ wordBytes (location-words (location-at rs (p .to)))
   unfolding location-row
-  location-row-is p = ap locationBytes (entry-location-is p) ∙ source-is (location-at rs (p .to))
+  location-row-is p k = ap locationBytes (ap locationOf (row-is (p .to) k) ∙ range-row-location (getD rs (p .to) no-entry)) ∙ source-is (location-at rs (p .to))
 
   -- the locations and the starts of entries, by what these stand for
-  locations-bytes : (ps : List Span) → tableBytes (location-row t n) ps ≡ tableBytes wordBytes (map location-words (map (λ (e : Entry Location). e .value) (map (stands-for rs) ps)))
-  locations-bytes ps =
-      table-same (location-row t n) (λ (p : Span). wordBytes (location-words (location-at rs (p .to)))) location-row-is ps
+  locations-bytes : (ps : List Span) → ((p : Span) → p ∈ ps → p .to < n) → tableBytes (location-row t) ps ≡ tableBytes wordBytes (map location-words (map (λ (e : Entry Location). e .value) (map (stands-for rs) ps)))
+  locations-bytes ps low =
+      table-same-in (location-row t) (λ (p : Span). wordBytes (location-words (location-at rs (p .to)))) ps (λ p i. location-row-is p (low p i))
       ∙ sym (table-of (λ (e : Entry Location). wordBytes (location-words (e .value))) (stands-for rs) ps)
       ∙ sym (table-of (λ (l : Location). wordBytes (location-words l)) (λ (e : Entry Location). e .value) (map (stands-for rs) ps))
       ∙ sym (table-of wordBytes location-words (map (λ (e : Entry Location). e .value) (map (stands-for rs) ps)))
@@ -189,21 +187,12 @@ module _ (t : List ℕ) (n : ℕ) (rs : List (Entry Location)) (h : Holds 1 t n 
       ∙ sym (table-of (λ (e : Entry Location). wordBytes (e .key ∷ [])) (stands-for rs) ps)
       ∙ starts-are (map (stands-for rs) ps)
 
-  -- with no sentinel, the entries in order stand for the ranges by start
-  in-order-is : (last : LastAddr) → vacant-end last t n ≡ Unset → Unique rs → map (stands-for rs) (in-order last t n) ≡ by-start rs
+  -- the entries in order stand for the ranges by start
+  in-order-is : Unique rs → map (stands-for rs) (in-order t n) ≡ by-start rs
   unfolding in-order
-  in-order-is last v u =
+  in-order-is u =
       let all : map (stands-for rs) (entries 0 (map range-row rs)) ≡ rs = entries-are (location-at rs) 0 rs (λ i. ap (location-at rs) (zero-add i)) in
-      rw (v, h .same, append-nil) (sort-is (location-at rs) (entries 0 (map range-row rs)) (subst Unique (sym all) u) ∙ ap by-start all)
-
-  -- a last end that is a start is not vacant
-  no-vacant : (last : LastAddr) → ((a : ℕ) → last-of last ≡ some a → (l : Location) × (range-at rs a ≡ some l)) → vacant-end last t n ≡ Unset
-  no-vacant Unset k = refl
-  no-vacant (Set a) k = let (l, e) = k a refl in go (getOf t n a) (got t n rs a h ∙ ap shown e)
-    where
-      go : {l : SourceLocation} (f : Found) → held f ≡ some l → if-vacant f a ≡ Unset
-      go Absent e = none-some e
-      go (At x) e = refl
+      rw (h .same) (sort-is (location-at rs) (entries 0 (map range-row rs)) (subst Unique (sym all) u) ∙ ap by-start all)
 
 -- ── The file ──
 
@@ -228,20 +217,17 @@ module _ (n : Lens) (s : Tables) (c : Converter) (m : Memory) (h : Enc n s (word
   pub strings-written : take (c .state .«string_bytes») (m .text) ≡ string-section (s .texts)
   strings-written = h .texts .stands ∙ strings-is (s .texts)
 
-  -- starts that stand once, and a last end that is one of them
-  module _ (unique : Unique (s .ranges)) (end : (a : ℕ) → s .last ≡ some a → (l : Location) × (range-at (s .ranges) a ≡ some l)) where
-    pub no-sentinel : vacant-end (c .state .«last_addr») (m .ranges) (c .state .ranges) ≡ Unset
-    no-sentinel = no-vacant (m .ranges) (c .state .ranges) (s .ranges) (h .ranges) (c .state .«last_addr») (λ a e. end a (h .last ∙ e))
-
+  -- starts that stand once
+  module _ (unique : Unique (s .ranges)) where
     pub ranges-are : map (stands-for (s .ranges)) (ranges-of c m) ≡ by-start (s .ranges)
-    ranges-are = in-order-is (m .ranges) (c .state .ranges) (s .ranges) (h .ranges) (c .state .«last_addr») no-sentinel unique
+    ranges-are = in-order-is (m .ranges) (c .state .ranges) (s .ranges) (h .ranges) unique
 
     pub ranges-count : length (ranges-of c m) ≡ length (s .ranges)
     ranges-count = sym (length-map (ranges-of c m) (stands-for (s .ranges))) ∙ ap length ranges-are ∙ by-start-length (s .ranges) unique
 
-    pub locations-written : tableBytes (location-row (m .ranges) (c .state .ranges)) (ranges-of c m) ≡ tableBytes wordBytes (map location-words (map (λ (e : Entry Location). e .value) (by-start (s .ranges))))
+    pub locations-written : tableBytes (location-row (m .ranges)) (ranges-of c m) ≡ tableBytes wordBytes (map location-words (map (λ (e : Entry Location). e .value) (by-start (s .ranges))))
     locations-written =
-        locations-bytes (m .ranges) (c .state .ranges) (s .ranges) (h .ranges) (ranges-of c m)
+        locations-bytes (m .ranges) (c .state .ranges) (s .ranges) (h .ranges) (ranges-of c m) (in-order-low (m .ranges) (c .state .ranges))
         ∙ ap (λ (l : List (Entry Location)). tableBytes wordBytes (map location-words (map (λ (e : Entry Location). e .value) l))) ranges-are
 
     pub starts-written : tableBytes start-row (ranges-of c m) ≡ wordBytes (starts (as-written s))
@@ -273,7 +259,7 @@ module _ (n : Lens) (s : Tables) (c : Converter) (m : Memory) (h : Enc n s (word
         starts-count
         (sym (section-length (s .texts) ∙ count-bytes n s (words-of c m) h))
 
-    all-locations : tableBytes call-row (rowsOf (m .calls) (c .state .«call_locations»)) ++ tableBytes (location-row (m .ranges) (c .state .ranges)) (ranges-of c m) ≡ tableBytes wordBytes (z .locations)
+    all-locations : tableBytes call-row (rowsOf (m .calls) (c .state .«call_locations»)) ++ tableBytes (location-row (m .ranges)) (ranges-of c m) ≡ tableBytes wordBytes (z .locations)
     all-locations =
         let vs = map (λ (e : Entry Location). e .value) (by-start (s .ranges)) in
         ap₂ (λ (a b : List ℕ). a ++ b) (calls-written ∙ table-of wordBytes location-words (s .calls)) (locations-written ∙ table-of wordBytes location-words vs)
@@ -283,7 +269,7 @@ module _ (n : Lens) (s : Tables) (c : Converter) (m : Memory) (h : Enc n s (word
     pub file-written : written-file c m ≡ file-bytes (c .«debug_id») (c .arch) z
     unfolding written-file file-bytes
     file-written =
-        whole (versionInfoBytes version-info) _ _ _ _ _ _ (tableBytes call-row (rowsOf (m .calls) (c .state .«call_locations»))) (tableBytes (location-row (m .ranges) (c .state .ranges)) (ranges-of c m)) _ _ _ _ _ _ _
+        whole (versionInfoBytes version-info) _ _ _ _ _ _ (tableBytes call-row (rowsOf (m .calls) (c .state .«call_locations»))) (tableBytes (location-row (m .ranges)) (ranges-of c m)) _ _ _ _ _ _ _
         (ap headerBytes header-is)
         files-written
         functions-written
@@ -294,7 +280,7 @@ module _ (n : Lens) (s : Tables) (c : Converter) (m : Memory) (h : Enc n s (word
 
 -- WHAT IS WRITTEN, after every list: the file of the plain tables
 pub written-is : (X : Setup) (gs : List Given) (n : Lens) (c : Converter) (m : Memory) → Enc n (converted X gs) (words-of c m) → written-file c m ≡ file-bytes (c .«debug_id») (c .arch) (sections (as-written (converted X gs)))
-written-is X gs n c m h = file-written n (converted X gs) c m h (starts-unique X gs) (last-end-starts X gs)
+written-is X gs n c m h = file-written n (converted X gs) c m h (starts-unique X gs)
 
 -- and what writing answers: 0, the length, and the plain file before the rest of the output; or 18 where the output is shorter
 pub write-answers : (X : Setup) (gs : List Given) (n : Lens) (c : Converter) (m : Memory) → c .«open» ≡ true → Enc n (converted X gs) (words-of c m) → (out : List ℕ)

@@ -1,4 +1,4 @@
-// The converter and the writer. Between calls the converter is a record of twenty words; the six tables are lent at each call.
+// The converter and the writer. Between calls the converter is a record of eighteen words; the six tables are lent at each call.
 ghost use mathlib.Core.Path.{_≡_};
 ghost use mathlib.Core.List.{[]};
 ghost use Rattle.rows.specs.Columns.{columns};
@@ -11,7 +11,7 @@ use rows::OptionalPart;
 use rows::TextPart;
 use slices::is_set;
 
-// A new converter. 0, or 19 where the record has fewer than twenty words.
+// A new converter. 0, or 19 where the record has fewer than eighteen words.
 #[no_mangle]
 pub extern "C" fn symcache_begin(
     record: &mut [u32],

@@ -19,7 +19,7 @@ pub record Memory : Type 0 where
 abbrev pub memory : List ℕ → List ℕ → List ℕ → List ℕ → List ℕ → List ℕ → Memory
 memory x i f g c r = record { text = x; strings = i; files = f; functions = g; calls = c; ranges = r }
 
--- with the counts and the last end, by value: what a step of the converter works on
+-- with the counts, by value: what a step of the converter works on
 pub record Words : Type 0 where
   pub st : State
   pub mm : Memory

@@ -6,8 +6,6 @@ use lib.Dec.{leb}
 use Rattle.tables.specs.Table.{capacityOf}
 use Rattle.strings.specs.Strings.{textCapacityOf}
 use Rattle.memory.specs.declared.State.{State}
-use Rattle.memory.specs.declared.LastAddr.{LastAddr}
-use Rattle.memory.specs.declared.LastAddr.the-variants.{Unset}
 use Rattle.memory.specs.declared.Converter.{Converter}
 use Rattle.memory.specs.declared.Lengths.{Lengths}
 use Rattle.memory.specs.Memory.{Memory, Words, words, lent, zeroed}
@@ -44,7 +42,6 @@ with-strings s b n = record {
   functions = s .functions;
   «call_locations» = s .«call_locations»;
   ranges = s .ranges;
-  «last_addr» = s .«last_addr»;
 }
 
 abbrev pub with-files : State → ℕ → State
@@ -55,7 +52,6 @@ with-files s n = record {
   functions = s .functions;
   «call_locations» = s .«call_locations»;
   ranges = s .ranges;
-  «last_addr» = s .«last_addr»;
 }
 
 abbrev pub with-functions : State → ℕ → State
@@ -66,7 +62,6 @@ with-functions s n = record {
   functions = n;
   «call_locations» = s .«call_locations»;
   ranges = s .ranges;
-  «last_addr» = s .«last_addr»;
 }
 
 abbrev pub with-calls : State → ℕ → State
@@ -77,7 +72,6 @@ with-calls s n = record {
   functions = s .functions;
   «call_locations» = n;
   ranges = s .ranges;
-  «last_addr» = s .«last_addr»;
 }
 
 abbrev pub with-ranges : State → ℕ → State
@@ -88,18 +82,6 @@ with-ranges s n = record {
   functions = s .functions;
   «call_locations» = s .«call_locations»;
   ranges = n;
-  «last_addr» = s .«last_addr»;
-}
-
-abbrev pub with-last : State → LastAddr → State
-with-last s a = record {
-  «string_bytes» = s .«string_bytes»;
-  strings = s .strings;
-  files = s .files;
-  functions = s .functions;
-  «call_locations» = s .«call_locations»;
-  ranges = s .ranges;
-  «last_addr» = a;
 }
 
 -- a table after a step, with its count; the others stay
@@ -122,7 +104,7 @@ ranges-become w n t = words (with-ranges (w .st) n) (w .mm .text) (w .mm .string
 
 -- nothing in use
 abbrev pub unused : State
-unused = record { «string_bytes» = 0; strings = 0; files = 0; functions = 0; «call_locations» = 0; ranges = 0; «last_addr» = Unset }
+unused = record { «string_bytes» = 0; strings = 0; files = 0; functions = 0; «call_locations» = 0; ranges = 0 }
 
 -- what it was begun with, nothing in use, and open
 abbrev pub begun : List ℕ → ℕ → Bool → Bool → Converter

@@ -10,13 +10,7 @@ ghost use Rattle.memory.specs.Record.{fitsIn, usableIn, unused, begun, w
 use slices::zero;
 use slices::zero_bytes;
 
-// The highest address known to be outside of a function, if there is one: `last_addr: Option<u32>`.
-pub enum LastAddr {
-    Unset,
-    Set(u32),
-}
-
-// How much of each lent table is in use, and the last end.
+// How much of each lent table is in use.
 pub struct State {
     pub string_bytes: u32,
     pub strings: u32,
@@ -24,7 +18,6 @@ pub struct State {
     pub functions: u32,
     pub call_locations: u32,
     pub ranges: u32,
-    pub last_addr: LastAddr,
 }
 
 // The converter's record: what it was begun with, whether it is open, and how much of the lent tables is in use.
@@ -151,7 +144,6 @@ pub fn nothing_used() -> State
         functions: 0,
         call_locations: 0,
         ranges: 0,
-        last_addr: LastAddr::Unset,
     }
 }
 

@@ -9,14 +9,13 @@ use lib.ListN.{length}
 use lib.Dec.{ltb}
 use Rattle.model.specs.Basics.{_∈_, Deep, Entry}
 use Rattle.model.specs.Rows.{MAX, Text, FunctionRow, SymbolRow, Given, tree-rows, symbol-row}
-use Rattle.model.specs.Machine.{Machine, unless-held, put-end, entryM, closingM, named-symbolM, finishM}
-use Rattle.model.specs.Converter.{input, deep, op, Setup, Six, File, Function, Location, nowhere, at, Tables, nothing, is-nowhere, range-at, put-at, later, cleared, begin-symbol, locate-symbol, plain, converted}
+use Rattle.model.specs.Machine.{Machine, unless-held, put-end, entryM, closingM, named-symbolM}
+use Rattle.model.specs.Converter.{input, deep, op, Setup, Six, File, Function, Location, nowhere, at, Tables, nothing, is-nowhere, range-at, put-at, begin-symbol, locate-symbol, plain, converted}
 use Rattle.model.specs.Frames.{Frame, frames-of, best, frames-at}
 use Rattle.model.proofs.Spans.{map-∈}
-use Rattle.model.proofs.Simulate.{end-swap, finish-is}
 use Rattle.model.proofs.Intern.{At, at-length}
-use Rattle.model.proofs.Chains.{Reads, absent, present, FileIs, no-file, a-file, Larger, Chain, off, top, deeper, Caller, root, chain-larger, caller-larger, Unique, CallsDown, put-same, frames-found, best-answers, Answers}
-use Rattle.model.proofs.Keeps.{larger-refl, larger-trans, Stands, Ordered, ordered-nothing, put-larger, put-ordered, ending-larger, mark-end-ordered, mark-symbol-ordered, Made, made-larger, begin-larger, begin-ordered, begin-made, line-frame, bare-frame, symbol-frame, locate-larger, locate-ordered, locate-chain, bare-chain, enter-larger, enter-ordered, enter-caller, begin-symbol-larger, begin-symbol-ordered, begin-symbol-reads, locate-symbol-larger, locate-symbol-ordered, locate-symbol-chain, Any, means, relates, plain-laws}
+use Rattle.model.proofs.Chains.{Reads, absent, present, FileIs, no-file, a-file, Larger, Chain, off, top, deeper, Caller, root, chain-larger, caller-larger, Unique, CallsDown, frames-found, best-answers, Answers}
+use Rattle.model.proofs.Keeps.{larger-refl, larger-trans, Stands, Ordered, ordered-nothing, put-larger, put-ordered, Made, made-larger, begin-larger, begin-ordered, begin-made, line-frame, bare-frame, symbol-frame, locate-larger, locate-ordered, locate-chain, bare-chain, enter-larger, enter-ordered, enter-caller, begin-symbol-larger, begin-symbol-ordered, begin-symbol-reads, locate-symbol-larger, locate-symbol-ordered, locate-symbol-chain, Any}
 use Rattle.model.proofs.Couple.{Couple, Limits, Next, Preserves, Allowed, run-both}
 
 -- the machine that holds nothing
@@ -33,9 +32,6 @@ blank = record {
   base = tt;
   sym-begin = λ y s. (tt, tt);
   sym-locate = λ y p s. (tt, tt);
-  last = λ s. none;
-  mark-end = λ e s. tt;
-  mark-symbol = λ y s. tt;
 }
 
 -- rows at the depths in Deep-enough, and what is fine for the frames made there: as many as the depth and one more, at most
@@ -92,18 +88,13 @@ module _ (X : Setup) (Fine : List Frame → Type 0) (Depth : ℕ → Type 0) (sm
       go none e = rw (e, unless-held) n
       go (some l) e = rw (e, unless-held) (pick (is-nowhere l))
 
-  record Ended (a : ℕ) (s t : Tables) : Type 0 where
-    after : After s t
-    loc : Location
-    held : range-at (t .ranges) a ≡ some loc
-
-  ended : (a : ℕ) (s : Tables) → Ordered Fine s → Ended a s (put-end input (plain X) a s)
+  ended : (a : ℕ) (s : Tables) → Ordered Fine s → After s (put-end input (plain X) a s)
   unfolding put-end
   ended a s o = go (range-at (s .ranges) a) refl
     where
-      go : (m : Option Location) → range-at (s .ranges) a ≡ m → Ended a s (put-end input (plain X) a s)
-      go none e = rw (e, put-end) (record { after = after-put a nowhere s o ([], off, small [] (omega arith)); loc = nowhere; held = put-same a nowhere (s .ranges) })
-      go (some l) e = rw (e, put-end) (record { after = stay s o; loc = l; held = e })
+      go : (m : Option Location) → range-at (s .ranges) a ≡ m → After s (put-end input (plain X) a s)
+      go none e = rw (e, put-end) (after-put a nowhere s o ([], off, small [] (omega arith)))
+      go (some l) e = rw (e, put-end) (stay s o)
 
   after-entry : (d : ℕ) (q : FunctionRow) (r : ℕ) (s : Tables) → Ordered Fine s → Made Fine X s q r → After s (entryM input (plain X) q r s)
   unfolding entryM
@@ -119,10 +110,7 @@ module _ (X : Setup) (Fine : List Frame → Type 0) (Depth : ℕ → Type 0) (sm
       let p = after-entry d q r s o m in
       let a = input .stop q in
       let s₁ = entryM input (plain X) q r s in
-      let e = ended a s₁ (p .state) in
-      let s₂ = put-end input (plain X) a s₁ in
-      let n : After s₂ (plain X .mark-end a s₂) = record { ext = ending-larger Fine s₂ (later (s₂ .last) a); state = mark-end-ordered Fine a s₂ (e .loc) (e .held) (e .after .state) } in
-      subst (After s) (sym (end-swap input (plain X) (means X) (relates X) (plain-laws X) a s₁)) (after-then (p .ext) (after-then (e .after .ext) n))
+      after-then (p .ext) (ended a s₁ (p .state))
 
   after-symbol : (y : SymbolRow) (s : Tables) → Ordered Fine s → After s (named-symbolM input (plain X) y s)
   unfolding named-symbolM
@@ -134,19 +122,18 @@ module _ (X : Setup) (Fine : List Frame → Type 0) (Depth : ℕ → Type 0) (sm
       let o₂ = locate-symbol-ordered Fine X y (b .0) (b .1) _ r o₁ in
       let c = locate-symbol-chain Fine X y (b .0) (b .1) r in
       let n = after-unless (y .address) (b .1) _ o₁ (after-then (locate-symbol-larger Fine X y (b .0) (b .1)) (after-put (y .address) (l .0) (l .1) o₂ (symbol-frame Fine X y ∷ [], c, small _ (omega arith)))) in
-      let u = unless-held input (plain X) (y .address) (put-at (y .address) (l .0) (l .1)) (b .1) in
       go (input .sym-end y) refl
-      (after-then (begin-symbol-larger Fine X y s) (after-then (n .ext) (record { ext = ending-larger Fine u (cleared (u .last) (y .address)); state = mark-symbol-ordered Fine (y .address) u (n .state) })))
+      (after-then (begin-symbol-larger Fine X y s) n)
     where
       b : Option ℕ × Tables
       b = begin-symbol X y s
 
       t : Tables
-      t = plain X .mark-symbol (y .address) (unless-held input (plain X) (y .address) (put-at (y .address) (locate-symbol y (b .0) (b .1) .0) (locate-symbol y (b .0) (b .1) .1)) (b .1))
+      t = unless-held input (plain X) (y .address) (put-at (y .address) (locate-symbol y (b .0) (b .1) .0) (locate-symbol y (b .0) (b .1) .1)) (b .1)
 
       go : (e : Option ℕ) → input .sym-end y ≡ e → After s t → After s (named-symbolM input (plain X) y s)
       go none e h = rw (e, named-symbolM) h
-      go (some a) e h = rw (e, named-symbolM) (after-then (h .ext) (ended a t (h .state) .after))
+      go (some a) e h = rw (e, named-symbolM) (after-then (h .ext) (ended a t (h .state)))
 
   always-laws : Preserves input (plain X) blank limits always-couple
   unfolding stands
@@ -218,20 +205,12 @@ module _ (X : Setup) (gs : List Given) where
   depths-any (tree-rows q rs) = (tt, λ r i. tt)
   depths-any (symbol-row y) = tt
 
-  -- starts unique; a set last end is a start; callers point down; all indexes in their tables
+  -- starts unique; callers point down; all indexes in their tables
   pub always : Ordered Any tables
   always = always-ordered X Any (λ d. Unit {0}) (λ v h. tt) (λ d z v h. tt) gs (λ g i. depths-any g)
 
   pub starts-unique : Unique (tables .ranges)
   starts-unique = always .unique
-
-  -- K6
-  pub last-end-starts : (a : ℕ) → tables .last ≡ some a → (l : Location) × (range-at (tables .ranges) a ≡ some l)
-  last-end-starts = always .last-held
-
-  -- so writing's sentinel changes nothing
-  pub sentinel-stands : finishM input (plain X) tables ≡ tables
-  sentinel-stands = finish-is input (plain X) (means X) (relates X) (plain-laws X) tables always
 
   -- a call location is somewhere, and its caller an earlier one
   pub callers-earlier : CallsDown (tables .calls)

@@ -10,7 +10,7 @@ use native.Mathlib.Omega.{arith}
 use Rattle.slices.proofs.Cases.{false-true}
 use Rattle.model.specs.Rows.{LineRow, FunctionRow, SymbolRow, Given, tree-rows, symbol-row}
 use Rattle.model.specs.Machine.{Machine, runM}
-use Rattle.model.specs.Converter.{input, op, Setup, Location, nowhere, at, Tables, nothing, is-nowhere, range-at, put-at, begin-row, locate-line, begin-symbol, locate-symbol, enter-call, later, cleared, ending, plain, converted}
+use Rattle.model.specs.Converter.{input, op, Setup, Location, nowhere, at, Tables, nothing, is-nowhere, range-at, put-at, begin-row, locate-line, begin-symbol, locate-symbol, enter-call, converted}
 use Rattle.model.specs.Counts.{Capacities, plain-fits?}
 use Rattle.model.proofs.Couple.{Limits, Alike, vacant, held}
 use Rattle.model.proofs.Encoded.{Encoding, Holds, Goes, Encodes, AllowedGiven, encoded-list}
@@ -49,9 +49,6 @@ module _ (K : Capacities) where
       base = none;
       sym-begin = λ y. capped (begin-symbol X y);
       sym-locate = λ y p. capped (locate-symbol y p);
-      last = λ s. s .tables .last;
-      mark-end = λ e s. record { tables = plain X .mark-end e (s .tables); full = s .full };
-      mark-symbol = λ y s. record { tables = plain X .mark-symbol y (s .tables); full = s .full };
     }
 
     abbrev pub Full : Tables → Capped → Type 0
@@ -82,10 +79,6 @@ module _ (K : Capacities) where
     put-goes : (k : ℕ) (l : Location) (s : Tables) (w : Capped) → Holds K itself s w → Goes K itself (put-at k l s) (capped-machine .put k l w) (Unit {0})
     put-goes k l s w h = subst (λ (t : Tables). Goes K itself (put-at k l t) (capped-machine .put k l w) (Unit {0})) (h .enc) (settle-goes (w .full) (put-at k l (w .tables)) (w .tables) (h .room) tt)
 
-    marked : (f : Option ℕ → Option ℕ) (s : Tables) (w : Capped) → Holds K itself s w → Goes K itself (ending s (f (s .last))) (record { tables = ending (w .tables) (f (w .tables .last)); full = w .full }) (Unit {0})
-    unfolding plain-fits?
-    marked f s w h = record { fitting = λ k. (h .room, ap (λ (t : Tables). ending t (f (t .last))) (h .enc), tt); exceeding = λ k. false-true (sym k ∙ h .fits) }
-
     alike : (o o′ : Option Location) → o ≡ o′ → Alike is-nowhere is-nowhere o o′
     alike none none e = vacant
     alike none (some l) e = let bad : _≡_ {A = ℕ} 0 1 = cc in absurd (omega arith)
@@ -101,9 +94,7 @@ module _ (K : Capacities) where
       keys = λ n. (tt, tt);
       row-keys = λ d q ok z. (tt, tt);
       symbol-keys = λ y ok z. (tt, λ e h. tt);
-      last-key = λ s w h a e. tt;
       get-law = λ k s w b h. alike _ _ (ap (λ (t : Tables). range-at (t .ranges) k) (sym (h .enc)));
-      last-law = λ s w h. ap (λ (t : Tables). t .last) (sym (h .enc));
       none-law = λ s. refl;
       base-law = λ s. refl;
       bare-law = λ s q r r′ e. ap (λ (i : ℕ). at none 0 i none) e;
@@ -113,16 +104,12 @@ module _ (K : Capacities) where
       enter-law = λ l l′ s w h e. rw (← e) (goes (enter-call l) s w h);
       sym-begin-law = λ y s w ok z h. goes (begin-symbol X y) s w h;
       sym-locate-law = λ y p p′ s w ok z h e. rw (← e) (goes (locate-symbol y p) s w h);
-      mark-end-law = λ a s w b h. marked (λ o. later o a) s w h;
-      mark-symbol-law = λ a s w b h. marked (λ o. cleared o a) s w h;
       put-full = λ k l w e. settle-full (w .full) _ (w .tables) e;
       begin-full = λ q w e. settle-full (w .full) _ (w .tables) e;
       locate-full = λ q r n c w e. settle-full (w .full) _ (w .tables) e;
       enter-full = λ l w e. settle-full (w .full) _ (w .tables) e;
       sym-begin-full = λ y w e. settle-full (w .full) _ (w .tables) e;
       sym-locate-full = λ y p w e. settle-full (w .full) _ (w .tables) e;
-      mark-end-full = λ a w e. e;
-      mark-symbol-full = λ a w e. e;
     }
 
     any-call : (g : Given) → AllowedGiven K itself X capped-machine any capped-encodes g

@@ -215,7 +215,7 @@ module _ (X : Setup) where
       go j c e (inr n) = h .ranges-low j c (sym (put-other k l (s .ranges) j n) ∙ e)
 
   add-compact : (s : Tables) (ts : List Text) (f : Function) → Texts ts → f .entry ≤ MAX → f .language ≤ MAX → Compact s
-      → Compact (record { texts = ts; files = s .files; functions = intern function-eq (s .functions) f .table; calls = s .calls; ranges = s .ranges; last = s .last })
+      → Compact (record { texts = ts; files = s .files; functions = intern function-eq (s .functions) f .table; calls = s .calls; ranges = s .ranges })
   add-compact s ts f t a b h = record {
     texts = t;
     files-once = h .files-once;
@@ -278,12 +278,9 @@ module _ (X : Setup) where
       go none e = rw (e, unless-held) k
       go (some l) e = rw (e, unless-held) (pick (is-nowhere l))
 
-  mark-compact : (s : Tables) (o : Option ℕ) → Compact s → Compact (record { texts = s .texts; files = s .files; functions = s .functions; calls = s .calls; ranges = s .ranges; last = o })
-  mark-compact s o h = record { texts = h .texts; files-once = h .files-once; functions-once = h .functions-once; calls-once = h .calls-once; functions-low = h .functions-low; calls-low = h .calls-low; ranges-low = h .ranges-low }
-
   close-compact : (q : FunctionRow) (r : ℕ) (s : Tables) → skipped q ≡ false → Compact s → Compact (closingM input (plain X) q r s)
   unfolding closingM entryM
-  close-compact q r s z h = end-compact (function-end q) _ (omega arith) (mark-compact (entryM input (plain X) q r s) _ (go (q .inline) refl))
+  close-compact q r s z h = end-compact (function-end q) _ (omega arith) (go (q .inline) refl)
     where
       go : (b : Bool) → q .inline ≡ b → Compact (entryM input (plain X) q r s)
       go true e = rw (e, entryM) h
@@ -291,7 +288,7 @@ module _ (X : Setup) where
 
   symbol-compact : (y : SymbolRow) (s : Tables) → SymbolFits y → symbol-skipped y ≡ false → Compact s → Compact (named-symbolM input (plain X) y s)
   unfolding named-symbolM begin-symbol locate-symbol
-  symbol-compact y s f z h = go (symbol-end y) refl marked
+  symbol-compact y s f z h = go (symbol-end y) refl located
     where
       b : Option ℕ × Tables
       b = begin-symbol X y s
@@ -312,10 +309,10 @@ module _ (X : Setup) where
       h₂ = add-compact (b .1) _ _ (h₁ .texts) low (omega arith) h₁
 
       t : Tables
-      t = plain X .mark-symbol (y .address) (unless-held input (plain X) (y .address) (put-at (y .address) (l .0) (l .1)) (b .1))
+      t = unless-held input (plain X) (y .address) (put-at (y .address) (l .0) (l .1)) (b .1)
 
-      marked : Compact t
-      marked = mark-compact (unless-held input (plain X) (y .address) (put-at (y .address) (l .0) (l .1)) (b .1)) _ (unless-compact (y .address) (b .1) _ h₁ (put-compact (y .address) (l .0) (l .1) low (omega arith) h₂))
+      located : Compact t
+      located = unless-compact (y .address) (b .1) _ h₁ (put-compact (y .address) (l .0) (l .1) low (omega arith) h₂)
 
       go : (o : Option ℕ) → symbol-end y ≡ o → Compact t → Compact (named-symbolM input (plain X) y s)
       go none e k = rw (e, named-symbolM) k

@@ -66,9 +66,8 @@ pub record Corners : Type 0 where
         functions = record { name = some 0; entry = 16; language = 2 } ∷ [];
         calls = [];
         ranges = record { key = 16; value = at none 0 0 none } ∷ record { key = 32; value = nowhere } ∷ record { key = 48; value = nowhere } ∷ [];
-        last = some 32;
       }
-  -- it replaces the empty mapping, in place; and at or above the last end it clears it
+  -- it replaces the empty mapping, in place
   pub end-replaced : converted setup (tree (root 16 16 []) [] ∷ sym 32 0 ∷ [])
       ≡ record {
         texts = (65 ∷ []) ∷ (67 ∷ []) ∷ [];
@@ -76,7 +75,6 @@ pub record Corners : Type 0 where
         functions = record { name = some 0; entry = 16; language = 2 } ∷ record { name = some 1; entry = 32; language = MAX } ∷ [];
         calls = [];
         ranges = record { key = 16; value = at none 0 0 none } ∷ record { key = 32; value = at none 0 1 none } ∷ [];
-        last = none;
       }
   -- an unnamed symbol, and one above MAX, changes nothing; an end above MAX isn't put
   pub nothing-changed : converted setup (symbol-row (record { address = 5; size = 1; name = none }) ∷ sym 0x1_0000_0000 1 ∷ []) ≡ nothing

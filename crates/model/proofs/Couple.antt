@@ -10,7 +10,7 @@ use native.Mathlib.Omega.{arith}
 use lib.Dec.{ltb, leb, eqb}
 use borrow.Author.Tests.{eqb-true}
 use Rattle.model.specs.Basics.{_∈_, here, there, Span, Deep, sort}
-use Rattle.model.specs.Machine.{Input, Machine, OpM, treeM, symbolM, Ref, WalkedM, LoopedM, CursorM, advanceM, set-atM, kid-spansM, unless-held, put-end, walkM, loopM, entryM, closingM, rowM, convertM, startM, named-symbolM, convert-symbolM, convert-opM, runM, finishM}
+use Rattle.model.specs.Machine.{Input, Machine, OpM, treeM, symbolM, Ref, WalkedM, LoopedM, CursorM, advanceM, set-atM, kid-spansM, unless-held, put-end, walkM, loopM, entryM, closingM, rowM, convertM, startM, named-symbolM, convert-symbolM, convert-opM, runM}
 use Rattle.model.proofs.Spans.{∈-elim, ∈-append, map-∈, sort-∈}
 
 -- `State s s′`: the states agree. `Ext s s′ t t′`: t and t′ come after s and s′. `Loc s s′ d l l′`: l and l′ were made for one row at depth d. `Cal s s′ d c c′`: c and c′ are references
@@ -142,9 +142,9 @@ module _ {Q N Y R R′ P P′ L L′ C C′ S S′ : Type 0} (I : Input Q N Y) (
 
       -- ── The loop over the lines ──
 
-      record Loops (s : S) (s′ : S′) (p : LoopedM C S) (p′ : LoopedM C′ S′) : Type 0 where
-        next : Next s s′ (p .state) (p′ .state)
-        calls-are : Calls (p .state) (p′ .state) (suc d) (p .calls) (p′ .calls)
+      pub record Loops (s : S) (s′ : S′) (p : LoopedM C S) (p′ : LoopedM C′ S′) : Type 0 where
+        pub next : Next s s′ (p .state) (p′ .state)
+        pub calls-are : Calls (p .state) (p′ .state) (suc d) (p .calls) (p′ .calls)
 
       loop-both : (r : R) (r′ : R′) (ns : List N) (w : C) (w′ : C′) (cs : List (Ref C)) (cs′ : List (Ref C′)) (rs : List Span) (at : ℕ) (s : S) (s′ : S′)
           → ((n : N) → n ∈ ns → n ∈ I .lines q) → ((p : Span) → p ∈ rs → G .Key (p .to)) → K .Fun s s′ d q r r′ → K .Cal s s′ d w w′ → Calls s s′ d cs cs′ → K .State s s′
@@ -185,7 +185,7 @@ module _ {Q N Y R R′ P P′ L L′ C C′ S S′ : Type 0} (I : Input Q N Y) (
 
       -- ── A row ──
 
-      row-both : (ss : List Span) {cs : List (Ref C)} {cs′ : List (Ref C′)} (s : S) (s′ : S′) → ((p : Span) → p ∈ ss → G .Key (p .to)) → Calls s s′ d cs cs′ → K .State s s′
+      pub row-both : (ss : List Span) {cs : List (Ref C)} {cs′ : List (Ref C′)} (s : S) (s′ : S′) → ((p : Span) → p ∈ ss → G .Key (p .to)) → Calls s s′ d cs cs′ → K .State s s′
           → Loops s s′ (rowM I M q ss cs s) (rowM I M′ q ss cs′ s′)
       unfolding rowM
       row-both ss s s′ bs no-calls st = record { next = stay st; calls-are = no-calls }
@@ -293,9 +293,6 @@ module _ {Q N Y R R′ P P′ L L′ C C′ S S′ : Type 0} (I : Input Q N Y) (
         → let t = M .sym-begin y s in let t′ = M′ .sym-begin y s′ in Next I M M′ G K s s′ (t .1) (t′ .1) × Txt (t .1) (t′ .1) y (t .0) (t′ .0)
     pub sym-locate-law : (y : Y) (p : P) (p′ : P′) (s : S) (s′ : S′) → G .Symbol y → I .sym-skipped y ≡ false → K .State s s′ → Txt s s′ y p p′
         → let t = M .sym-locate y p s in let t′ = M′ .sym-locate y p′ s′ in Next I M M′ G K s s′ (t .1) (t′ .1) × K .Loc (t .1) (t′ .1) 0 (t .0) (t′ .0)
-    pub mark-end-law : (a : ℕ) (s : S) (s′ : S′) → G .Key a → K .State s s′ → Next I M M′ G K s s′ (M .mark-end a s) (M′ .mark-end a s′)
-    pub mark-symbol-law : (a : ℕ) (s : S) (s′ : S′) → G .Key a → K .State s s′ → Next I M M′ G K s s′ (M .mark-symbol a s) (M′ .mark-symbol a s′)
-    pub last-law : (s : S) (s′ : S′) → K .State s s′ → ((M .last s ≡ M′ .last s′) × ((a : ℕ) → M .last s ≡ some a → G .Key a)) ⊎ Free s s′
 
   module _ (W : Single) where
     abbrev Nx : S → S′ → S → S′ → Type 0
@@ -360,8 +357,7 @@ module _ {Q N Y R R′ P P′ L L′ C C′ S S′ : Type 0} (I : Input Q N Y) (
     close-both d q r r′ s s′ ok z st f =
         let p = entry-both d q r r′ s s′ ok z st f in
         let k = W .row-keys d q ok z .1 in
-        let m = W .mark-end-law (I .stop q) _ _ k (p .state) in
-        and-then (p .ext) (and-then (m .ext) (end-both (I .stop q) _ _ k (m .state)))
+        and-then (p .ext) (end-both (I .stop q) _ _ k (p .state))
 
     symbol-both : (y : Y) (s : S) (s′ : S′) → G .Symbol y → I .sym-skipped y ≡ false → K .State s s′ → Nx s s′ (named-symbolM I M y s) (named-symbolM I M′ y s′)
     unfolding named-symbolM
@@ -370,8 +366,7 @@ module _ {Q N Y R R′ P P′ L L′ C C′ S S′ : Type 0} (I : Input Q N Y) (
         let (n₁, txt) = W .sym-begin-law y s s′ ok z st in
         let (n₂, loc) = W .sym-locate-law y _ _ _ _ ok z (n₁ .state) txt in
         let p = unless-both (I .sym-addr y) ka (and-then (n₂ .ext) (W .put-law 0 (I .sym-addr y) _ _ _ _ ka (n₂ .state) loc)) (n₁ .state) in
-        let m = W .mark-symbol-law (I .sym-addr y) _ _ ka (p .state) in
-        go (I .sym-end y) refl (and-then (n₁ .ext) (and-then (p .ext) m))
+        go (I .sym-end y) refl (and-then (n₁ .ext) p)
       where
         b : P × S
         b = M .sym-begin y s
@@ -380,10 +375,10 @@ module _ {Q N Y R R′ P P′ L L′ C C′ S S′ : Type 0} (I : Input Q N Y) (
         b′ = M′ .sym-begin y s′
 
         t : S
-        t = M .mark-symbol (I .sym-addr y) (unless-held I M (I .sym-addr y) (M .put (I .sym-addr y) (M .sym-locate y (b .0) (b .1) .0) (M .sym-locate y (b .0) (b .1) .1)) (b .1))
+        t = unless-held I M (I .sym-addr y) (M .put (I .sym-addr y) (M .sym-locate y (b .0) (b .1) .0) (M .sym-locate y (b .0) (b .1) .1)) (b .1)
 
         t′ : S′
-        t′ = M′ .mark-symbol (I .sym-addr y) (unless-held I M′ (I .sym-addr y) (M′ .put (I .sym-addr y) (M′ .sym-locate y (b′ .0) (b′ .1) .0) (M′ .sym-locate y (b′ .0) (b′ .1) .1)) (b′ .1))
+        t′ = unless-held I M′ (I .sym-addr y) (M′ .put (I .sym-addr y) (M′ .sym-locate y (b′ .0) (b′ .1) .0) (M′ .sym-locate y (b′ .0) (b′ .1) .1)) (b′ .1)
 
         go : (o : Option ℕ) → I .sym-end y ≡ o → Nx s s′ t t′ → Nx s s′ (named-symbolM I M y s) (named-symbolM I M′ y s′)
         go none e h = rw (e, named-symbolM) h
@@ -406,11 +401,3 @@ module _ {Q N Y R R′ P P′ L L′ C C′ S S′ : Type 0} (I : Input Q N Y) (
       close-law = close-both;
       symbol-law = symbol-both;
     }
-
-    pub finish-both : (s : S) (s′ : S′) → K .State s s′ → K .State (finishM I M s) (finishM I M′ s′) ⊎ Free s s′
-    unfolding finishM
-    finish-both s s′ st = ⊎-elim (λ h. inl (go (M .last s) refl h)) (λ z. inr z) (W .last-law s s′ st)
-      where
-        go : (o : Option ℕ) → M .last s ≡ o → (M .last s ≡ M′ .last s′) × ((a : ℕ) → M .last s ≡ some a → G .Key a) → K .State (finishM I M s) (finishM I M′ s′)
-        go none e h = rw (e, finishM, sym (h .0) ∙ e, finishM) st
-        go (some a) e h = rw (e, finishM, sym (h .0) ∙ e, finishM) (end-both a s s′ (h .1 a e) st .state)

@@ -9,14 +9,14 @@ use Prim.Native.Nat.{ℕ}
 use Rattle.slices.proofs.Cases.{false-true}
 use Rattle.model.specs.Basics.{_∈_, Deep}
 use Rattle.model.specs.Rows.{LineRow, FunctionRow, SymbolRow, Given, tree-rows, symbol-row, boundaries, skipped, function-end, symbol-skipped, symbol-end}
-use Rattle.model.specs.Machine.{Machine, convert-opM, runM, finishM}
-use Rattle.model.specs.Converter.{input, deep, op, Setup, Location, nowhere, at, Tables, nothing, is-nowhere, range-at, put-at, begin-row, locate-line, begin-symbol, locate-symbol, enter-call, later, cleared, ending, plain, converted}
+use Rattle.model.specs.Machine.{Machine, convert-opM, runM}
+use Rattle.model.specs.Converter.{input, deep, op, Setup, Location, nowhere, at, Tables, nothing, is-nowhere, range-at, put-at, begin-row, locate-line, begin-symbol, locate-symbol, enter-call, plain, converted}
 use Rattle.model.specs.Counts.{Capacities, plain-fits?}
 use Rattle.model.proofs.Spans.{map-∈}
 use Rattle.model.proofs.Chains.{Larger}
-use Rattle.model.proofs.Keeps.{Any, larger-refl, larger-trans, put-larger, ending-larger, begin-larger, locate-larger, enter-larger, begin-symbol-larger, locate-symbol-larger}
-use Rattle.model.proofs.Couple.{Couple, Limits, Next, Allowed, op-both, run-both, Alike, Single, single-preserves, finish-both}
-use Rattle.model.proofs.Grown.{exceeds-up, fits-nothing, Grown, grown-refl, grown-trans, put-grown, begin-grown, locate-grown, enter-grown, symbol-name-grown, symbol-location-grown, mark-grown}
+use Rattle.model.proofs.Keeps.{Any, larger-refl, larger-trans, put-larger, begin-larger, locate-larger, enter-larger, begin-symbol-larger, locate-symbol-larger}
+use Rattle.model.proofs.Couple.{Couple, Limits, Next, Allowed, op-both, run-both, Alike, Single, single-preserves}
+use Rattle.model.proofs.Grown.{exceeds-up, fits-nothing, Grown, grown-refl, grown-trans, put-grown, begin-grown, locate-grown, enter-grown, symbol-name-grown, symbol-location-grown}
 
 -- what encodes what, in the tables s: `Enc s w`: the state w holds s. `Loc s l l′`, `Cal s c c′`, `Fun s r r′`, `Txt s p p′`: a location, a reference to a call location, to a function,
 -- to a symbol's text. `full w`: a table would have needed more rows or bytes than its capacity
@@ -64,10 +64,8 @@ module _ {R′ P′ L′ C′ W : Type 0} (K : Capacities) (E : Encoding R′ P�
       pub keys : (n : LineRow) → G .Key (boundaries n .from) × G .Key (boundaries n .to)
       pub row-keys : (d : ℕ) (q : FunctionRow) → G .Row d q → skipped q ≡ false → G .Key (q .address) × G .Key (function-end q)
       pub symbol-keys : (y : SymbolRow) → G .Symbol y → symbol-skipped y ≡ false → G .Key (y .address) × ((e : ℕ) → symbol-end y ≡ some e → G .Key e)
-      pub last-key : (s : Tables) (w : W) → Holds s w → (a : ℕ) → s .last ≡ some a → G .Key a
       -- what is read
       pub get-law : (k : ℕ) (s : Tables) (w : W) → G .Key k → Holds s w → Alike is-nowhere (M .is-none) (range-at (s .ranges) k) (M .get w k)
-      pub last-law : (s : Tables) (w : W) → Holds s w → s .last ≡ M .last w
       -- values
       pub none-law : (s : Tables) → E .Loc s nowhere (M .none-loc)
       pub base-law : (s : Tables) → E .Cal s none (M .base)
@@ -83,8 +81,6 @@ module _ {R′ P′ L′ C′ W : Type 0} (K : Capacities) (E : Encoding R′ P�
           → let t = begin-symbol X y s in let u = M .sym-begin y w in Goes (t .1) (u .1) (E .Txt (t .1) (t .0) (u .0))
       pub sym-locate-law : (y : SymbolRow) (p : Option ℕ) (p′ : P′) (s : Tables) (w : W) → G .Symbol y → symbol-skipped y ≡ false → Holds s w → E .Txt s p p′
           → let t = locate-symbol y p s in let u = M .sym-locate y p′ w in Goes (t .1) (u .1) (E .Loc (t .1) (t .0) (u .0))
-      pub mark-end-law : (a : ℕ) (s : Tables) (w : W) → G .Key a → Holds s w → Goes (ending s (later (s .last) a)) (M .mark-end a w) (Unit {0})
-      pub mark-symbol-law : (a : ℕ) (s : Tables) (w : W) → G .Key a → Holds s w → Goes (ending s (cleared (s .last) a)) (M .mark-symbol a w) (Unit {0})
       -- once full, always
       pub put-full : (k : ℕ) (l′ : L′) (w : W) → E .full w ≡ true → E .full (M .put k l′ w) ≡ true
       pub begin-full : (q : FunctionRow) (w : W) → E .full w ≡ true → E .full (M .begin q w .1) ≡ true
@@ -92,8 +88,6 @@ module _ {R′ P′ L′ C′ W : Type 0} (K : Capacities) (E : Encoding R′ P�
       pub enter-full : (l′ : L′) (w : W) → E .full w ≡ true → E .full (M .enter l′ w .1) ≡ true
       pub sym-begin-full : (y : SymbolRow) (w : W) → E .full w ≡ true → E .full (M .sym-begin y w .1) ≡ true
       pub sym-locate-full : (y : SymbolRow) (p′ : P′) (w : W) → E .full w ≡ true → E .full (M .sym-locate y p′ w .1) ≡ true
-      pub mark-end-full : (a : ℕ) (w : W) → E .full w ≡ true → E .full (M .mark-end a w) ≡ true
-      pub mark-symbol-full : (a : ℕ) (w : W) → E .full w ≡ true → E .full (M .mark-symbol a w) ≡ true
 
     -- ── The laws of `Single` follow ──
 
@@ -163,9 +157,6 @@ module _ {R′ P′ L′ C′ W : Type 0} (K : Capacities) (E : Encoding R′ P�
         sym-begin-law = λ y s w ok z st. step (begin-symbol-larger Any X y s) (symbol-name-grown X y s) (H .sym-begin-full y w) (λ h. H .sym-begin-law y s w ok z h) st;
         sym-locate-law = λ y p p′ s w ok z st e.
             step (locate-symbol-larger Any X y p s) (symbol-location-grown X y p s) (H .sym-locate-full y p′ w) (λ h. H .sym-locate-law y p p′ s w ok z h (sure h e)) st;
-        mark-end-law = λ a s w b st. step (ending-larger Any s (later (s .last) a)) (mark-grown X s (later (s .last) a)) (H .mark-end-full a w) (λ h. H .mark-end-law a s w b h) st .0;
-        mark-symbol-law = λ a s w b st. step (ending-larger Any s (cleared (s .last) a)) (mark-grown X s (cleared (s .last) a)) (H .mark-symbol-full a w) (λ h. H .mark-symbol-law a s w b h) st .0;
-        last-law = λ s w st. ⊎-elim (λ h. inr h) (λ h. inl (H .last-law s w h, H .last-key s w h)) st;
       }
 
       -- ── Whole calls and lists ──
@@ -188,8 +179,3 @@ module _ {R′ P′ L′ C′ W : Type 0} (K : Capacities) (E : Encoding R′ P�
           run-both input (plain X) M G couple (single-preserves input (plain X) M G couple (λ s w y p p′. Or w (E .Txt s p p′)) Full encoded-laws) (map op gs) nothing w
           (λ p i. let (g, j, e) = map-∈ op gs i in subst (Allowed input (plain X) M G couple) (sym e) (allowed g (a g j)))
           (inr (record { room = o; fits = fits-nothing K; enc = h })) .state
-
-      -- what writing does first
-      pub encoded-finish : (s : Tables) (w : W) → Holds s w → State (finishM input (plain X) s) (finishM input M w)
-      encoded-finish s w h =
-          ⊎-elim (λ k. k) (λ z. false-true (sym (h .room) ∙ z .0)) (finish-both input (plain X) M G couple (λ s w y p p′. Or w (E .Txt s p p′)) Full encoded-laws s w (inr h))

@@ -111,9 +111,6 @@ module _ (X : Setup) where
   unfolding locate-symbol
   symbol-location-grown y p s = record { texts = omega arith; bytes = omega arith; files = omega arith; functions = intern-length function-eq (s .functions) _; calls = omega arith; ranges = omega arith }
 
-  pub mark-grown : (s : Tables) (o : Option ℕ) → Grown s (record { texts = s .texts; files = s .files; functions = s .functions; calls = s .calls; ranges = s .ranges; last = o })
-  mark-grown s o = record { texts = omega arith; bytes = omega arith; files = omega arith; functions = omega arith; calls = omega arith; ranges = omega arith }
-
   end-grown : (a : ℕ) (s : Tables) → Grown s (put-end input (plain X) a s)
   unfolding put-end
   end-grown a s = go (range-at (s .ranges) a) refl
@@ -136,7 +133,7 @@ module _ (X : Setup) where
 
   close-grown : (q : FunctionRow) (r : ℕ) (s : Tables) → Grown s (closingM input (plain X) q r s)
   unfolding closingM entryM
-  close-grown q r s = grown-trans (go (q .inline) refl) (grown-trans (mark-grown (entryM input (plain X) q r s) _) (end-grown (input .stop q) _))
+  close-grown q r s = grown-trans (go (q .inline) refl) (end-grown (input .stop q) _)
     where
       go : (b : Bool) → q .inline ≡ b → Grown s (entryM input (plain X) q r s)
       go true e = rw (e, entryM) (grown-refl s)
@@ -146,7 +143,7 @@ module _ (X : Setup) where
   unfolding named-symbolM
   symbol-grown y s =
       let n = unless-grown (y .address) (b .1) _ (grown-trans (symbol-location-grown y (b .0) (b .1)) (put-grown (y .address) (l .0) (l .1))) in
-      go (input .sym-end y) refl (grown-trans (symbol-name-grown y s) (grown-trans n (mark-grown _ _)))
+      go (input .sym-end y) refl (grown-trans (symbol-name-grown y s) n)
     where
       b : Option ℕ × Tables
       b = begin-symbol X y s
@@ -155,7 +152,7 @@ module _ (X : Setup) where
       l = locate-symbol y (b .0) (b .1)
 
       t : Tables
-      t = plain X .mark-symbol (y .address) (unless-held input (plain X) (y .address) (put-at (y .address) (l .0) (l .1)) (b .1))
+      t = unless-held input (plain X) (y .address) (put-at (y .address) (l .0) (l .1)) (b .1)
 
       go : (o : Option ℕ) → input .sym-end y ≡ o → Grown s t → Grown s (named-symbolM input (plain X) y s)
       go none e h = rw (e, named-symbolM) h
@@ -264,21 +261,21 @@ module _ (K : Capacities) where
     abbrev n : Fits s
     n = needs s fit
 
-    pub fits-texts : (ts : List Text) → plain-fits? K (record { texts = ts; files = s .files; functions = s .functions; calls = s .calls; ranges = s .ranges; last = s .last }) ≡ (leb (length ts) (K .texts) && leb (text-bytes ts) (K .bytes))
+    pub fits-texts : (ts : List Text) → plain-fits? K (record { texts = ts; files = s .files; functions = s .functions; calls = s .calls; ranges = s .ranges }) ≡ (leb (length ts) (K .texts) && leb (text-bytes ts) (K .bytes))
     fits-texts ts =
         only _ _
         (λ e. let (a, b) = both-true (leb (length ts) (K .texts)) _ e in
         record { texts = leb-true _ _ a; bytes = leb-true _ _ b; files = n .files; functions = n .functions; calls = n .calls; ranges = n .ranges })
         (λ h. both-of _ _ (le-leb _ _ (h .texts)) (le-leb _ _ (h .bytes)))
 
-    pub fits-files : (fs : List File) → plain-fits? K (record { texts = s .texts; files = fs; functions = s .functions; calls = s .calls; ranges = s .ranges; last = s .last }) ≡ leb (length fs) (K .files)
+    pub fits-files : (fs : List File) → plain-fits? K (record { texts = s .texts; files = fs; functions = s .functions; calls = s .calls; ranges = s .ranges }) ≡ leb (length fs) (K .files)
     fits-files fs = only _ _ (λ e. record { texts = n .texts; bytes = n .bytes; files = leb-true _ _ e; functions = n .functions; calls = n .calls; ranges = n .ranges }) (λ h. le-leb _ _ (h .files))
 
-    pub fits-functions : (fs : List Function) → plain-fits? K (record { texts = s .texts; files = s .files; functions = fs; calls = s .calls; ranges = s .ranges; last = s .last }) ≡ leb (length fs) (K .functions)
+    pub fits-functions : (fs : List Function) → plain-fits? K (record { texts = s .texts; files = s .files; functions = fs; calls = s .calls; ranges = s .ranges }) ≡ leb (length fs) (K .functions)
     fits-functions fs = only _ _ (λ e. record { texts = n .texts; bytes = n .bytes; files = n .files; functions = leb-true _ _ e; calls = n .calls; ranges = n .ranges }) (λ h. le-leb _ _ (h .functions))
 
-    pub fits-calls : (cs : List Location) → plain-fits? K (record { texts = s .texts; files = s .files; functions = s .functions; calls = cs; ranges = s .ranges; last = s .last }) ≡ leb (length cs) (K .calls)
+    pub fits-calls : (cs : List Location) → plain-fits? K (record { texts = s .texts; files = s .files; functions = s .functions; calls = cs; ranges = s .ranges }) ≡ leb (length cs) (K .calls)
     fits-calls cs = only _ _ (λ e. record { texts = n .texts; bytes = n .bytes; files = n .files; functions = n .functions; calls = leb-true _ _ e; ranges = n .ranges }) (λ h. le-leb _ _ (h .calls))
 
-    pub fits-ranges : (rs : List (Entry Location)) → plain-fits? K (record { texts = s .texts; files = s .files; functions = s .functions; calls = s .calls; ranges = rs; last = s .last }) ≡ leb (length rs) (K .ranges)
+    pub fits-ranges : (rs : List (Entry Location)) → plain-fits? K (record { texts = s .texts; files = s .files; functions = s .functions; calls = s .calls; ranges = rs }) ≡ leb (length rs) (K .ranges)
     fits-ranges rs = only _ _ (λ e. record { texts = n .texts; bytes = n .bytes; files = n .files; functions = n .functions; calls = n .calls; ranges = leb-true _ _ e }) (λ h. le-leb _ _ (h .ranges))

@@ -1,25 +1,20 @@
 -- What holds of the plain tables always (`Ordered`), that every operation keeps it, and the laws of `Simulate`.
-use mathlib.Core.Path.{_≡_, refl, sym, ap, _∙_, subst}
-use mathlib.Core.Bool.{Bool, true, false, cond}
+use mathlib.Core.Path.{_≡_, refl, sym, _∙_, subst}
 use mathlib.Core.Option.{Option, none, some}
 use mathlib.Core.Logic.{_⊎_, inl, inr, _≢_, ⊎-elim}
 use mathlib.Core.List.{List, [], _∷_}
 use Prim.Native.Nat.{ℕ}
 use native.Mathlib.Omega.{arith}
 use lib.ListN.{length}
-use lib.Dec.{ltb}
 use Rattle.slices.proofs.Cases.{eq-or-ne}
-use Rattle.model.specs.Basics.{Entry, intern}
+use Rattle.model.specs.Basics.{intern}
 use Rattle.model.specs.Rows.{MAX, cut32, Text, LineRow, FunctionRow, SymbolRow}
-use Rattle.model.specs.Converter.{Setup, Six, File, Function, Location, at, Tables, nothing, file-eq, function-eq, location-eq, intern-text, intern-six, range-at, range-put, later, cleared, function-name, symbol-name, line-texts, entry-of, put-at, begin-row, locate-line, begin-symbol, locate-symbol, enter-call, ending, plain}
+use Rattle.model.specs.Converter.{Setup, Six, File, Function, Location, at, Tables, nothing, file-eq, function-eq, location-eq, intern-text, intern-six, range-at, range-put, function-name, symbol-name, line-texts, entry-of, put-at, begin-row, locate-line, begin-symbol, locate-symbol, enter-call, plain}
 use Rattle.model.specs.Frames.{Frame, known, known-six}
 use Rattle.model.proofs.Means.{Means}
 use Rattle.model.proofs.Simulate.{Relates, Laws}
 use Rattle.model.proofs.Intern.{At, Grows, intern-at, intern-grows, intern-new}
 use Rattle.model.proofs.Chains.{some-eq, file-eq-ok, function-eq-ok, location-eq-ok, Reads, reads-grows, SixReads, six-grows, store-grows, store-reads, six-store-grows, six-store-reads, Larger, no-file, a-file, Chain, off, Caller, root, into, chain-larger, caller-larger, push, Down, CallsDown, chain-down, yes-nowhere, no-nowhere, put-same, put-other, Unique, put-unique}
-
-abbrev LastHeld : Option ℕ → List (Entry Location) → Type 0
-LastHeld o t = (a : ℕ) → o ≡ some a → (l : Location) × (range-at t a ≡ some l)
 
 pub larger-refl : (s : Tables) → Larger s s
 larger-refl s = record { texts = λ i a h. h; files = λ i a h. h; functions = λ i a h. h; calls = λ i a h. h }
@@ -39,7 +34,6 @@ module _ (Fine : List Frame → Type 0) where
 
   pub record Ordered (s : Tables) : Type 0 where
     pub unique : Unique (s .ranges)
-    pub last-held : LastHeld (s .last) (s .ranges)
     pub functions-in : (i : ℕ) (f : Function) → At (s .functions) i f → (v : Option Text) × Reads (s .texts) (f .name) v
     pub files-in : (i : ℕ) (x : File) → At (s .files) i x → (v : Six (Option Text)) × SixReads (s .texts) x v
     pub calls-down : CallsDown (s .calls)
@@ -53,7 +47,6 @@ module _ (Fine : List Frame → Type 0) where
   unfolding range-at
   ordered-nothing = record {
     unique = tt;
-    last-held = λ a e. let bad : _≡_ {A = ℕ} 0 1 = cc in absurd (omega arith);
     functions-in = λ i f h. absurd h;
     files-in = λ i f h. absurd h;
     calls-down = λ i l h. absurd h;
@@ -70,7 +63,6 @@ module _ (Fine : List Frame → Type 0) where
     pub put-ordered : Stands s l → Ordered s → Ordered (put-at k l s)
     put-ordered st o = record {
       unique = put-unique k l (s .ranges) (o .unique);
-      last-held = λ a e. held a e (eq-or-ne a k);
       functions-in = o .functions-in;
       files-in = o .files-in;
       calls-down = o .calls-down;
@@ -78,10 +70,6 @@ module _ (Fine : List Frame → Type 0) where
       ranges-in = λ j c e. stands-larger put-larger c (old j c e (eq-or-ne j k));
     }
       where
-        held : (a : ℕ) → s .last ≡ some a → (a ≡ k) ⊎ (a ≢ k) → (m : Location) × (range-at (range-put k l (s .ranges)) a ≡ some m)
-        held a e (inl z) = (l, rw z (put-same k l (s .ranges)))
-        held a e (inr n) = let (m, h) = o .last-held a e in (m, put-other k l (s .ranges) a n ∙ h)
-
         old : (j : ℕ) (c : Location) → range-at (range-put k l (s .ranges)) j ≡ some c → (j ≡ k) ⊎ (j ≢ k) → Stands s c
         old j c e (inl z) = subst (Stands s) (some-eq (sym (put-same k l (s .ranges)) ∙ subst (λ (i : ℕ). range-at (range-put k l (s .ranges)) i ≡ some c) z e)) st
         old j c e (inr n) = o .ranges-in j c (sym (put-other k l (s .ranges) j n) ∙ e)
@@ -90,7 +78,7 @@ module _ (Fine : List Frame → Type 0) where
 
   module _ (s : Tables) (ts : List Text) (fs : List File) (gs : List Function) where
     abbrev grown : Tables
-    grown = record { texts = ts; files = fs; functions = gs; calls = s .calls; ranges = s .ranges; last = s .last }
+    grown = record { texts = ts; files = fs; functions = gs; calls = s .calls; ranges = s .ranges }
 
     grown-larger : Grows (s .texts) ts → Grows (s .files) fs → Grows (s .functions) gs → Larger s grown
     grown-larger a b c = record { texts = a; files = b; functions = c; calls = λ i l h. h }
@@ -101,7 +89,6 @@ module _ (Fine : List Frame → Type 0) where
         → Ordered s → Ordered grown
     grown-ordered b p q o = record {
       unique = o .unique;
-      last-held = o .last-held;
       functions-in = λ i f h. ⊎-elim (λ k. let (v, r) = o .functions-in i f k in (v, reads-grows ts (b .texts) r)) (λ k. k) (p i f h);
       files-in = λ i x h. ⊎-elim (λ k. let (v, r) = o .files-in i x k in (v, six-grows (b .texts) x v r)) (λ k. k) (q i x h);
       calls-down = o .calls-down;
@@ -120,7 +107,7 @@ module _ (Fine : List Frame → Type 0) where
   -- ── A call location ──
 
   abbrev entered : Tables → List Location → Tables
-  entered s cs = record { texts = s .texts; files = s .files; functions = s .functions; calls = cs; ranges = s .ranges; last = s .last }
+  entered s cs = record { texts = s .texts; files = s .files; functions = s .functions; calls = cs; ranges = s .ranges }
 
   module _ (l : Location) (s : Tables) where
     entered-larger : Larger s (entered s (intern location-eq (s .calls) l .table))
@@ -129,51 +116,12 @@ module _ (Fine : List Frame → Type 0) where
     entered-ordered : Stands s l → Down (length (s .calls)) l → Ordered s → Ordered (entered s (intern location-eq (s .calls) l .table))
     entered-ordered st d o = record {
       unique = o .unique;
-      last-held = o .last-held;
       functions-in = o .functions-in;
       files-in = o .files-in;
       calls-down = λ i k a. ⊎-elim (λ z. o .calls-down i k z) (λ (p, q). subst (λ (n : ℕ). Down n k) (sym p) (subst (Down (length (s .calls))) (sym q) d)) (intern-new location-eq (s .calls) l i k a);
       calls-in = λ i k a. stands-larger entered-larger k (⊎-elim (λ z. o .calls-in i k z) (λ (p, q). subst (Stands s) (sym q) st) (intern-new location-eq (s .calls) l i k a));
       ranges-in = λ j c e. stands-larger entered-larger c (o .ranges-in j c e);
     }
-
-  -- ── The last end ──
-
-  pub ending-larger : (s : Tables) (e : Option ℕ) → Larger s (ending s e)
-  ending-larger s e = record { texts = λ i a h. h; files = λ i a h. h; functions = λ i a h. h; calls = λ i a h. h }
-
-  ending-ordered : (s : Tables) (e : Option ℕ) → LastHeld e (s .ranges) → Ordered s → Ordered (ending s e)
-  ending-ordered s e h o = record {
-    unique = o .unique;
-    last-held = h;
-    functions-in = o .functions-in;
-    files-in = o .files-in;
-    calls-down = o .calls-down;
-    calls-in = λ i c a. stands-larger (ending-larger s e) c (o .calls-in i c a);
-    ranges-in = λ j c a. stands-larger (ending-larger s e) c (o .ranges-in j c a);
-  }
-
-  later-held : (o : Option ℕ) (e : ℕ) (l : Location) (t : List (Entry Location)) → LastHeld o t → range-at t e ≡ some l → LastHeld (later o e) t
-  later-held none e l t g h a z = (l, ap (range-at t) (sym (some-eq z)) ∙ h)
-  later-held (some b) e l t g h a z = go (ltb b e) z
-    where
-      go : (u : Bool) → cond u (some e) (some b) ≡ some a → (m : Location) × (range-at t a ≡ some m)
-      go true y = (l, ap (range-at t) (sym (some-eq y)) ∙ h)
-      go false y = g a y
-
-  cleared-held : (o : Option ℕ) (y : ℕ) (t : List (Entry Location)) → LastHeld o t → LastHeld (cleared o y) t
-  cleared-held none y t g a z = g a z
-  cleared-held (some b) y t g a z = go (ltb y b) z
-    where
-      go : (u : Bool) → cond u (some b) none ≡ some a → (m : Location) × (range-at t a ≡ some m)
-      go true w = g a w
-      go false w = let bad : _≡_ {A = ℕ} 0 1 = cc in absurd (omega arith)
-
-  pub mark-end-ordered : (a : ℕ) (s : Tables) (l : Location) → range-at (s .ranges) a ≡ some l → Ordered s → Ordered (ending s (later (s .last) a))
-  mark-end-ordered a s l h o = ending-ordered s (later (s .last) a) (later-held (s .last) a l (s .ranges) (o .last-held) h) o
-
-  pub mark-symbol-ordered : (a : ℕ) (s : Tables) → Ordered s → Ordered (ending s (cleared (s .last) a))
-  mark-symbol-ordered a s o = ending-ordered s (cleared (s .last) a) (cleared-held (s .last) a (s .ranges) (o .last-held)) o
 
   -- ── The operations ──
 
@@ -353,9 +301,4 @@ module _ (X : Setup) where
     base-law = λ s g. root;
     sym-begin-law = λ y s g. ((begin-symbol-larger Any X y s, begin-symbol-ordered Any X y s), same-symbol y s, begin-symbol-reads Any X y s);
     sym-locate-law = λ y p s g r. ((locate-symbol-larger Any X y p s, locate-symbol-ordered Any X y p s _ r), same-symbol-location y p s, locate-symbol-chain Any X y p s r);
-    mark-get = λ a s k. refl;
-    mark-put = λ a k l s. refl;
-    mark-end-law = λ a s l g h. (ending-larger Any s (later (s .last) a), mark-end-ordered Any a s l h);
-    mark-symbol-law = λ a s g. ((ending-larger Any s (cleared (s .last) a), mark-symbol-ordered Any a s), λ k. refl);
-    last-law = λ a s g e. g .last-held a e;
   }

@@ -11,7 +11,7 @@ use lib.Dec.{ltb, eqb}
 use borrow.Author.Tests.{le-leb, lt-leb}
 use Rattle.slices.proofs.Cases.{lt-or-ge, eq-or-ne}
 use Rattle.model.specs.Basics.{_∈_, here, there, Span, items, depths, upto, Covers, Deep, sort}
-use Rattle.model.specs.Machine.{Input, Machine, OpM, treeM, symbolM, Ref, WalkedM, LoopedM, CursorM, advanceM, set-atM, kid-spansM, unless-held, put-end, walkM, loopM, entryM, closingM, rowM, convertM, startM, named-symbolM, convert-symbolM, convert-opM, runM, finishM}
+use Rattle.model.specs.Machine.{Input, Machine, OpM, treeM, symbolM, Ref, WalkedM, LoopedM, CursorM, advanceM, set-atM, kid-spansM, unless-held, put-end, walkM, loopM, entryM, closingM, rowM, convertM, startM, named-symbolM, convert-symbolM, convert-opM, runM}
 use Rattle.model.proofs.Ideal.{Row, Map, insert, insert-soft, insert-end, Call, Walked, Looped, Cursor, walk, advance, loop, nil, row, Op, empty, look, spans-of, convert-symbol, convert-op, run, preorder, covering, stack-at, Well, AllClear}
 use Rattle.model.proofs.Maps.{insert-same, insert-other, look-down}
 use Rattle.model.proofs.Spans.{∈-elim, ∈-map, map-∈}
@@ -54,11 +54,6 @@ pub record Laws {Q N Y R P L C S F : Type 0} (M : Machine Q N Y R P L C S) (T : 
   pub sym-begin-law : (y : Y) (s : S) → K .Good s → let t = M .sym-begin y s in K .Ext s (t .1) × ((k : ℕ) → M .get (t .1) k ≡ M .get s k) × K .Txt (t .1) y (t .0)
   pub sym-locate-law : (y : Y) (p : P) (s : S) → K .Good s → K .Txt s y p
       → let t = M .sym-locate y p s in K .Ext s (t .1) × ((k : ℕ) → M .get (t .1) k ≡ M .get s k) × K .Loc (t .1) (t .0) (T .sym-frame y ∷ [])
-  pub mark-get : (a : ℕ) (s : S) (k : ℕ) → M .get (M .mark-end a s) k ≡ M .get s k
-  pub mark-put : (a k : ℕ) (l : L) (s : S) → M .put k l (M .mark-end a s) ≡ M .mark-end a (M .put k l s)
-  pub mark-end-law : (a : ℕ) (s : S) (l : L) → K .Good s → M .get s a ≡ some l → K .Ext s (M .mark-end a s)
-  pub mark-symbol-law : (a : ℕ) (s : S) → K .Good s → let t = M .mark-symbol a s in K .Ext s t × ((k : ℕ) → M .get t k ≡ M .get s k)
-  pub last-law : (a : ℕ) (s : S) → K .Good s → M .last s ≡ some a → (l : L) × (M .get s a ≡ some l)
 
 module _ {Q N Y R P L C S F : Type 0} (I : Input Q N Y) (M : Machine Q N Y R P L C S) (T : Means Q N Y F) (K : Relates Q Y R P L C S F) (W : Laws M T K) where
   -- what a key holds in the machine, and ideally
@@ -114,40 +109,6 @@ module _ {Q N Y R P L C S F : Type 0} (I : Input Q N Y) (M : Machine Q N Y R P L
       go : (o : Option L) (p : Option (List F)) → M .get s a ≡ o → m a ≡ p → Match s o p → Step s (put-end I M a s) (insert-end a m)
       go none none e f neither = rw (e, put-end, f, insert-end) (sim-put a (W .none-law s (sm .good)) sm)
       go (some l) (some v) e f (both q) = rw (e, put-end, f, insert-end) (stay sm)
-
-  put-end-held : (a : ℕ) {s : S} → K .Good s → (l : L) × (M .get (put-end I M a s) a ≡ some l)
-  unfolding put-end
-  put-end-held a {s} g = go (M .get s a) refl
-    where
-      go : (o : Option L) → M .get s a ≡ o → (l : L) × (M .get (put-end I M a s) a ≡ some l)
-      go none e = rw (e, put-end) (M .none-loc, W .put-law a (M .none-loc) s [] g (W .none-law s g) .1)
-      go (some l) e = rw (e, put-end) (l, e)
-
-  -- the last end is marked before the mapping is put; it is as if after
-  pub end-swap : (a : ℕ) (s : S) → put-end I M a (M .mark-end a s) ≡ M .mark-end a (put-end I M a s)
-  unfolding put-end
-  end-swap a s = go (M .get s a) refl
-    where
-      go : (o : Option L) → M .get s a ≡ o → put-end I M a (M .mark-end a s) ≡ M .mark-end a (put-end I M a s)
-      go none e = rw (W .mark-get a s a ∙ e, put-end, e, put-end) (W .mark-put a a (M .none-loc) s)
-      go (some l) e = rw (W .mark-get a s a ∙ e, put-end, e, put-end)
-
-  -- the end of a function: the last end, and the mapping
-  sim-close : (a : ℕ) {s : S} {m : Map F} → Sim s m → Step s (put-end I M a (M .mark-end a s)) (insert-end a m)
-  sim-close a {s} {m} sm =
-      let p = sim-end a sm in
-      let (l, h) = put-end-held a (sm .good) in
-      let x = W .mark-end-law a (put-end I M a s) l (p .sim .good) h in
-      subst (λ (t : S). Step s t (insert-end a m)) (sym (end-swap a s)) (record { ext = W .ext-trans (p .ext) x; sim = sim-same x (W .mark-get a (put-end I M a s)) (p .sim) })
-
-  -- the sentinel stands already
-  pub finish-is : (s : S) → K .Good s → finishM I M s ≡ s
-  unfolding finishM put-end
-  finish-is s g = go (M .last s) refl
-    where
-      go : (o : Option ℕ) → M .last s ≡ o → finishM I M s ≡ s
-      go none e = rw (e, finishM)
-      go (some a) e = let (l, h) = W .last-law a s g e in rw (e, finishM) (rw (h, put-end))
 
   -- ── Call locations ──
 
@@ -283,13 +244,13 @@ module _ {Q N Y R P L C S F : Type 0} (I : Input Q N Y) (M : Machine Q N Y R P L
   -- ── Rows ──
 
   entry-sim : (d : ℕ) (q : Q) (r : R) (s : S) (m : Map F) → I .inline q ≡ inner d → K .Fun s q r → Sim s m
-      → Step s (put-end I M (I .stop q) (M .mark-end (I .stop q) (entryM I M q r s))) (closing d (row-of I T q) m)
+      → Step s (put-end I M (I .stop q) (entryM I M q r s)) (closing d (row-of I T q) m)
   unfolding entryM closing
   entry-sim zero q r s m e f sm =
       rw (e, entryM)
       (let p = sim-unless (I .entry q) (T .bare-frame q ∷ []) (sim-put (I .entry q) (W .bare-law q r s (sm .good) f) sm) sm in
-      step-trans (p .ext) (sim-close (I .stop q) (p .sim)))
-  entry-sim (suc d) q r s m e f sm = rw (e, entryM) (sim-close (I .stop q) sm)
+      step-trans (p .ext) (sim-end (I .stop q) (p .sim)))
+  entry-sim (suc d) q r s m e f sm = rw (e, entryM) (sim-end (I .stop q) sm)
 
   closing-sim : (d : ℕ) (q : Q) (r : R) (s : S) (m : Map F) → I .inline q ≡ inner d → K .Fun s q r → Sim s m → Step s (closingM I M q r s) (closing d (row-of I T q) m)
   unfolding closingM
@@ -376,14 +337,13 @@ module _ {Q N Y R P L C S F : Type 0} (I : Input Q N Y) (M : Machine Q N Y R P L
       let (x₂, same₂, loc) = W .sym-locate-law y (b .0) (b .1) (sm₁ .good) txt in
       let a = I .sym-addr y in
       let p = sim-unless a (T .sym-frame y ∷ []) (step-trans x₂ (sim-put a loc (sim-same x₂ same₂ sm₁))) sm₁ in
-      let (x₃, same₃) = W .mark-symbol-law a _ (p .sim .good) in
-      step-trans x₁ (go (record { ext = W .ext-trans (p .ext) x₃; sim = sim-same x₃ same₃ (p .sim) }) (I .sym-end y) refl)
+      step-trans x₁ (go p (I .sym-end y) refl)
     where
       b : P × S
       b = M .sym-begin y s
 
       t : S
-      t = M .mark-symbol (I .sym-addr y) (unless-held I M (I .sym-addr y) (M .put (I .sym-addr y) (M .sym-locate y (b .0) (b .1) .0) (M .sym-locate y (b .0) (b .1) .1)) (b .1))
+      t = unless-held I M (I .sym-addr y) (M .put (I .sym-addr y) (M .sym-locate y (b .0) (b .1) .0) (M .sym-locate y (b .0) (b .1) .1)) (b .1)
 
       go : Step (b .1) t (insert-soft (I .sym-addr y) (T .sym-frame y ∷ []) m) → (o : Option ℕ) → I .sym-end y ≡ o
           → Step (b .1) (named-symbolM I M y s) (convert-symbol (I .sym-addr y) (I .sym-end y) (T .sym-frame y) m)

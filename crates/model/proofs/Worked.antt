@@ -64,7 +64,6 @@ pub record Worked : Type 0 where
         functions = record { name = some 0; entry = 0x1000; language = 2 } ∷ record { name = some 4; entry = MAX; language = 2 } ∷ [];
         calls = at (some 0) 10 0 none ∷ [];
         ranges = entry 0x1000 (at (some 0) 10 0 none) ∷ entry 0x1006 (at (some 0) 10 0 none) ∷ entry 0x1008 (at (some 0) 11 0 none) ∷ entry 0x1010 nowhere ∷ entry 0x1002 (at (some 1) 50 1 (some 0)) ∷ [];
-        last = some 0x1010;
       }
   -- the starts of the file, and its 25 bytes of texts
   pub starts : map (λ (e : Entry Location). e .key) (as-written (converted plain-setup worked) .ranges) ≡ 0x1000 ∷ 0x1002 ∷ 0x1006 ∷ 0x1008 ∷ 0x1010 ∷ []

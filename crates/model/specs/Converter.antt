@@ -4,7 +4,7 @@ use mathlib.Core.Bool.{Bool, true, false, cond, _&&_}
 use mathlib.Core.Option.{Option, none, some}
 use mathlib.Core.List.{List, [], _∷_, map}
 use Prim.Native.Nat.{ℕ}
-use lib.Dec.{ltb, eqb}
+use lib.Dec.{eqb}
 use Rattle.text.specs.Utf8.{utf8}
 use Rattle.names.specs.Names.{undecorated}
 use Rattle.model.specs.Basics.{Deep, Entry, intern}
@@ -70,10 +70,9 @@ pub record Tables : Type 0 where
   pub functions : List Function
   pub calls : List Location
   pub ranges : List (Entry Location)  -- in order of insertion
-  pub last : Option ℕ  -- the last end
 
 abbrev pub nothing : Tables
-nothing = record { texts = []; files = []; functions = []; calls = []; ranges = []; last = none }
+nothing = record { texts = []; files = []; functions = []; calls = []; ranges = [] }
 
 -- ── Equality tests ─────────────────────────────────────────────────────────────────────────────────────────────────────
 
@@ -178,44 +177,30 @@ module _ {L : Type 0} where
   range-put k l [] = record { key = k; value = l } ∷ []
   range-put k l (e ∷ es) = cond (eqb k (e .key)) (record { key = k; value = l } ∷ es) (e ∷ range-put k l es)
 
--- the greater end
-abbrev pub later : Option ℕ → ℕ → Option ℕ
-later none e = some e
-later (some a) e = cond (ltb a e) (some e) (some a)
-
--- "a named symbol at or above it (unset counts as 0) clears it"
-abbrev pub cleared : Option ℕ → ℕ → Option ℕ
-cleared none y = none
-cleared (some a) y = cond (ltb y a) (some a) none
-
 -- ── What the loops do to the tables ────────────────────────────────────────────────────────────────────────────────────
 
 abbrev pub put-at : ℕ → Location → Tables → Tables
-put-at k l s = record { texts = s .texts; files = s .files; functions = s .functions; calls = s .calls; ranges = range-put k l (s .ranges); last = s .last }
-
--- s, with another last end
-abbrev pub ending : Tables → Option ℕ → Tables
-ending s e = record { texts = s .texts; files = s .files; functions = s .functions; calls = s .calls; ranges = s .ranges; last = e }
+put-at k l s = record { texts = s .texts; files = s .files; functions = s .functions; calls = s .calls; ranges = range-put k l (s .ranges) }
 
 -- a function row
 abbrev pub enter-function : List Text → Function → Tables → ℕ × Tables
 enter-function ts f s =
     let i = intern function-eq (s .functions) f in
-    (i .index, record { texts = ts; files = s .files; functions = i .table; calls = s .calls; ranges = s .ranges; last = s .last })
+    (i .index, record { texts = ts; files = s .files; functions = i .table; calls = s .calls; ranges = s .ranges })
 
 -- a line's texts, its file, and its location; "Line numbers too" are cut
 unfoldable pub locate-line : FunctionRow → ℕ → LineRow → Option ℕ → Tables → Location × Tables
 locate-line q r n c s =
     let t = intern-six (s .texts) (line-texts q n) in
     let i = intern file-eq (s .files) (t .ref) in
-    let u : Tables = record { texts = t .table; files = i .table; functions = s .functions; calls = s .calls; ranges = s .ranges; last = s .last } in
+    let u : Tables = record { texts = t .table; files = i .table; functions = s .functions; calls = s .calls; ranges = s .ranges } in
     (at (some (i .index)) (cut32 (n .number)) r c, u)
 
 -- a call location
 unfoldable pub enter-call : Location → Tables → Option ℕ × Tables
 enter-call l s =
     let i = intern location-eq (s .calls) l in
-    (some (i .index), record { texts = s .texts; files = s .files; functions = s .functions; calls = i .table; ranges = s .ranges; last = s .last })
+    (some (i .index), record { texts = s .texts; files = s .files; functions = s .functions; calls = i .table; ranges = s .ranges })
 
 -- a symbol's function, of language MAX, and its location
 unfoldable pub locate-symbol : SymbolRow → Option ℕ → Tables → Location × Tables
@@ -232,7 +217,7 @@ module _ (X : Setup) where
   unfoldable pub begin-symbol : SymbolRow → Tables → Option ℕ × Tables
   begin-symbol y s =
       let t = intern-text (s .texts) (symbol-name X y) in
-      (t .ref, record { texts = t .table; files = s .files; functions = s .functions; calls = s .calls; ranges = s .ranges; last = s .last })
+      (t .ref, record { texts = t .table; files = s .files; functions = s .functions; calls = s .calls; ranges = s .ranges })
 
   abbrev pub plain : Machine FunctionRow LineRow SymbolRow ℕ (Option ℕ) Location (Option ℕ) Tables
   plain = record {
@@ -247,9 +232,6 @@ module _ (X : Setup) where
     base = none;
     sym-begin = begin-symbol;
     sym-locate = locate-symbol;
-    last = λ s. s .last;
-    mark-end = λ e s. ending s (later (s .last) e);
-    mark-symbol = λ y s. ending s (cleared (s .last) y);
   }
 
   -- the tables after a list of accepted calls

@@ -34,9 +34,6 @@ pub record Machine (Q N Y R P L C S : Type 0) : Type 0 where
   pub base : C  -- no caller
   pub sym-begin : Y → S → P × S  -- a symbol's text
   pub sym-locate : Y → P → S → L × S  -- its function
-  pub last : S → Option ℕ  -- the last end, if set
-  pub mark-end : ℕ → S → S  -- a function's end may become the last end
-  pub mark-symbol : ℕ → S → S  -- a symbol's address may clear it
 
 -- a call location that was made for the inlinees, and the address from which it counts
 pub record Ref (C : Type 0) : Type 0 where
@@ -132,9 +129,9 @@ module _ {Q N Y R P L C S : Type 0} (I : Input Q N Y) (M : Machine Q N Y R P L C
   unfoldable pub entryM : Q → R → S → S
   entryM q r s = elim (I .inline q) [ true ↦ s | false ↦ unless-held (I .entry q) (M .put (I .entry q) (M .bare q r) s) s ]
 
-  -- then the last end, and the empty mapping at the function's end
+  -- then the empty mapping at the function's end
   unfoldable pub closingM : Q → R → S → S
-  closingM q r s = put-end (I .stop q) (M .mark-end (I .stop q) (entryM q r s))
+  closingM q r s = put-end (I .stop q) (entryM q r s)
 
   -- a row, given its inlinee ranges and its call locations. "No call location made: inlinees aren't visited"
   unfoldable pub rowM : Q → List Span → List (Ref C) → S → LoopedM C S
@@ -160,12 +157,12 @@ module _ {Q N Y R P L C S : Type 0} (I : Input Q N Y) (M : Machine Q N Y R P L C
   startM zero = record { addr = 0; ref = M .base } ∷ []
   startM (suc d) = []
 
-  -- `process_symbolic_symbol`: the text, then the function and the location where there is none, the last end, and the empty mapping at its end
+  -- `process_symbolic_symbol`: the text, then the function and the location where there is none, and the empty mapping at its end
   unfoldable pub named-symbolM : Y → S → S
   named-symbolM y s =
       let b = M .sym-begin y s in
       let l = M .sym-locate y (b .0) (b .1) in
-      let t = M .mark-symbol (I .sym-addr y) (unless-held (I .sym-addr y) (M .put (I .sym-addr y) (l .0) (l .1)) (b .1)) in
+      let t = unless-held (I .sym-addr y) (M .put (I .sym-addr y) (l .0) (l .1)) (b .1) in
       elim (I .sym-end y) [ none ↦ t | some e ↦ put-end e t ]
 
   -- one that is unnamed or above MAX is accepted and changes nothing
@@ -180,7 +177,3 @@ module _ {Q N Y R P L C S : Type 0} (I : Input Q N Y) (M : Machine Q N Y R P L C
   unfoldable pub runM : List (OpM Q Y) → S → S
   runM [] s = s
   runM (o ∷ os) s = runM os (convert-opM o s)
-
-  -- what `serialize` does first: the empty mapping at the last end
-  unfoldable pub finishM : S → S
-  finishM s = elim (M .last s) [ none ↦ s | some a ↦ put-end a s ]

@@ -25,7 +25,7 @@ module _ {L : Type 0} where
 
 -- s, with other ranges
 abbrev pub over : Tables → List (Entry Location) → Tables
-over s r = record { texts = s .texts; files = s .files; functions = s .functions; calls = s .calls; ranges = r; last = s .last }
+over s r = record { texts = s .texts; files = s .files; functions = s .functions; calls = s .calls; ranges = r }
 
 abbrev pub as-written : Tables → Tables
 as-written s = over s (by-start (s .ranges))

@@ -5,7 +5,6 @@ use crate::case::BEGIN;
 use crate::case::Case;
 use crate::case::WRITE;
 use memory::Converter;
-use memory::LastAddr;
 use memory::State;
 
 // What lent memory holds at first.
@@ -135,23 +134,13 @@ pub(crate) fn is_written(t: &[u8; 400], file: &[u8], code: u32, len: usize) -> b
 
 // The record
 
-fn last_of(a: LastAddr) -> u64 {
-    match a {
-        LastAddr::Unset => 4294967296,
-        LastAddr::Set(n) => n as u64,
-    }
-}
-
 fn same_state(a: State, b: State) -> bool {
-    let last = a.last_addr;
-    let other = b.last_addr;
     a.string_bytes == b.string_bytes
         && a.strings == b.strings
         && a.files == b.files
         && a.functions == b.functions
         && a.call_locations == b.call_locations
         && a.ranges == b.ranges
-        && last_of(last) == last_of(other)
 }
 
 // What the converter was begun with.
@@ -180,7 +169,6 @@ pub(crate) fn unused(open: bool) -> Converter {
             functions: 0,
             call_locations: 0,
             ranges: 0,
-            last_addr: LastAddr::Unset,
         },
     }
 }

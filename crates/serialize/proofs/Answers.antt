@@ -1,5 +1,5 @@
 -- What `serialize` answers: 19, 18, or the file.
-use Prim.Native.Nat.{ℕ, _+_, _<_, _≤_}
+use Prim.Native.Nat.{ℕ, _<_, _≤_}
 use mathlib.Core.Bool.{Bool, true, false, cond, not, _&&_}
 use mathlib.Core.Path.{_≡_, refl, ap, sym, _∙_}
 use mathlib.Core.List.{List, _++_}
@@ -17,10 +17,7 @@ use Rattle.strings.proofs.TextRoom.{text-room}
 use Rattle.memory.specs.Memory.{Memory, lent}
 use Rattle.memory.specs.Record.{fitsIn, usableIn, usable?}
 use Rattle.memory.specs.declared.Lengths.{Lengths}
-use Rattle.memory.specs.declared.LastAddr.{LastAddr}
-use Rattle.memory.specs.declared.LastAddr.the-variants.{Unset, Set}
 use Rattle.memory.specs.declared.Converter.{Converter}
-use Rattle.serialize.specs.Sections.{vacant-end, sentinel}
 use Rattle.serialize.specs.File.{written-file, layout-of, Ready, Wrote, wrote, serializeOf}
 use Rattle.serialize.specs.declared.Layout.{Layout}
 use Rattle.serialize.proofs.Whole.{length-ranges, laid, written-length}
@@ -57,10 +54,6 @@ counts c m g b e h =
       ranges = le-trans (leb-true (st .ranges) (capacityOf (length (m .ranges))) (p₅ .1)) (cap-most (length (m .ranges)));
     }
 
-sentinel-few : (end : LastAddr) (n : ℕ) → length (sentinel end n) ≤ 1
-sentinel-few Unset n = omega arith
-sentinel-few (Set a) n = omega arith
-
 -- the definition, over the test and the file
 abbrev answer : Bool → List ℕ → List ℕ → Wrote
 answer usable file s = cond usable (cond (leb (length file) (length s)) (wrote 0 (length file) (file ++ drop (length file) s)) (wrote 18 0 s)) (wrote 19 0 s)
@@ -84,19 +77,15 @@ module _ (c : Converter) (m : Memory) (s : List ℕ) {l : Lengths} (g : l ≡ le
   closed h =
       closed-answer (usable? c m) (written-file c m) s (sym (e-usable ∙ ap (λ (l : Lengths). usableIn c l) g) ∙ not-true b h) ∙ sym is-answer
 
-  module _ (id : length (c .«debug_id») ≡ 32) (usable : not b ≡ false) (end : LastAddr) (e-end : end ≡ vacant-end (c .state .«last_addr») (m .ranges) (c .state .ranges))
-      (n : ℕ) (e-n : n ≡ c .state .ranges + length (sentinel end (c .state .ranges))) (at : Layout) (e-at : at ≡ layout-of (c .state) n) where
+  module _ (id : length (c .«debug_id») ≡ 32) (usable : not b ≡ false) (at : Layout) (e-at : at ≡ layout-of (c .state) (c .state .ranges)) where
     len : length (written-file c m) ≡ at .len
-    len = written-length c m id n (length-ranges c m ∙ sym (rw e-end at e-n)) at (laid (c .state) n at e-at) (counts c m g b e-usable usable .texts)
+    len = written-length c m id (c .state .ranges) (length-ranges c m) at (laid (c .state) (c .state .ranges) at e-at) (counts c m g b e-usable usable .texts)
 
     pub short : length s < at .len → wrote 18 0 s ≡ serializeOf c m s
     short h = short-answer (usable? c m) (written-file c m) s (usable-is c m g b e-usable usable) (rw len h) ∙ sym is-answer
 
-    pub ready : at .len ≤ length s → Ready c (m .ranges) end n (length (m .text)) (length s)
-    ready h =
-        let k = counts c m g b e-usable usable in
-        let few : length (sentinel end (c .state .ranges)) ≤ 1 = sentinel-few end (c .state .ranges) in
-        record { last = e-end; size = e-n; calls = omega arith; texts-there = k .texts; room = rw e-at at h }
+    pub ready : at .len ≤ length s → Ready c (length (m .text)) (length s)
+    ready h = let k = counts c m g b e-usable usable in record { calls = omega arith; texts-there = k .texts; room = rw e-at at h }
 
     pub done : at .len ≤ length s → (r : List ℕ) → r ≡ sets s 0 (written-file c m) → wrote 0 (at .len) r ≡ serializeOf c m s
     done h r e =

@@ -1,15 +1,13 @@
 -- What the rows of a written file read as, each at its place: the rows of the tables, wherever the file's sections stand.
 use Prim.Native.Nat.{ℕ, _+_, _*_, _<_, _^_}
-use mathlib.Core.Bool.{Bool, true, false, cond}
 use mathlib.Core.Path.{_≡_, refl, _∙_}
 use mathlib.Core.List.{List}
 use native.Mathlib.Nat.{zero-add}
 use native.Mathlib.Omega.{arith}
-use lib.Dec.{ltb}
 use lib.ListN.{length, getD}
 use Rattle.model.specs.Basics.{Span}
 use Rattle.slices.specs.Bytes.{Words32, Stands, tableBytes}
-use Rattle.raw.specs.Rows.{versionInfoAt, headerAt, HeaderFits, fileAt, functionAt, locationWords, locationAt, rangeAt, noSourceLocation}
+use Rattle.raw.specs.Rows.{versionInfoAt, headerAt, HeaderFits, fileAt, functionAt, locationWords, locationAt, rangeAt}
 use Rattle.raw.specs.Head.{version-info}
 use Rattle.slices.proofs.Bytes.{row-stands}
 use Rattle.raw.proofs.Rows.{version-info-back, header-back, file-back, function-back, location-back, range-back}
@@ -19,7 +17,7 @@ use Rattle.tables.specs.declared.Row.{Row}
 use Rattle.table_laws.proofs.Rows.{rows-length, rows-getD}
 use Rattle.memory.specs.Memory.{Memory}
 use Rattle.memory.specs.declared.Converter.{Converter}
-use Rattle.serialize.specs.Sections.{file-row, function-row, call-row, entry-location, location-row, start-row}
+use Rattle.serialize.specs.Sections.{file-row, function-row, call-row, location-row, start-row}
 use Rattle.serialize.specs.File.{ranges-of, header-of}
 use Rattle.serialize.specs.declared.Layout.{Layout}
 use Rattle.serialize.proofs.Rows.{length-file-row, length-function-row, length-call-row, length-location-row, length-start-row}
@@ -42,13 +40,10 @@ row-there bytes size long t n s at i h g =
     let e : getD (rowsOf t n) i no-row ≡ rowAt t i = rows-getD t 0 n i no-row h ∙ rw (zero-add i) in
     rw e at (row-stands bytes size long (rowsOf t n) no-row s at i (at + size * i) (rw (rows-length t 0 n) h) refl g)
 
--- the words of an entry's location
-location-words : (t : List ℕ) → Slice32 t → (n : ℕ) (p : Span) → Words32 (locationWords (entry-location t n p))
-unfolding entry-location rowAt
-location-words t w n p = go (ltb (p .to) n) where
-  go : (b : Bool) → Words32 (locationWords (cond b (locationOf (rowAt t (p .to))) noSourceLocation))
-  go true = (w (p .to * 7 + 1), (w (p .to * 7 + 1 + 1), (w (p .to * 7 + 1 + 1 + 1), (w (p .to * 7 + 1 + 1 + 1 + 1), tt))))
-  go false = (omega arith, (omega arith, (omega arith, (omega arith, tt))))
+-- the words of a range's location
+location-words : (t : List ℕ) → Slice32 t → (i : ℕ) → Words32 (locationWords (locationOf (rowAt t i)))
+unfolding rowAt
+location-words t w i = (w (i * 7 + 1), (w (i * 7 + 1 + 1), (w (i * 7 + 1 + 1 + 1), (w (i * 7 + 1 + 1 + 1 + 1), tt))))
 
 module _ (c : Converter) (m : Memory) (at : Layout) (s : List ℕ) (h : Standing c m at s) where
   pub version-read : versionInfoAt s 0 ≡ version-info
@@ -77,11 +72,11 @@ module _ (c : Converter) (m : Memory) (at : Layout) (s : List ℕ) (h : Standing
 
   -- range i: the location and the start of entry i, in order
   pub location-read : Slice32 (m .ranges) → (i : ℕ) → i < length (ranges-of c m)
-      → locationAt s (at .locations + 16 * i) ≡ entry-location (m .ranges) (c .state .ranges) (getD (ranges-of c m) i no-entry)
+      → locationAt s (at .locations + 16 * i) ≡ locationOf (rowAt (m .ranges) (getD (ranges-of c m) i no-entry .to))
   unfolding location-row
   location-read w i l =
-      location-back (entry-location (m .ranges) (c .state .ranges) (getD (ranges-of c m) i no-entry)) s (at .locations + 16 * i) (location-words (m .ranges) w (c .state .ranges) (getD (ranges-of c m) i no-entry))
-      (row-stands (location-row (m .ranges) (c .state .ranges)) 16 (length-location-row (m .ranges) (c .state .ranges)) (ranges-of c m) no-entry s (at .locations) i (at .locations + 16 * i) l refl (h .locations))
+      location-back (locationOf (rowAt (m .ranges) (getD (ranges-of c m) i no-entry .to))) s (at .locations + 16 * i) (location-words (m .ranges) w (getD (ranges-of c m) i no-entry .to))
+      (row-stands (location-row (m .ranges)) 16 (length-location-row (m .ranges)) (ranges-of c m) no-entry s (at .locations) i (at .locations + 16 * i) l refl (h .locations))
 
   pub start-read : (i : ℕ) → i < length (ranges-of c m) → getD (ranges-of c m) i no-entry .from < 2 ^ 32
       → rangeAt s (at .locations + length (ranges-of c m) * 16 + 4 * i) ≡ record { 0 = getD (ranges-of c m) i no-entry .from }

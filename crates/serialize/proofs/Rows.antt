@@ -8,15 +8,15 @@ use native.Mathlib.Omega.{arith}
 use lib.ListN.{length}
 use lib.Seq.{sets}
 use Rattle.model.specs.Basics.{Span}
-use Rattle.slices.specs.Bytes.{le, leAt, wordBytes, tableBytes}
+use Rattle.slices.specs.Bytes.{le, leAt, tableBytes}
 use Rattle.raw.specs.Head.{padding}
 use Rattle.slices.proofs.Bytes.{sets-join, length-table, length-words}
 use Rattle.raw.proofs.Rows.{length-file, length-function, length-location, length-range, all, next, stored}
 use Rattle.tables.specs.Table.{rowAt, rowsOf}
-use Rattle.tables.specs.Kinds.{fileOfRow, functionOfRow, callOfRow}
+use Rattle.tables.specs.Kinds.{fileOfRow, functionOfRow, callOfRow, locationOf}
 use Rattle.tables.specs.declared.Row.{Row}
 use Rattle.table_laws.proofs.Rows.{rows-more, rows-length}
-use Rattle.serialize.specs.Sections.{file-row, function-row, call-row, entries, entry-row, entries-at, entry-location, location-row, start-row}
+use Rattle.serialize.specs.Sections.{file-row, function-row, call-row, entries, entry-row, entries-at, location-row, start-row}
 
 -- ── Sizes ──
 
@@ -36,9 +36,9 @@ pub length-entry-row : (p : Span) → length (entry-row p) ≡ 8
 unfolding entry-row
 length-entry-row p = length-words (p .from ∷ p .to ∷ [])
 
-pub length-location-row : (t : List ℕ) (n : ℕ) (p : Span) → length (location-row t n p) ≡ 16
+pub length-location-row : (t : List ℕ) (p : Span) → length (location-row t p) ≡ 16
 unfolding location-row
-length-location-row t n p = length-location (entry-location t n p)
+length-location-row t p = length-location (locationOf (rowAt t (p .to)))
 
 pub length-start-row : (p : Span) → length (start-row p) ≡ 4
 unfolding start-row

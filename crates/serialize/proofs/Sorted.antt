@@ -9,17 +9,15 @@ use lib.Seq.{sets, sets-eq, take-at, drop-at, length-take-le, drop-drop}
 use borrow.Rule.Slice.PartMut.{midOf, putMid}
 use Rattle.model.specs.Basics.{Span, before, place, sort}
 use Rattle.slices.specs.Bytes.{le, wordBytes, Words32, Stands, tableBytes}
-use Rattle.slices.proofs.Bytes.{sets-join, length-table, length-words, length-le, stands-left, stands-right, stands-stored, le-back}
+use Rattle.slices.proofs.Bytes.{length-table, length-words, length-le, stands-left, stands-right, stands-stored, le-back}
 use Rattle.tables.specs.Table.{rowAt, rowsFrom, rowsOf}
 use Rattle.table_laws.proofs.Rows.{rows-length}
 use Rattle.sorting.specs.Pairs.{pairWords, sortedBytesOf}
 use Rattle.sorting.proofs.Pairs.{length-pairWords, sorted-entries}
 use Rattle.sorting.proofs.Order.{sort-length}
-use Rattle.memory.specs.declared.LastAddr.{LastAddr}
-use Rattle.memory.specs.declared.LastAddr.the-variants.{Unset, Set}
-use Rattle.serialize.specs.Sections.{entries, sentinel, entry-row, entries-at, location-row, start-row, range-sections}
+use Rattle.serialize.specs.Sections.{entries, in-order, entry-row, entries-at, location-row, start-row, range-sections}
 use Rattle.serialize.proofs.Runs.{sets-cover, take-before, drop-after}
-use Rattle.serialize.proofs.Rows.{length-entry-row, length-location-row, length-start-row, length-entries, table-append}
+use Rattle.serialize.proofs.Rows.{length-location-row, length-start-row, length-entries}
 
 -- ── Entries as pairs of 32-bit numbers ──
 
@@ -31,11 +29,6 @@ entry-words (p ∷ ps) = rw (entry-words ps, append-nil (le 4 (p .to)), append-a
 -- each number of each entry has 32 bits
 abbrev pub Fit : List Span → Type 0
 Fit ps = Words32 (pairWords ps)
-
-pub fit-append : (ps qs : List Span) → Fit ps → Fit qs → Fit (ps ++ qs)
-unfolding pairWords
-fit-append [] qs f g = g
-fit-append (p ∷ ps) qs f g = (f .0, (f .1 .0, fit-append ps qs (f .1 .1) g))
 
 pub fit-entries : (t : List ℕ) → ((j : ℕ) → getD t j 0 < 2 ^ 32) → (k n : ℕ) → k + n < 2 ^ 32 → Fit (entries k (rowsFrom t k n))
 unfolding pairWords entries rowsFrom rowAt
@@ -54,16 +47,6 @@ pub fit-sort : (ps : List Span) → Fit ps → Fit (sort ps)
 unfolding pairWords sort
 fit-sort [] f = tt
 fit-sort (p ∷ ps) f = fit-place p (sort ps) (f .0) (f .1 .0) (fit-sort ps (f .1 .1))
-
--- the sentinel's entry, if there is one
-pub sentinel-none : (s : List ℕ) (at : ℕ) (end : LastAddr) (n : ℕ) → end ≡ Unset → (s ≡ sets s at (tableBytes entry-row (sentinel end n))) × Fit (sentinel end n)
-unfolding tableBytes pairWords
-sentinel-none s at end n h = rw h (refl, tt)
-
-pub sentinel-one : (s s₁ : List ℕ) (at : ℕ) (end : LastAddr) (a n : ℕ) → end ≡ Set a → a < 2 ^ 32 → n < 2 ^ 32 → s₁ ≡ sets s at (entry-row (record { from = a; to = n }))
-    → (s₁ ≡ sets s at (tableBytes entry-row (sentinel end n))) × Fit (sentinel end n)
-unfolding tableBytes pairWords
-sentinel-one s s₁ at end a n h b d e = rw h (rw (append-nil (entry-row (record { from = a; to = n }))) e, (b, (d, tt)))
 
 -- entries that stand are read back
 pub entries-back : (ps : List Span) (s : List ℕ) (at : ℕ) → Fit ps → Stands (wordBytes (pairWords ps)) s at → entries-at (length ps) s at ≡ ps
@@ -87,11 +70,11 @@ part-stored b s from h =
     rw (sets-eq b s from h, append-assoc, drop-at (take from s) (b ++ drop (from + length b) s) from (length-take-le from s (omega arith)))
     (take-at b (drop (from + length b) s) (length b) refl)
 
-length-sections : (t : List ℕ) (n : ℕ) (ps : List Span) → length (range-sections t n ps) ≡ 20 * length ps
+length-sections : (t : List ℕ) (ps : List Span) → length (range-sections t ps) ≡ 20 * length ps
 unfolding range-sections
-length-sections t n ps = simp (length-append, length-table (location-row t n) 16 (length-location-row t n), length-table start-row 4 length-start-row) (omega arith)
+length-sections t ps = simp (length-append, length-table (location-row t) 16 (length-location-row t), length-table start-row 4 length-start-row) (omega arith)
 
-module _ (t : List ℕ) (n : ℕ) (ps : List Span) (fit : Fit ps) (all : ℕ) (size : length ps ≡ all) (s : List ℕ) (at : ℕ) (room : at + all * 20 ≤ length s) where
+module _ (t : List ℕ) (ps : List Span) (fit : Fit ps) (all : ℕ) (size : length ps ≡ all) (s : List ℕ) (at : ℕ) (room : at + all * 20 ≤ length s) where
   -- the part that is sorted is the entries, and nothing else changes
   sorted-there : (s₁ part : List ℕ) (k : ℕ) → s₁ ≡ sets s (at + all * 8) (tableBytes entry-row ps) → k ≡ all * 8 → part ≡ sortedBytesOf (midOf (at + all * 8) k s₁)
       → putMid (at + all * 8) k s₁ part ≡ sets s (at + all * 8) (wordBytes (pairWords (sort ps)))
@@ -111,28 +94,22 @@ module _ (t : List ℕ) (n : ℕ) (ps : List Span) (fit : Fit ps) (all : ℕ) (s
 
   -- from there the locations and the starts are written, over the entries
   pub ranges-sorted : (s₁ part s₂ : List ℕ) (k : ℕ) → s₁ ≡ sets s (at + all * 8) (tableBytes entry-row ps) → k ≡ all * 8 → part ≡ sortedBytesOf (midOf (at + all * 8) k s₁)
-      → s₂ ≡ sets (putMid (at + all * 8) k s₁ part) at (range-sections t n (entries-at all (putMid (at + all * 8) k s₁ part) (at + all * 8)))
-      → s₂ ≡ sets s at (range-sections t n (sort ps))
+      → s₂ ≡ sets (putMid (at + all * 8) k s₁ part) at (range-sections t (entries-at all (putMid (at + all * 8) k s₁ part) (at + all * 8)))
+      → s₂ ≡ sets s at (range-sections t (sort ps))
   ranges-sorted s₁ part s₂ k e f g e₂ =
       let from = at + all * 8 in
       let c = wordBytes (pairWords (sort ps)) in
       let lc : length c ≡ 8 * all = simp (length-words, length-pairWords, sort-length) (omega arith) in
-      let lr : length (range-sections t n (sort ps)) ≡ 20 * all = rw (length-sections t n (sort ps), sort-length ps) (omega arith) in
+      let lr : length (range-sections t (sort ps)) ≡ 20 * all = rw (length-sections t (sort ps), sort-length ps) (omega arith) in
       let there : putMid from k s₁ part ≡ sets s from c = sorted-there s₁ part k e f g in
       let back : entries-at (length (sort ps)) (sets s from c) from ≡ sort ps = entries-back (sort ps) (sets s from c) from (fit-sort ps fit) (stands-stored c s from (omega arith)) in
       let same : entries-at all (sets s from c) from ≡ sort ps = rw (sort-length ps, size) at back in
-      e₂ ∙ rw (there, same) (sets-cover c (range-sections t n (sort ps)) s from at (omega arith) (omega arith) (omega arith))
+      e₂ ∙ rw (there, same) (sets-cover c (range-sections t (sort ps)) s from at (omega arith) (omega arith) (omega arith))
 
 -- the same of the code's calls, one after the other
-module _ (t : List ℕ) (words32 : (j : ℕ) → getD t j 0 < 2 ^ 32) (n all : ℕ) (few : n < 2 ^ 32) (end : LastAddr) (size : all ≡ n + length (sentinel end n)) (s : List ℕ) (at : ℕ) (room : at + all * 20 ≤ length s) where
-  pub written-sorted : (s₁ s₂ part s₃ : List ℕ) (k : ℕ) → s₁ ≡ sets s (at + all * 8) (tableBytes entry-row (entries 0 (rowsOf t n)))
-      → (s₂ ≡ sets s₁ (at + all * 8 + n * 8) (tableBytes entry-row (sentinel end n))) × Fit (sentinel end n)
-      → k ≡ all * 8 → part ≡ sortedBytesOf (midOf (at + all * 8) k s₂)
-      → s₃ ≡ sets (putMid (at + all * 8) k s₂ part) at (range-sections t n (entries-at all (putMid (at + all * 8) k s₂ part) (at + all * 8)))
-      → s₃ ≡ sets s at (range-sections t n (sort (entries 0 (rowsOf t n) ++ sentinel end n)))
-  written-sorted s₁ s₂ part s₃ k e₁ e₂ f g e₃ =
-      let rs = entries 0 (rowsOf t n) in
-      let l : length rs ≡ n = length-entries 0 (rowsOf t n) ∙ rows-length t 0 n in
-      let both : s₂ ≡ sets s (at + all * 8) (tableBytes entry-row (rs ++ sentinel end n)) =
-      e₂ .0 ∙ rw (e₁, table-append entry-row rs (sentinel end n)) (sets-join (tableBytes entry-row rs) (tableBytes entry-row (sentinel end n)) s (at + all * 8) (at + all * 8 + n * 8) (rw (length-table entry-row 8 length-entry-row rs) (omega arith))) in
-      ranges-sorted t n (rs ++ sentinel end n) (fit-append rs (sentinel end n) (fit-entries t words32 0 n (omega arith)) (e₂ .1)) all (simp length-append (omega arith)) s at room s₂ part s₃ k both f g e₃
+module _ (t : List ℕ) (words32 : (j : ℕ) → getD t j 0 < 2 ^ 32) (n : ℕ) (few : n < 2 ^ 32) (s : List ℕ) (at : ℕ) (room : at + n * 20 ≤ length s) where
+  pub written-sorted : (s₁ part s₂ : List ℕ) (k : ℕ) → s₁ ≡ sets s (at + n * 8) (tableBytes entry-row (entries 0 (rowsOf t n))) → k ≡ n * 8 → part ≡ sortedBytesOf (midOf (at + n * 8) k s₁)
+      → s₂ ≡ sets (putMid (at + n * 8) k s₁ part) at (range-sections t (entries-at n (putMid (at + n * 8) k s₁ part) (at + n * 8)))
+      → s₂ ≡ sets s at (range-sections t (in-order t n))
+  unfolding in-order
+  written-sorted = ranges-sorted t (entries 0 (rowsOf t n)) (fit-entries t words32 0 n (omega arith)) n (length-entries 0 (rowsOf t n) ∙ rows-length t 0 n) s at room

@@ -1,12 +1,11 @@
 -- The file as a whole: its sections joined are what the code stores one after the other, where they stand, and how long it is.
 use Prim.Native.Nat.{ℕ, zero, suc, _+_, _*_, _/_, _%_, _<_, _≤_}
-use mathlib.Core.Path.{_≡_, refl, ap, sym, _∙_}
+use mathlib.Core.Path.{_≡_, refl, ap, _∙_}
 use mathlib.Core.List.{List, [], _++_, append-assoc}
 use native.Mathlib.Nat.{mul-mod-right}
 use native.Mathlib.Omega.{arith}
 use lib.ListN.{length, take, length-append}
 use lib.Seq.{sets, length-take-le}
-use Rattle.model.specs.Basics.{sort}
 use Rattle.slices.specs.Bytes.{Stands, tableBytes}
 use Rattle.raw.specs.Rows.{versionInfoBytes, headerBytes}
 use Rattle.raw.specs.Head.{version-info, padding}
@@ -17,21 +16,18 @@ use Rattle.tables.specs.declared.Row.{Row}
 use Rattle.table_laws.proofs.Rows.{rows-length}
 use Rattle.sorting.proofs.Order.{sort-length}
 use Rattle.memory.specs.Memory.{Memory}
-use Rattle.memory.specs.declared.LastAddr.{LastAddr}
 use Rattle.memory.specs.declared.State.{State}
 use Rattle.memory.specs.declared.Converter.{Converter}
-use Rattle.serialize.specs.Sections.{file-row, function-row, call-row, entries, vacant-end, sentinel, in-order, location-row, start-row, range-sections}
-use Rattle.serialize.specs.File.{ranges-of, header-of, written-file, layout-of, Ready}
+use Rattle.serialize.specs.Sections.{file-row, function-row, call-row, entries, in-order, location-row, start-row, range-sections}
+use Rattle.serialize.specs.File.{ranges-of, header-of, written-file, layout-of}
 use Rattle.serialize.specs.declared.Layout.{Layout}
 use Rattle.serialize.proofs.Rows.{length-file-row, length-function-row, length-call-row, length-location-row, length-start-row, length-entries, padding-odd, padding-even}
 
 -- ── Lengths ──
 
-pub length-ranges : (c : Converter) (m : Memory) → length (ranges-of c m) ≡ c .state .ranges + length (sentinel (vacant-end (c .state .«last_addr») (m .ranges) (c .state .ranges)) (c .state .ranges))
+pub length-ranges : (c : Converter) (m : Memory) → length (ranges-of c m) ≡ c .state .ranges
 unfolding in-order
-length-ranges c m =
-    sort-length (entries 0 (rowsOf (m .ranges) (c .state .ranges)) ++ sentinel (vacant-end (c .state .«last_addr») (m .ranges) (c .state .ranges)) (c .state .ranges))
-    ∙ simp (length-append, length-entries, rows-length)
+length-ranges c m = sort-length (entries 0 (rowsOf (m .ranges) (c .state .ranges))) ∙ simp (length-entries, rows-length)
 
 pub length-padding : (n : ℕ) → length (padding (n * 4)) ≡ n % 2 * 4
 length-padding n = go (n % 2) refl (omega arith) where
@@ -124,7 +120,7 @@ module _ (c : Converter) (m : Memory) (id : length (c .«debug_id») ≡ 32) (n 
       → s₂ ≡ sets s₁ 80 (tableBytes file-row (rowsOf (m .files) (c .state .files)))
       → s₃ ≡ sets s₂ (at .functions) (tableBytes function-row (rowsOf (m .functions) (c .state .functions)))
       → s₄ ≡ sets s₃ (at .«call_locations») (tableBytes call-row (rowsOf (m .calls) (c .state .«call_locations»)))
-      → s₅ ≡ sets s₄ (at .locations) (range-sections (m .ranges) (c .state .ranges) (ranges-of c m))
+      → s₅ ≡ sets s₄ (at .locations) (range-sections (m .ranges) (ranges-of c m))
       → s₆ ≡ sets s₅ (at .padding) (padding (n * 4))
       → s₇ ≡ sets s₆ (at .texts) (take (c .state .«string_bytes») (m .text))
       → s₇ ≡ sets s 0 (written-file c m)
@@ -137,7 +133,7 @@ module _ (c : Converter) (m : Memory) (id : length (c .«debug_id») ≡ 32) (n 
       let f = tableBytes file-row (rowsOf (m .files) (st .files)) in
       let g = tableBytes function-row (rowsOf (m .functions) (st .functions)) in
       let k = tableBytes call-row (rowsOf (m .calls) (st .«call_locations»)) in
-      let ls = tableBytes (location-row (m .ranges) (st .ranges)) ps in
+      let ls = tableBytes (location-row (m .ranges)) ps in
       let ss = tableBytes start-row ps in
       let p = padding (n * 4) in
       let t = take (st .«string_bytes») (m .text) in
@@ -146,7 +142,7 @@ module _ (c : Converter) (m : Memory) (id : length (c .«debug_id») ≡ 32) (n 
       let lg : length g ≡ 16 * st .functions = length-rows function-row 16 length-function-row (m .functions) (st .functions) in
       let lk : length k ≡ 16 * st .«call_locations» = length-rows call-row 16 length-call-row (m .calls) (st .«call_locations») in
       let lr : length (ls ++ ss) ≡ 16 * n + 4 * n =
-      rw (length-append ls ss, length-table (location-row (m .ranges) (st .ranges)) 16 (length-location-row (m .ranges) (st .ranges)) ps, length-table start-row 4 length-start-row ps, size) in
+      rw (length-append ls ss, length-table (location-row (m .ranges)) 16 (length-location-row (m .ranges)) ps, length-table start-row 4 length-start-row ps, size) in
       let lp : length p ≡ n % 2 * 4 = length-padding n in
       rw size
       (then (v ++ h) (f ++ (g ++ (k ++ ((ls ++ ss) ++ (p ++ t))))) s s₁ s₇ 0 80 e₁ (omega arith)
@@ -166,24 +162,22 @@ module _ (c : Converter) (m : Memory) (id : length (c .«debug_id») ≡ 32) (n 
       let lf : length (tableBytes file-row (rowsOf (m .files) (st .files))) ≡ 24 * st .files = length-rows file-row 24 length-file-row (m .files) (st .files) in
       let lg : length (tableBytes function-row (rowsOf (m .functions) (st .functions))) ≡ 16 * st .functions = length-rows function-row 16 length-function-row (m .functions) (st .functions) in
       let lk : length (tableBytes call-row (rowsOf (m .calls) (st .«call_locations»))) ≡ 16 * st .«call_locations» = length-rows call-row 16 length-call-row (m .calls) (st .«call_locations») in
-      let ll : length (tableBytes (location-row (m .ranges) (st .ranges)) ps) ≡ 16 * n = rw (length-table (location-row (m .ranges) (st .ranges)) 16 (length-location-row (m .ranges) (st .ranges)) ps, size) in
+      let ll : length (tableBytes (location-row (m .ranges)) ps) ≡ 16 * n = rw (length-table (location-row (m .ranges)) 16 (length-location-row (m .ranges)) ps, size) in
       let ls : length (tableBytes start-row ps) ≡ 4 * n = rw (length-table start-row 4 length-start-row ps, size) in
       rw size (simp (length-append, length-version-info, length-head c n id, lf, lg, lk, ll, ls, length-padding n, length-take-le (st .«string_bytes») (m .text) h) (omega arith))
 
--- the same of the code's calls, one after the other: the ranges sorted with the sentinel are the file's
-pub sections-written : (c : Converter) (m : Memory) (end : LastAddr) (n texts room : ℕ) → Ready c (m .ranges) end n texts room → length (c .«debug_id») ≡ 32 → (at : Layout) → at ≡ layout-of (c .state) n
+-- the same of the code's calls, one after the other
+pub sections-written : (c : Converter) (m : Memory) → length (c .«debug_id») ≡ 32 → (at : Layout) → at ≡ layout-of (c .state) (c .state .ranges)
     → (s s₁ s₂ s₃ s₄ s₅ s₆ s₇ : List ℕ)
-    → s₁ ≡ sets s 0 (versionInfoBytes version-info ++ headerBytes (header-of c n))
+    → s₁ ≡ sets s 0 (versionInfoBytes version-info ++ headerBytes (header-of c (c .state .ranges)))
     → s₂ ≡ sets s₁ 80 (tableBytes file-row (rowsOf (m .files) (c .state .files)))
     → s₃ ≡ sets s₂ (at .functions) (tableBytes function-row (rowsOf (m .functions) (c .state .functions)))
     → s₄ ≡ sets s₃ (at .«call_locations») (tableBytes call-row (rowsOf (m .calls) (c .state .«call_locations»)))
-    → s₅ ≡ sets s₄ (at .locations) (range-sections (m .ranges) (c .state .ranges) (sort (entries 0 (rowsOf (m .ranges) (c .state .ranges)) ++ sentinel end (c .state .ranges))))
-    → s₆ ≡ sets s₅ (at .padding) (padding (n * 4))
+    → s₅ ≡ sets s₄ (at .locations) (range-sections (m .ranges) (ranges-of c m))
+    → s₆ ≡ sets s₅ (at .padding) (padding (c .state .ranges * 4))
     → s₇ ≡ sets s₆ (at .texts) (take (c .state .«string_bytes») (m .text))
     → s₇ ≡ sets s 0 (written-file c m)
-unfolding in-order
-sections-written c m end n texts room r id at e s s₁ s₂ s₃ s₄ s₅ s₆ s₇ e₁ e₂ e₃ e₄ e₅ e₆ e₇ =
-    joined c m id n (length-ranges c m ∙ sym (rw (r .last) at (r .size))) at (laid (c .state) n at e) s s₁ s₂ s₃ s₄ s₅ s₆ s₇ e₁ e₂ e₃ e₄ (rw (r .last) at e₅) e₆ e₇
+sections-written c m id at e = joined c m id (c .state .ranges) (length-ranges c m) at (laid (c .state) (c .state .ranges) at e)
 
 -- ── Where the sections stand ──
 
@@ -193,7 +187,7 @@ pub record Standing (c : Converter) (m : Memory) (at : Layout) (s : List ℕ) : 
   pub files : Stands (tableBytes file-row (rowsOf (m .files) (c .state .files))) s 80
   pub functions : Stands (tableBytes function-row (rowsOf (m .functions) (c .state .functions))) s (at .functions)
   pub calls : Stands (tableBytes call-row (rowsOf (m .calls) (c .state .«call_locations»))) s (at .«call_locations»)
-  pub locations : Stands (tableBytes (location-row (m .ranges) (c .state .ranges)) (ranges-of c m)) s (at .locations)
+  pub locations : Stands (tableBytes (location-row (m .ranges)) (ranges-of c m)) s (at .locations)
   pub starts : Stands (tableBytes start-row (ranges-of c m)) s (at .locations + length (ranges-of c m) * 16)
   pub padding : Stands (padding (length (ranges-of c m) * 4)) s (at .padding)
   pub texts : Stands (take (c .state .«string_bytes») (m .text)) s (at .texts)
@@ -218,14 +212,14 @@ standing c m id s w =
     let f = tableBytes file-row (rowsOf (m .files) (st .files)) in
     let g = tableBytes function-row (rowsOf (m .functions) (st .functions)) in
     let k = tableBytes call-row (rowsOf (m .calls) (st .«call_locations»)) in
-    let ls = tableBytes (location-row (m .ranges) (st .ranges)) ps in
+    let ls = tableBytes (location-row (m .ranges)) ps in
     let ss = tableBytes start-row ps in
     let p = padding (n * 4) in
     let t = take (st .«string_bytes») (m .text) in
     let lf : length f ≡ 24 * st .files = length-rows file-row 24 length-file-row (m .files) (st .files) in
     let lg : length g ≡ 16 * st .functions = length-rows function-row 16 length-function-row (m .functions) (st .functions) in
     let lk : length k ≡ 16 * st .«call_locations» = length-rows call-row 16 length-call-row (m .calls) (st .«call_locations») in
-    let ll : length ls ≡ 16 * n = length-table (location-row (m .ranges) (st .ranges)) 16 (length-location-row (m .ranges) (st .ranges)) ps in
+    let ll : length ls ≡ 16 * n = length-table (location-row (m .ranges)) 16 (length-location-row (m .ranges)) ps in
     let lss : length ss ≡ 4 * n = length-table start-row 4 length-start-row ps in
     let lp : length p ≡ n % 2 * 4 = length-padding n in
     let a₁ = parts v (h ++ (f ++ (g ++ (k ++ (ls ++ (ss ++ (p ++ t))))))) s 0 8 (rw (length-version-info version-info)) w in

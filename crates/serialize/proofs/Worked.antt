@@ -15,8 +15,7 @@ use Rattle.strings.specs.Strings.{textCapacityOf}
 use Rattle.memory.specs.Memory.{Memory, memory}
 use Rattle.memory.specs.Record.{usableIn, fitsIn}
 use Rattle.memory.specs.declared.Converter.{Converter}
-use Rattle.memory.specs.declared.LastAddr.the-variants.{Set}
-use Rattle.serialize.specs.Sections.{file-row, function-row, call-row, entries, in-order, entry-location, location-row, start-row}
+use Rattle.serialize.specs.Sections.{file-row, function-row, call-row, entries, in-order, location-row, start-row}
 use Rattle.serialize.specs.File.{written-file, wrote, serializeOf}
 
 location : ℕ → ℕ → ℕ → ℕ → SourceLocation
@@ -43,7 +42,7 @@ converter = record {
   «undecorate_functions» = false;
   «undecorate_symbols» = false;
   «open» = true;
-  state = record { «string_bytes» = 25; strings = 0; files = 2; functions = 2; «call_locations» = 1; ranges = 5; «last_addr» = Set 0x1010 };
+  state = record { «string_bytes» = 25; strings = 0; files = 2; functions = 2; «call_locations» = 1; ranges = 5 };
 }
 
 pub file : List ℕ
@@ -51,9 +50,9 @@ file =
     83 ∷ 89 ∷ 77 ∷ 67 ∷ 9 ∷ 0 ∷ 0 ∷ 0 ∷ 0 ∷ 0 ∷ 0 ∷ 0 ∷ 0 ∷ 0 ∷ 0 ∷ 0 ∷ 0 ∷ 0 ∷ 0 ∷ 0 ∷ 0 ∷ 0 ∷ 0 ∷ 0 ∷ 0 ∷ 0 ∷ 0 ∷ 0 ∷ 0 ∷ 0 ∷ 0 ∷ 0 ∷ 0 ∷ 0 ∷ 0 ∷ 0 ∷ 0 ∷ 0 ∷ 0 ∷ 0 ∷ 0 ∷ 0 ∷ 0 ∷ 0 ∷ 2 ∷ 0 ∷ 0 ∷ 0 ∷ 2 ∷ 0 ∷ 0 ∷ 0 ∷ 6 ∷ 0 ∷ 0 ∷ 0 ∷ 5 ∷ 0 ∷ 0 ∷ 0 ∷ 25 ∷ 0 ∷ 0 ∷ 0 ∷ 0 ∷ 0 ∷ 0 ∷ 0 ∷ 0 ∷ 0 ∷ 0 ∷ 0 ∷ 0 ∷ 0 ∷ 0 ∷ 0 ∷ 0 ∷ 0 ∷ 0 ∷ 0 ∷ 13 ∷ 0 ∷ 0 ∷ 0 ∷ 9 ∷ 0 ∷ 0 ∷ 0 ∷ 4 ∷ 0 ∷ 0 ∷ 0 ∷ 255 ∷ 255 ∷ 255 ∷ 255 ∷ 255 ∷ 255 ∷ 255 ∷ 255 ∷ 255 ∷ 255 ∷ 255 ∷ 255 ∷ 13 ∷ 0 ∷ 0 ∷ 0 ∷ 9 ∷ 0 ∷ 0 ∷ 0 ∷ 20 ∷ 0 ∷ 0 ∷ 0 ∷ 255 ∷ 255 ∷ 255 ∷ 255 ∷ 255 ∷ 255 ∷ 255 ∷ 255 ∷ 255 ∷ 255 ∷ 255 ∷ 255 ∷ 0 ∷ 0 ∷ 0 ∷ 0 ∷ 255 ∷ 255 ∷ 255 ∷ 255 ∷ 0 ∷ 16 ∷ 0 ∷ 0 ∷ 2 ∷ 0 ∷ 0 ∷ 0 ∷ 16 ∷ 0 ∷ 0 ∷ 0 ∷ 255 ∷ 255 ∷ 255 ∷ 255 ∷ 255 ∷ 255 ∷ 255 ∷ 255 ∷ 2 ∷ 0 ∷ 0 ∷ 0 ∷ 0 ∷ 0 ∷ 0 ∷ 0 ∷ 10 ∷ 0 ∷ 0 ∷ 0 ∷ 0 ∷ 0 ∷ 0 ∷ 0 ∷ 255 ∷ 255 ∷ 255 ∷ 255 ∷ 0 ∷ 0 ∷ 0 ∷ 0 ∷ 10 ∷ 0 ∷ 0 ∷ 0 ∷ 0 ∷ 0 ∷ 0 ∷ 0 ∷ 255 ∷ 255 ∷ 255 ∷ 255 ∷ 1 ∷ 0 ∷ 0 ∷ 0 ∷ 50 ∷ 0 ∷ 0 ∷ 0 ∷ 1 ∷ 0 ∷ 0 ∷ 0 ∷ 0 ∷ 0 ∷ 0 ∷ 0 ∷ 0 ∷ 0 ∷ 0 ∷ 0 ∷ 10 ∷ 0 ∷ 0 ∷ 0 ∷ 0 ∷ 0 ∷ 0 ∷ 0 ∷ 255 ∷ 255 ∷ 255 ∷ 255 ∷ 0 ∷ 0 ∷ 0 ∷ 0 ∷ 11 ∷ 0 ∷ 0 ∷ 0 ∷ 0 ∷ 0 ∷ 0 ∷ 0 ∷ 255 ∷ 255 ∷ 255 ∷ 255 ∷ 255 ∷ 255 ∷ 255 ∷ 255 ∷ 255 ∷ 255 ∷ 255 ∷ 255 ∷ 255 ∷ 255 ∷ 255 ∷ 255 ∷ 255 ∷ 255 ∷ 255 ∷ 255 ∷ 0 ∷ 16 ∷ 0 ∷ 0 ∷ 2 ∷ 16 ∷ 0 ∷ 0 ∷ 6 ∷ 16 ∷ 0 ∷ 0 ∷ 8 ∷ 16 ∷ 0 ∷ 0 ∷ 16 ∷ 16 ∷ 0 ∷ 0 ∷ 0 ∷ 0 ∷ 0 ∷ 0 ∷ 3 ∷ 116 ∷ 114 ∷ 107 ∷ 4 ∷ 97 ∷ 46 ∷ 114 ∷ 115 ∷ 3 ∷ 115 ∷ 114 ∷ 99 ∷ 2 ∷ 47 ∷ 98 ∷ 3 ∷ 112 ∷ 111 ∷ 115 ∷ 4 ∷ 112 ∷ 46 ∷ 114 ∷ 115 ∷ []
 
 pub worked-file : serializeOf converter tables (replicate 306 7) ≡ wrote 0 305 (file ++ (7 ∷ []))
-unfolding location put ranges tables converter file serializeOf usableIn fitsIn written-file versionInfoBytes headerBytes wordBytes le tableBytes file-row fileBytes function-row functionBytes call-row locationBytes location-row entry-location start-row rangeBytes padding in-order entries sort place before rowsFrom rowAt getOf lookupOf newestOf walk hitAt keyOf sameRow hashOf bucketOf linkAt headAt capacityOf textCapacityOf putOf putAt insertOf insertAt appendOf setRow
+unfolding location put ranges tables converter file serializeOf usableIn fitsIn written-file versionInfoBytes headerBytes wordBytes le tableBytes file-row fileBytes function-row functionBytes call-row locationBytes location-row start-row rangeBytes padding in-order entries sort place before rowsFrom rowAt getOf lookupOf newestOf walk hitAt keyOf sameRow hashOf bucketOf linkAt headAt capacityOf textCapacityOf putOf putAt insertOf insertAt appendOf setRow
 worked-file = refl
 
 pub worked-short : serializeOf converter tables (replicate 304 7) ≡ wrote 18 0 (replicate 304 7)
-unfolding location put ranges tables converter file serializeOf usableIn fitsIn written-file versionInfoBytes headerBytes wordBytes le tableBytes file-row fileBytes function-row functionBytes call-row locationBytes location-row entry-location start-row rangeBytes padding in-order entries sort place before rowsFrom rowAt getOf lookupOf newestOf walk hitAt keyOf sameRow hashOf bucketOf linkAt headAt capacityOf textCapacityOf putOf putAt insertOf insertAt appendOf setRow
+unfolding location put ranges tables converter file serializeOf usableIn fitsIn written-file versionInfoBytes headerBytes wordBytes le tableBytes file-row fileBytes function-row functionBytes call-row locationBytes location-row start-row rangeBytes padding in-order entries sort place before rowsFrom rowAt getOf lookupOf newestOf walk hitAt keyOf sameRow hashOf bucketOf linkAt headAt capacityOf textCapacityOf putOf putAt insertOf insertAt appendOf setRow
 worked-short = refl

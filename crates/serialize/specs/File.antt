@@ -1,8 +1,7 @@
 -- The written file, and what writing answers: document 01 "Writer" and "Who causes which number"; writer.rs, `serialize`. For any record and any content of the
 -- tables.
 use Prim.Native.Nat.{ℕ, _+_, _*_, _%_, _<_, _≤_}
-use mathlib.Core.Bool.{cond, _&&_}
-use mathlib.Core.Path.{_≡_}
+use mathlib.Core.Bool.{cond}
 use mathlib.Core.List.{List, _++_}
 use lib.Dec.{leb}
 use lib.ListN.{length, take, drop}
@@ -14,16 +13,15 @@ use Rattle.raw.specs.declared.Header.{Header}
 use Rattle.tables.specs.Table.{rowsOf}
 use Rattle.memory.specs.Memory.{Memory}
 use Rattle.memory.specs.Record.{usable?}
-use Rattle.memory.specs.declared.LastAddr.{LastAddr}
 use Rattle.memory.specs.declared.State.{State}
 use Rattle.memory.specs.declared.Converter.{Converter}
 use Rattle.serialize.specs.Sections.{head-size, file-size, function-size, location-size, range-size}
-use Rattle.serialize.specs.Sections.{file-row, function-row, call-row, vacant-end, sentinel, in-order, location-row, start-row}
+use Rattle.serialize.specs.Sections.{file-row, function-row, call-row, in-order, location-row, start-row}
 use Rattle.serialize.specs.declared.Layout.{Layout}
 
--- the ranges of the file, ascending, the sentinel with them
+-- the ranges of the file, ascending
 abbrev pub ranges-of : Converter → Memory → List Span
-ranges-of c m = in-order (c .state .«last_addr») (m .ranges) (c .state .ranges)
+ranges-of c m = in-order (m .ranges) (c .state .ranges)
 
 -- the header of a file with n ranges
 abbrev pub header-of : Converter → ℕ → Header
@@ -39,7 +37,7 @@ written-file c m =
     ++ (tableBytes file-row (rowsOf (m .files) (c .state .files))
     ++ (tableBytes function-row (rowsOf (m .functions) (c .state .functions))
     ++ (tableBytes call-row (rowsOf (m .calls) (c .state .«call_locations»))
-    ++ (tableBytes (location-row (m .ranges) (c .state .ranges)) ps
+    ++ (tableBytes (location-row (m .ranges)) ps
     ++ (tableBytes start-row ps ++ (padding (length ps * range-size) ++ take (c .state .«string_bytes») (m .text))))))))
 
 -- where the sections begin in a file with n ranges, and its length; the files follow the head, and four zeros an odd number of range starts
@@ -74,10 +72,8 @@ serializeOf c m out =
 
 -- ── What a private function's contract cites ───────────────────────────────────────────────────────────────────────────
 
--- what is known before the sections are written: the sentinel, the number of ranges with it, and that texts and output are long enough
-pub record Ready (c : Converter) (ranges : List ℕ) (end : LastAddr) (n texts out : ℕ) : Type 0 where
-  pub last : end ≡ vacant-end (c .state .«last_addr») ranges (c .state .ranges)
-  pub size : n ≡ c .state .ranges + length (sentinel end (c .state .ranges))
-  pub calls : c .state .«call_locations» + n < 4294967296
+-- what is known before the sections are written: the header's counts have 32 bits, and texts and output are long enough
+pub record Ready (c : Converter) (texts out : ℕ) : Type 0 where
+  pub calls : c .state .«call_locations» + c .state .ranges < 4294967296
   pub texts-there : c .state .«string_bytes» ≤ texts
-  pub room : layout-of (c .state) n .len ≤ out
+  pub room : layout-of (c .state) (c .state .ranges) .len ≤ out

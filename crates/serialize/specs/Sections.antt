@@ -1,21 +1,13 @@
 -- The sections of the written file: rows of the lent tables as rows of the file, for any content of the tables. Document 01 "Rows" and "Writer"; writer.rs,
 -- `serialize`.
 use Prim.Native.Nat.{ℕ, zero, suc, _+_}
-use mathlib.Core.Bool.{cond}
 use mathlib.Core.List.{List, [], _∷_, _++_}
-use lib.Dec.{ltb}
 use Rattle.model.specs.Basics.{Span, sort}
 use Rattle.slices.specs.Bytes.{leAt, wordBytes, tableBytes}
-use Rattle.raw.specs.Rows.{fileBytes, functionBytes, locationBytes, rangeBytes, noSourceLocation}
-use Rattle.raw.specs.declared.SourceLocation.{SourceLocation}
+use Rattle.raw.specs.Rows.{fileBytes, functionBytes, locationBytes, rangeBytes}
 use Rattle.tables.specs.Table.{rowAt, rowsOf}
 use Rattle.tables.specs.Kinds.{fileOfRow, functionOfRow, callOfRow, startOf, locationOf}
-use Rattle.tables.specs.Ranges.{getOf}
 use Rattle.tables.specs.declared.Row.{Row}
-use Rattle.tables.specs.declared.ranges.Found.{Found}
-use Rattle.tables.specs.declared.ranges.Found.the-variants.{Absent, At}
-use Rattle.memory.specs.declared.LastAddr.{LastAddr}
-use Rattle.memory.specs.declared.LastAddr.the-variants.{Unset, Set}
 
 -- ── Sizes, in bytes ────────────────────────────────────────────────────────────────────────────────────────────────────
 
@@ -59,37 +51,20 @@ unfoldable pub entries : ℕ → List Row → List Span
 entries k [] = []
 entries k (r ∷ rs) = record { from = startOf r; to = k } ∷ entries (suc k) rs
 
--- "Insert a trailing sentinel source location in case we have a definite end addr": where the last end is vacant among the ranges
-abbrev pub if-vacant : Found → ℕ → LastAddr
-if-vacant Absent a = Set a
-if-vacant (At l) a = Unset
-
-abbrev pub vacant-end : LastAddr → List ℕ → ℕ → LastAddr
-vacant-end Unset t n = Unset
-vacant-end (Set a) t n = if-vacant (getOf t n a) a
-
--- one entry more, with the count as its number
-abbrev pub sentinel : LastAddr → ℕ → List Span
-sentinel Unset n = []
-sentinel (Set a) n = record { from = a; to = n } ∷ []
-
 -- the ranges' entries by start, then by row number
-unfoldable pub in-order : LastAddr → List ℕ → ℕ → List Span
-in-order last t n = sort (entries 0 (rowsOf t n) ++ sentinel (vacant-end last t n) n)
+unfoldable pub in-order : List ℕ → ℕ → List Span
+in-order t n = sort (entries 0 (rowsOf t n))
 
--- an entry's location, which is the empty mapping for the sentinel, and its start
-unfoldable pub entry-location : List ℕ → ℕ → Span → SourceLocation
-entry-location t n p = cond (ltb (p .to) n) (locationOf (rowAt t (p .to))) noSourceLocation
-
-unfoldable pub location-row : List ℕ → ℕ → Span → List ℕ
-location-row t n p = locationBytes (entry-location t n p)
+-- an entry's location, that of its row, and its start
+unfoldable pub location-row : List ℕ → Span → List ℕ
+location-row t p = locationBytes (locationOf (rowAt t (p .to)))
 
 unfoldable pub start-row : Span → List ℕ
 start-row p = rangeBytes (record { 0 = p .from })
 
 -- the locations, then the starts
-unfoldable pub range-sections : List ℕ → ℕ → List Span → List ℕ
-range-sections t n ps = tableBytes (location-row t n) ps ++ tableBytes start-row ps
+unfoldable pub range-sections : List ℕ → List Span → List ℕ
+range-sections t ps = tableBytes (location-row t) ps ++ tableBytes start-row ps
 
 -- ── What private functions' contracts cite ─────────────────────────────────────────────────────────────────────────────
 

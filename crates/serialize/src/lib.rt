@@ -1,12 +1,10 @@
 // The written file: writer.rs, `serialize`, from the lent tables into a lent output.
 use memory::Converter;
-use memory::LastAddr;
 use memory::State;
 use memory::is_usable;
 use memory::lent;
 use raw::Header;
 use raw::Range;
-use raw::SourceLocation;
 use raw::VersionInfo;
 use slices::copy;
 use slices::load_u32;
@@ -16,19 +14,16 @@ use tables::kinds::file_of_row;
 use tables::kinds::function_of_row;
 use tables::kinds::location_of_row;
 use tables::kinds::start_of_row;
-use tables::ranges::Found;
 ghost use mathlib.Core.Path.{_≡_};
 ghost use Prim.Native.Nat.{ℕ, _+_, _*_, _≤_, _<_};
 ghost use mathlib.Core.List.{List, _++_};
 ghost use lib.ListN.{length, take};
 ghost use lib.Seq.{sets};
-ghost use Rattle.model.specs.Basics.{sort};
-ghost use Rattle.slices.specs.Bytes.{Words32, tableBytes};
-ghost use Rattle.tables.specs.Table.{maxRows, rowsOf};
-ghost use Rattle.sorting.specs.Pairs.{pairWords};
+ghost use Rattle.slices.specs.Bytes.{tableBytes};
+ghost use Rattle.tables.specs.Table.{rowsOf};
 ghost use Rattle.serialize.specs.Sections.{file-size, function-size, location-size, range-size, entry-size};
 ghost use Rattle.serialize.specs.Sections.{file-row, function-row, call-row, entries, entry-row, entries-at};
-ghost use Rattle.serialize.specs.Sections.{entry-location, range-sections, vacant-end, sentinel};
+ghost use Rattle.serialize.specs.Sections.{in-order, range-sections};
 ghost use Rattle.raw.specs.Rows.{versionInfoBytes, headerBytes};
 ghost use Rattle.raw.specs.Head.{version-info, padding};
 ghost use Rattle.memory.specs.Memory.{memory};
@@ -87,10 +82,7 @@ pub fn serialize(
             len: 0,
         };
     }
-    let last = state.last_addr;
-    let end = vacant_end(last, ranges, state.ranges);
-    let all = num_ranges(state.ranges, end);
-    let at = lay_out(state, all);
+    let at = lay_out(state);
     let len = at.len;
     if out.len() < len {
         return Written {
@@ -101,8 +93,6 @@ pub fn serialize(
     write_sections(
         out,
         converter,
-        end,
-        all,
         string_bytes,
         files,
         functions,
@@ -112,57 +102,31 @@ pub fn serialize(
     Written { code: 0, len }
 }
 
-// The file, from the front of the output on. `end` is the sentinel, if there is one, and `all` the number of ranges with it.
+// The file, from the front of the output on.
 fn write_sections(
     out: &mut [u8],
     converter: Converter,
-    end: LastAddr,
-    all: u32,
     string_bytes: &[u8],
     files: &[u32],
     functions: &[u32],
     call_locations: &[u32],
     ranges: &[u32],
 )
-    requires { ⌜ Ready converter (now ranges) end all (length (now «string_bytes»)) (length (now out)) ⌝ }
+    requires { ⌜ Ready converter (length (now «string_bytes»)) (length (now out)) ⌝ }
     ensures { λ _. ⌜ ((index : List ℕ) →
         let lent = memory (now («string_bytes» .entry)) index (now (files .entry))
         (now (functions .entry)) (now («call_locations» .entry)) (now (ranges .entry)) in
         now (out .exit) ≡ sets (now (out .entry)) 0 (written-file converter lent)) ⌝ }
 {
     let state = converter.state;
-    let at = lay_out(state, all);
-    write_head(out, converter, all);
+    let at = lay_out(state);
+    write_head(out, converter);
     write_files(out, HEAD_SIZE, files, state.files);
     write_functions(out, at.functions, functions, state.functions);
     write_call_locations(out, at.call_locations, call_locations, state.call_locations);
-    write_sorted(out, at.locations, ranges, state.ranges, end, all);
-    write_padding(out, at.padding, all);
+    write_sorted(out, at.locations, ranges, state.ranges);
+    write_padding(out, at.padding, state.ranges);
     write_texts(out, at.texts, string_bytes, state.string_bytes);
-}
-
-// The last end, where it is vacant among the ranges.
-fn vacant_end(last: LastAddr, ranges: &[u32], count: u32) -> LastAddr
-    ensures { λ r. ⌜ r ≡ vacant-end last (now (ranges .entry)) count ⌝ }
-{
-    match last {
-        LastAddr::Unset => LastAddr::Unset,
-        LastAddr::Set(a) => match tables::ranges::get(ranges, count, a) {
-            Found::Absent => LastAddr::Set(a),
-            Found::At(_) => LastAddr::Unset,
-        },
-    }
-}
-
-// How many ranges the file has: the sentinel is one more.
-fn num_ranges(count: u32, end: LastAddr) -> u32
-    requires { ⌜ count ≤ maxRows ⌝ }
-    ensures { λ r. ⌜ r ≡ count + length (sentinel end count) ⌝ }
-{
-    match end {
-        LastAddr::Unset => count,
-        LastAddr::Set(_) => count + 1,
-    }
 }
 
 // Where the sections begin, and the file's length. The files follow the head.
@@ -175,11 +139,11 @@ struct Layout {
     len: usize,
 }
 
-// The layout of a file with `all` ranges.
-fn lay_out(state: State, all: u32) -> Layout
-    ensures { λ r. ⌜ r ≡ layout-of state all ⌝ }
+// The layout of the file.
+fn lay_out(state: State) -> Layout
+    ensures { λ r. ⌜ r ≡ layout-of state (state .ranges) ⌝ }
 {
-    let n = all as usize;
+    let n = state.ranges as usize;
     let functions = HEAD_SIZE + (state.files as usize) * FILE_SIZE;
     let call_locations = functions + (state.functions as usize) * FUNCTION_SIZE;
     let locations = call_locations + (state.call_locations as usize) * LOCATION_SIZE;
@@ -196,13 +160,14 @@ fn lay_out(state: State, all: u32) -> Layout
     }
 }
 
-// Magic, version and header of a file with `all` ranges.
-fn write_head(out: &mut [u8], converter: Converter, all: u32)
-    requires { ⌜ converter .state .«call_locations» + all < 4294967296 ⌝ }
-    ensures { λ _. ⌜ now (out .exit) ≡ sets (now (out .entry)) 0 (versionInfoBytes version-info ++ headerBytes (header-of converter all)) ⌝ }
+// Magic, version and header.
+fn write_head(out: &mut [u8], converter: Converter)
+    requires { ⌜ converter .state .«call_locations» + converter .state .ranges < 4294967296 ⌝ }
+    ensures { λ _. ⌜ now (out .exit) ≡ sets (now (out .entry)) 0
+        (versionInfoBytes version-info ++ headerBytes (header-of converter (converter .state .ranges))) ⌝ }
 {
     let state = converter.state;
-    let num_source_locations = state.call_locations + all;
+    let num_source_locations = state.call_locations + state.ranges;
     let debug_id = converter.debug_id;
     let reserved = [0u8; 14];
     raw::write_version_info(
@@ -222,7 +187,7 @@ fn write_head(out: &mut [u8], converter: Converter, all: u32)
             num_files: state.files,
             num_functions: state.functions,
             num_source_locations,
-            num_ranges: all,
+            num_ranges: state.ranges,
             string_bytes: state.string_bytes,
             variable_header: 0,
             reserved,
@@ -270,17 +235,16 @@ fn write_call_locations(out: &mut [u8], at: usize, call_locations: &[u32], count
 }
 
 // The locations of the ranges from `at` on and then their starts, ascending. The entries are sorted in the second half of the room for the locations.
-fn write_sorted(out: &mut [u8], at: usize, ranges: &[u32], count: u32, end: LastAddr, all: u32)
-    requires { ⌜ (all ≡ count + length (sentinel end count)) × (at + all * (location-size + range-size) ≤ length (now out)) ⌝ }
-    ensures { λ _. ⌜ (let ascending = sort (entries 0 (rowsOf (now (ranges .entry)) count) ++ sentinel end count) in
-        now (out .exit) ≡ sets (now (out .entry)) at (range-sections (now (ranges .entry)) count ascending)) ⌝ }
+fn write_sorted(out: &mut [u8], at: usize, ranges: &[u32], count: u32)
+    requires { ⌜ at + count * (location-size + range-size) ≤ length (now out) ⌝ }
+    ensures { λ _. ⌜ (let ascending = in-order (now (ranges .entry)) count in
+        now (out .exit) ≡ sets (now (out .entry)) at (range-sections (now (ranges .entry)) ascending)) ⌝ }
 {
-    let entries = at + (all as usize) * ENTRY_SIZE;
-    let starts = at + (all as usize) * LOCATION_SIZE;
+    let entries = at + (count as usize) * ENTRY_SIZE;
+    let starts = at + (count as usize) * LOCATION_SIZE;
     write_entries(out, entries, ranges, count);
-    write_sentinel(out, entries + (count as usize) * ENTRY_SIZE, end, count);
     sorting::sort_entries(&mut out[entries..starts]);
-    write_ranges(out, at, ranges, count, all);
+    write_ranges(out, at, ranges, count);
 }
 
 // An entry: a range's start and its row number, eight bytes.
@@ -305,53 +269,32 @@ fn write_entries(out: &mut [u8], at: usize, ranges: &[u32], count: u32)
     }
 }
 
-// The sentinel's entry, if there is one.
-fn write_sentinel(out: &mut [u8], at: usize, end: LastAddr, count: u32)
-    requires { ⌜ at + entry-size * length (sentinel end count) ≤ length (now out) ⌝ }
-    ensures { λ _. ⌜ (now (out .exit) ≡ sets (now (out .entry)) at (tableBytes entry-row (sentinel end count))) × Words32 (pairWords (sentinel end count)) ⌝ }
-{
-    match end {
-        LastAddr::Unset => {}
-        LastAddr::Set(a) => write_entry(out, at, a, count),
-    }
-}
-
-// The locations of the ranges from `at` on, then their starts, in the order of the entries. There are `all` of them, in the second half of the room for
+// The locations of the ranges from `at` on, then their starts, in the order of the entries. There are `count` of them, in the second half of the room for
 // the locations: location i ends where entry i does at the latest, and nothing is read that was written over.
-fn write_ranges(out: &mut [u8], at: usize, ranges: &[u32], count: u32, all: u32)
-    requires { ⌜ at + all * (location-size + range-size) ≤ length (now out) ⌝ }
-    ensures { λ _. ⌜ (let read = entries-at all (now (out .entry)) (at + all * entry-size) in
-        now (out .exit) ≡ sets (now (out .entry)) at (range-sections (now (ranges .entry)) count read)) ⌝ }
+fn write_ranges(out: &mut [u8], at: usize, ranges: &[u32], count: u32)
+    requires { ⌜ at + count * (location-size + range-size) ≤ length (now out) ⌝ }
+    ensures { λ _. ⌜ (let read = entries-at count (now (out .entry)) (at + count * entry-size) in
+        now (out .exit) ≡ sets (now (out .entry)) at (range-sections (now (ranges .entry)) read)) ⌝ }
 {
-    let entries = at + (all as usize) * ENTRY_SIZE;
-    let starts = at + (all as usize) * LOCATION_SIZE;
+    let entries = at + (count as usize) * ENTRY_SIZE;
+    let starts = at + (count as usize) * LOCATION_SIZE;
     let mut i: u32 = 0;
-    while i < all {
+    while i < count {
         let k = i as usize;
         let start = load_u32(out, entries + k * ENTRY_SIZE);
         let row = load_u32(out, entries + k * ENTRY_SIZE + RANGE_SIZE);
-        let l = entry_location(ranges, count, start, row);
+        let l = location_of_row(tables::row_at(ranges, row));
         raw::write_range(out, starts + k * RANGE_SIZE, Range(start));
         raw::write_location(out, at + k * LOCATION_SIZE, l);
         i += 1;
     }
 }
 
-// The location of an entry: the sentinel's is the empty mapping.
-fn entry_location(ranges: &[u32], count: u32, start: u32, row: u32) -> SourceLocation
-    ensures { λ r. ⌜ r ≡ entry-location (now (ranges .entry)) count (record { from = start; to = row }) ⌝ }
-{
-    if row < count {
-        return location_of_row(tables::row_at(ranges, row));
-    }
-    SourceLocation::NO_SOURCE_LOCATION
-}
-
 // Zeros from the end of so many range starts up to a multiple of 8: four or none.
-fn write_padding(out: &mut [u8], at: usize, all: u32)
-    ensures { λ _. ⌜ now (out .exit) ≡ sets (now (out .entry)) at (padding (all * range-size)) ⌝ }
+fn write_padding(out: &mut [u8], at: usize, count: u32)
+    ensures { λ _. ⌜ now (out .exit) ≡ sets (now (out .entry)) at (padding (count * range-size)) ⌝ }
 {
-    if all % 2 == 1 {
+    if count % 2 == 1 {
         store_u32(out, at, 0);
     }
 }

@@ -152,6 +152,4 @@ lens-kept X = record {
   enter = λ l s. add-call-lens s l;
   sym-begin = λ y s. store-lens s (symbol-name X y);
   sym-locate = λ y p s. add-function-lens s p (y .address) MAX;
-  mark-end = λ e s. refl;
-  mark-symbol = λ y s. refl;
 }

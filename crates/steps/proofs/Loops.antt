@@ -6,7 +6,7 @@ use mathlib.Core.List.{List, [], _∷_}
 use Prim.Native.Nat.{ℕ, suc}
 use lib.Dec.{ltb}
 use Rattle.model.specs.Basics.{Span, Deep, sort}
-use Rattle.model.specs.Machine.{Input, Machine, Ref, OpM, treeM, symbolM, advanceM, set-atM, kid-spansM, unless-held, put-end, walkM, loopM, entryM, closingM, rowM, convertM, startM, named-symbolM, convert-symbolM, convert-opM, runM, finishM}
+use Rattle.model.specs.Machine.{Input, Machine, Ref, OpM, treeM, symbolM, advanceM, set-atM, kid-spansM, unless-held, put-end, walkM, loopM, entryM, closingM, rowM, convertM, startM, named-symbolM, convert-symbolM, convert-opM, runM}
 
 module _ {Q N Y R P L C S A : Type 0} (I : Input Q N Y) (M : Machine Q N Y R P L C S) (f : S → A) where
   -- f is what is kept of the state
@@ -17,8 +17,6 @@ module _ {Q N Y R P L C S A : Type 0} (I : Input Q N Y) (M : Machine Q N Y R P L
     pub enter : (l : L) (s : S) → f (M .enter l s .1) ≡ f s
     pub sym-begin : (y : Y) (s : S) → f (M .sym-begin y s .1) ≡ f s
     pub sym-locate : (y : Y) (p : P) (s : S) → f (M .sym-locate y p s .1) ≡ f s
-    pub mark-end : (e : ℕ) (s : S) → f (M .mark-end e s) ≡ f s
-    pub mark-symbol : (a : ℕ) (s : S) → f (M .mark-symbol a s) ≡ f s
 
   module _ (k : Keeps) where
     -- ── One range ──
@@ -95,7 +93,7 @@ module _ {Q N Y R P L C S A : Type 0} (I : Input Q N Y) (M : Machine Q N Y R P L
 
       pub closing-keeps : (s : S) → f (closingM I M q r s) ≡ f s
       unfolding closingM
-      closing-keeps s = put-end-keeps (I .stop q) (M .mark-end (I .stop q) (entryM I M q r s)) ∙ (k .mark-end (I .stop q) (entryM I M q r s) ∙ entry-keeps s)
+      closing-keeps s = put-end-keeps (I .stop q) (entryM I M q r s) ∙ entry-keeps s
 
     -- ── Rows, symbols, lists ──
 
@@ -130,14 +128,11 @@ module _ {Q N Y R P L C S A : Type 0} (I : Input Q N Y) (M : Machine Q N Y R P L
         l : L × S
         l = M .sym-locate y (b .0) (b .1)
 
-        u : S
-        u = unless-held I M (I .sym-addr y) (M .put (I .sym-addr y) (l .0) (l .1)) (b .1)
-
         t : S
-        t = M .mark-symbol (I .sym-addr y) u
+        t = unless-held I M (I .sym-addr y) (M .put (I .sym-addr y) (l .0) (l .1)) (b .1)
 
         kept : f t ≡ f s
-        kept = k .mark-symbol (I .sym-addr y) u ∙ (unless-held-keeps (I .sym-addr y) (M .put (I .sym-addr y) (l .0) (l .1)) (b .1) (k .put (I .sym-addr y) (l .0) (l .1) ∙ k .sym-locate y (b .0) (b .1)) ∙ k .sym-begin y s)
+        kept = unless-held-keeps (I .sym-addr y) (M .put (I .sym-addr y) (l .0) (l .1)) (b .1) (k .put (I .sym-addr y) (l .0) (l .1) ∙ k .sym-locate y (b .0) (b .1)) ∙ k .sym-begin y s
 
         go : (o : Option ℕ) → f (elim o [ none ↦ t | some e ↦ put-end I M e t ]) ≡ f t
         go none = refl
@@ -160,11 +155,3 @@ module _ {Q N Y R P L C S A : Type 0} (I : Input Q N Y) (M : Machine Q N Y R P L
     unfolding runM
     run-keeps [] s = refl
     run-keeps (o ∷ os) s = run-keeps os (convert-opM I M o s) ∙ op-keeps o s
-
-    pub finish-keeps : (s : S) → f (finishM I M s) ≡ f s
-    unfolding finishM
-    finish-keeps s = go (M .last s)
-      where
-        go : (o : Option ℕ) → f (elim o [ none ↦ s | some a ↦ put-end I M a s ]) ≡ f s
-        go none = refl
-        go (some a) = put-end-keeps a s

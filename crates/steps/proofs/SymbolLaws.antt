@@ -11,10 +11,8 @@ use Rattle.model.specs.Converter.{Setup, input, symbol-name}
 use Rattle.rows.specs.Columns.{textOf}
 use Rattle.rows.specs.declared.OptionalPart.{OptionalPart}
 use Rattle.tables.specs.Ranges.{getOf}
-use Rattle.memory.specs.declared.State.{State}
 use Rattle.memory.specs.Memory.{Words}
-use Rattle.steps.specs.Steps.{gave, store, add-function, put-range, location, free, cleared-of, over-words}
-use Rattle.memory.specs.Record.{with-last}
+use Rattle.steps.specs.Steps.{gave, store, add-function, put-range, location, free, over-words}
 use Rattle.steps.proofs.Ranges.{put-where-free, kept-where-held}
 use Rattle.steps.specs.Symbols.{symbolRow, symbol-put, end-put, namedRow}
 
@@ -47,14 +45,12 @@ module _ (X : Setup) (a z : ℕ) (t : Text) (s : Words) where
 -- ── A symbol ───────────────────────────────────────────────────────────────────────────────────────────────────────────
 
 module _ (X : Setup) (y : SymbolRow) (s : Words) where
-  -- the text, the location, the last end, the empty mapping
-  pub named-law : {shown : Text} {p : ℕ} {t u v : Words} {st : State} → shown ≡ symbol-name X y → gave p t ≡ store shown s → u ≡ symbol-put X p (y .address) t
-      → st ≡ with-last (u .st) (cleared-of (u .st .«last_addr») (y .address)) → v ≡ end-put X (symbol-end y) (record { st = st; mm = u .mm })
-      → v ≡ named-symbolM input (over-words X) y s
+  -- the text, the location, the empty mapping
+  pub named-law : {shown : Text} {p : ℕ} {t u v : Words} → shown ≡ symbol-name X y → gave p t ≡ store shown s → u ≡ symbol-put X p (y .address) t
+      → v ≡ end-put X (symbol-end y) u → v ≡ named-symbolM input (over-words X) y s
   unfolding named-symbolM
-  named-law {u = u} n e l m k =
-      k ∙ ap (λ (r : State). end-put X (symbol-end y) (record { st = r; mm = u .mm })) m
-      ∙ ap (λ (w : Words). end-put X (symbol-end y) (record { st = with-last (w .st) (cleared-of (w .st .«last_addr») (y .address)); mm = w .mm }))
+  named-law n e l k =
+      k ∙ ap (λ (w : Words). end-put X (symbol-end y) w)
       (l ∙ ap (λ (q : ℕ × Words). symbol-put X (q .0) (y .address) (q .1)) (e ∙ ap (λ (r : Text). store r s) n))
 
 -- "Symbols counted are named, at addresses up to MAX"

@@ -4,7 +4,6 @@ use mathlib.Core.Bool.{Bool, true, false, cond}
 use mathlib.Core.Option.{Option, none, some}
 use mathlib.Core.List.{List}
 use Prim.Native.Nat.{ℕ}
-use lib.Dec.{ltb}
 use Rattle.model.specs.Rows.{MAX, cut32, Text, LineRow, FunctionRow, SymbolRow}
 use Rattle.model.specs.Machine.{Machine}
 use Rattle.model.specs.Converter.{Setup, Six, function-name, symbol-name, line-texts, entry-of}
@@ -22,9 +21,7 @@ use Rattle.tables.specs.declared.Row.{Row}
 use Rattle.tables.specs.declared.ranges.Found.{Found}
 use Rattle.tables.specs.declared.ranges.Found.the-variants.{Absent, At}
 use Rattle.memory.specs.Memory.{Words}
-use Rattle.memory.specs.Record.{texts-become, files-become, functions-become, calls-become, ranges-become, with-last}
-use Rattle.memory.specs.declared.LastAddr.{LastAddr}
-use Rattle.memory.specs.declared.LastAddr.the-variants.{Unset, Set}
+use Rattle.memory.specs.Record.{texts-become, files-become, functions-become, calls-become, ranges-become}
 
 -- ── The steps ──────────────────────────────────────────────────────────────────────────────────────────────────────────
 
@@ -141,21 +138,6 @@ abbrev pub free : Found → Bool
 free Absent = true
 free (At l) = isNoSourceLocation l
 
--- the last end
-abbrev pub last-of : LastAddr → Option ℕ
-last-of Unset = none
-last-of (Set a) = some a
-
--- "get_or_insert(0)", and the greater end
-abbrev pub later-of : LastAddr → ℕ → LastAddr
-later-of Unset e = Set e
-later-of (Set a) e = cond (ltb a e) (Set e) (Set a)
-
--- "a named symbol at or above it (unset counts as 0) clears it"
-abbrev pub cleared-of : LastAddr → ℕ → LastAddr
-cleared-of Unset y = Unset
-cleared-of (Set a) y = cond (ltb y a) (Set a) Unset
-
 -- ── The machine ────────────────────────────────────────────────────────────────────────────────────────────────────────
 
 -- a line's location has a file; a function with no line, and a symbol, have none, and line 0
@@ -173,7 +155,4 @@ module _ (X : Setup) where
     base = MAX;
     sym-begin = λ y s. store (symbol-name X y) s;
     sym-locate = λ y p s. let f = add-function p (y .address) MAX s in gave (location MAX 0 (f .0) MAX) (f .1);
-    last = λ s. last-of (s .st .«last_addr»);
-    mark-end = λ e s. record { st = with-last (s .st) (later-of (s .st .«last_addr») e); mm = s .mm };
-    mark-symbol = λ y s. record { st = with-last (s .st) (cleared-of (s .st .«last_addr») y); mm = s .mm };
   }

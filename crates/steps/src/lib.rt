@@ -1,6 +1,5 @@
 // The steps of the converter (writer.rs, `SymCacheConverter`) on the lent tables. What is in use of each goes in and comes back by value.
 // A step's contract gives the tables that it does not touch any content: they stay as they are.
-use memory::LastAddr;
 use memory::State;
 use raw::File;
 use raw::Function;
@@ -24,8 +23,7 @@ ghost use Rattle.rows.specs.Columns.{textOf};
 ghost use Rattle.model.specs.Machine.{unless-held, put-end};
 ghost use Rattle.model.specs.Converter.{Setup, input};
 ghost use Rattle.memory.specs.Memory.{words};
-ghost use Rattle.memory.specs.Record.{with-last};
-ghost use Rattle.steps.specs.Steps.{gave, store, add-function, add-file-row, add-call, put-range, vacant, free, later-of, cleared-of};
+ghost use Rattle.steps.specs.Steps.{gave, store, add-function, add-file-row, add-call, put-range, vacant, free};
 ghost use Rattle.steps.specs.Steps.{begin-named, no-part, or-no-part, sixOf, store-row, locate-six, over-words};
 
 pub mod symbols;
@@ -191,66 +189,6 @@ pub fn insert_end(state: State, ranges: &mut [u32], end: u32) -> State
         return insert_range(state, ranges, end, SourceLocation::NO_SOURCE_LOCATION);
     }
     state
-}
-
-// The greater end.
-fn later(last: LastAddr, end: u32) -> LastAddr
-    ensures { λ r. ⌜ r ≡ later-of last end ⌝ }
-{
-    match last {
-        LastAddr::Unset => LastAddr::Set(end),
-        LastAddr::Set(a) => {
-            if a < end {
-                return LastAddr::Set(end);
-            }
-            last
-        }
-    }
-}
-
-// Unset from the last end on.
-fn cleared(last: LastAddr, address: u32) -> LastAddr
-    ensures { λ r. ⌜ r ≡ cleared-of last address ⌝ }
-{
-    match last {
-        LastAddr::Unset => LastAddr::Unset,
-        LastAddr::Set(a) => {
-            if address < a {
-                return last;
-            }
-            LastAddr::Unset
-        }
-    }
-}
-
-fn with_last(state: State, last_addr: LastAddr) -> State
-    ensures { λ r. ⌜ r ≡ with-last state «last_addr» ⌝ }
-{
-    State {
-        string_bytes: state.string_bytes,
-        strings: state.strings,
-        files: state.files,
-        functions: state.functions,
-        call_locations: state.call_locations,
-        ranges: state.ranges,
-        last_addr,
-    }
-}
-
-// A function's end may become the last end.
-pub fn mark_end(state: State, end: u32) -> State
-    ensures { λ r. ⌜ r ≡ with-last state (later-of (state .«last_addr») end) ⌝ }
-{
-    let last = state.last_addr;
-    with_last(state, later(last, end))
-}
-
-// A named symbol at or above the last end clears it.
-pub fn mark_symbol(state: State, address: u32) -> State
-    ensures { λ r. ⌜ r ≡ with-last state (cleared-of (state .«last_addr») address) ⌝ }
-{
-    let last = state.last_addr;
-    with_last(state, cleared(last, address))
 }
 
 // A name as it is stored: undecorated where that is on.

@@ -15,7 +15,6 @@ use crate::insert_function;
 use crate::insert_range;
 use crate::insert_string;
 use crate::is_free;
-use crate::mark_symbol;
 use crate::shown_name;
 use memory::State;
 
@@ -92,7 +91,7 @@ fn process_named(
     let shown = shown_name(name, undecorate);
     let text = insert_string(state, string_bytes, strings, shown);
     let placed = insert_symbol(text.state, functions, ranges, text.index, address);
-    insert_symbol_end(mark_symbol(placed, address), ranges, address, size)
+    insert_symbol_end(placed, ranges, address, size)
 }
 
 // One that is unnamed, or at an address above 32 bits, changes nothing.

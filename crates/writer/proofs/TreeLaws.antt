@@ -61,10 +61,9 @@ module _ (X : Setup) (p : FunctionRow) (fi : ℕ) (w : Words) where
   unfolding entryM
   entry-own a w₁ h e f = rw (h, entryM) (rw e at f)
 
-  pub closing : (a : ℕ) (w₁ w₂ w₃ : Words) → w₁ ≡ entryM input (over-words X) p fi w → a ≡ function-end p → w₂ ≡ over-words X .mark-end a w₁ → w₃ ≡ put-end input (over-words X) a w₂
-      → w₃ ≡ closingM input (over-words X) p fi w
+  pub closing : (a : ℕ) (w₁ w₂ : Words) → w₁ ≡ entryM input (over-words X) p fi w → a ≡ function-end p → w₂ ≡ put-end input (over-words X) a w₁ → w₂ ≡ closingM input (over-words X) p fi w
   unfolding closingM
-  closing a w₁ w₂ w₃ e₁ e₂ e₃ e₄ = e₄ ∙ ap (put-end input (over-words X) a) (e₃ ∙ ap (over-words X .mark-end a) e₁) ∙ ap (λ (x : ℕ). put-end input (over-words X) x (over-words X .mark-end x (entryM input (over-words X) p fi w))) e₂
+  closing a w₁ w₂ e₁ e₂ e₃ = e₃ ∙ ap (put-end input (over-words X) a) e₁ ∙ ap (λ (x : ℕ). put-end input (over-words X) x (entryM input (over-words X) p fi w)) e₂
 
 cut-same : (a b c d : ℕ) → a ≡ c → b ≡ d → (c + d) % 4294967296 ≡ (a + b) % 4294967296
 cut-same a b c d e f = rw (e, f)

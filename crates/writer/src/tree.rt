@@ -14,7 +14,6 @@ use steps::Indexed;
 use steps::begin_function;
 use steps::insert_end;
 use steps::insert_source_location;
-use steps::mark_end;
 ghost use mathlib.Core.Path.{_≡_};
 ghost use mathlib.Core.Bool.{Bool, true, cond};
 ghost use mathlib.Core.List.{List, []};
@@ -115,7 +114,7 @@ fn insert_entry(state: State, ranges: &mut [u32], q: FunctionRow, function_idx: 
     insert_source_location(state, ranges, entry, bare)
 }
 
-// After a function's own lines: its entry, the last end, and the empty mapping at its end.
+// After a function's own lines: its entry, and the empty mapping at its end.
 fn close_function(state: State, ranges: &mut [u32], q: FunctionRow, function_idx: u32) -> State
     ensures { λ r. ⌜ ((X : Setup) (p : ModelRow) (x i f g c : List ℕ) →
         let before = words state x i f g c (now (ranges .entry)) in
@@ -125,8 +124,7 @@ fn close_function(state: State, ranges: &mut [u32], q: FunctionRow, function_idx
 {
     let entered = insert_entry(state, ranges, q, function_idx);
     let end = function_end(q);
-    let marked = mark_end(entered, end);
-    insert_end(marked, ranges, end)
+    insert_end(entered, ranges, end)
 }
 
 // The call locations of the functions at a depth.

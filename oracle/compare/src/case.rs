@@ -6,7 +6,7 @@ use oracle::answers::{Columns, FUNCTION32, FUNCTION64, LINE32, LINE64};
 use oracle::claims::ranges_in_domain;
 use oracle::original::State;
 use oracle::{Begin, Call, Kept, Row, Session, Sym, arch, begin_script, call_script, language};
-use symcache::ffi::{self, CACHE_WORDS, FUNCTIONS32_WORDS, FUNCTIONS64_WORDS, LINES32_WORDS, LINES64_WORDS, RECORD_WORDS};
+use symcache::ffi::{self, c, CACHE_WORDS, FUNCTIONS32_WORDS, FUNCTIONS64_WORDS, LINES32_WORDS, LINES64_WORDS, RECORD_WORDS};
 
 use crate::memory::{Lent, Memory, TABLES};
 use crate::reader::Difference;
@@ -77,7 +77,7 @@ pub struct Case {
     pub capacity: [Room; 6],
     /// Words of a lent table that make no row.
     pub spare: [usize; 5],
-    /// Words of the record after the 20th.
+    /// Words of the record after the 18th.
     pub record: usize,
     /// A call lies outside the domain for equality: numbers alone are compared.
     pub numbers_only: bool,
@@ -278,7 +278,7 @@ impl Case {
         memory.set_tables(capacity, self.spare);
         memory.record.set(RECORD_WORDS + self.record, 0xA1A1_A1A1, 0xB2B2_B2B2);
         // No converter is open before the first beginning.
-        memory.record.get_mut()[19] = 0;
+        memory.record.get_mut()[c::SYMCACHE_RECORD_OPEN] = 0;
         let mut begun = Begin::default();
         let mut open = false;
         let mut state = NOTHING;
@@ -341,12 +341,12 @@ impl Case {
             }
             _ => {}
         }
-        let is_open = std::mem::replace(&mut memory.record.get_mut()[19], 0);
+        let is_open = std::mem::replace(&mut memory.record.get_mut()[c::SYMCACHE_RECORD_OPEN], 0);
         if !lend.closed {
-            memory.record.get_mut()[19] = is_open;
+            memory.record.get_mut()[c::SYMCACHE_RECORD_OPEN] = is_open;
         }
         if lend.flags {
-            for flag in [9, 10, 17, 19] {
+            for flag in [9, 10, c::SYMCACHE_RECORD_OPEN] {
                 if memory.record.get()[flag] != 0 {
                     memory.record.get_mut()[flag] = 7 << flag;
                 }
@@ -371,7 +371,7 @@ impl Case {
             return Err(format!("number {number}, yet {what} changed"));
         }
         if lend.closed && number != 0 {
-            memory.record.get_mut()[19] = is_open;
+            memory.record.get_mut()[c::SYMCACHE_RECORD_OPEN] = is_open;
         }
         match (&item.op, number) {
             (Op::Write, 0) => {
@@ -451,9 +451,7 @@ fn record_words(begun: &Begin, state: &State, open: bool) -> [u32; RECORD_WORDS]
     for (word, used) in out[11..17].iter_mut().zip(uses(state)) {
         *word = used as u32;
     }
-    out[17] = u32::from(state.last_end.is_some());
-    out[18] = state.last_end.unwrap_or(0);
-    out[19] = u32::from(open);
+    out[c::SYMCACHE_RECORD_OPEN] = u32::from(open);
     out
 }
 

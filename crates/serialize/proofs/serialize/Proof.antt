@@ -3,13 +3,13 @@ use mathlib.Core.Path.{_≡_}
 use lib.ListN.{length}
 use borrow.Author.Needs.{needs}
 use Rattle.memory.specs.Memory.{Memory, memory}
-use Rattle.serialize.proofs.Answers.{counts, closed, short, ready, done}
+use Rattle.serialize.proofs.Answers.{closed, short, ready, done}
 use Rattle.serialize.proofs.serialize.Statement.{statement}
 use Rattle.serialize.proofs.serialize.Tie as tie
 
 -- places
 abbrev usable : tie.After-lay-out → tie.After-is-usable
-usable c = c .before .before .before .before
+usable c = c .before .before
 
 abbrev start : tie.After-is-usable → tie.Start
 start c = let at-state = c .before .before in at-state .before .before .before .before .before .before .before .before
@@ -27,19 +27,12 @@ returns c =
     let s = start u in
     closed (s .args .converter) (given s) (s .args .out .now) (u .before .lent .ensures) (u .is-usable .result) (u .is-usable .ensures) (c .if1 .taken)
 
-num-ranges-requires : tie.Need-num-ranges-requires
-num-ranges-requires c κs =
-    let u = c .before .before in
-    let s = start u in
-    counts (s .args .converter) (given s) (u .before .lent .ensures) (u .is-usable .result) (u .is-usable .ensures) (c .before .if1 .left) .ranges
-
 returns-2 : tie.Need-returns-2
 returns-2 c =
     let o = c .before in
     let u = usable o in
     let s = start u in
-    short (s .args .converter) (given s) (s .args .out .now) (u .before .lent .ensures) (u .is-usable .result) (u .is-usable .ensures) (id-long s) (o .before .before .before .if1 .left)
-    (o .before .before .vacant-end .result) (o .before .before .vacant-end .ensures) (o .before .num-ranges .result) (o .before .num-ranges .ensures)
+    short (s .args .converter) (given s) (s .args .out .now) (u .before .lent .ensures) (u .is-usable .result) (u .is-usable .ensures) (id-long s) (o .before .if1 .left)
     (o .lay-out .result) (o .lay-out .ensures) (c .if2 .taken)
 
 write-sections-requires : tie.Need-write-sections-requires
@@ -47,8 +40,7 @@ write-sections-requires c κs =
     let o = c .before .before in
     let u = usable o in
     let s = start u in
-    ready (s .args .converter) (given s) (s .args .out .now) (u .before .lent .ensures) (u .is-usable .result) (u .is-usable .ensures) (id-long s) (o .before .before .before .if1 .left)
-    (o .before .before .vacant-end .result) (o .before .before .vacant-end .ensures) (o .before .num-ranges .result) (o .before .num-ranges .ensures)
+    ready (s .args .converter) (given s) (s .args .out .now) (u .before .lent .ensures) (u .is-usable .result) (u .is-usable .ensures) (id-long s) (o .before .if1 .left)
     (o .lay-out .result) (o .lay-out .ensures) (c .before .if2 .left)
 
 returns-3 : tie.Need-returns-3
@@ -57,8 +49,7 @@ returns-3 c =
     let u = usable o in
     let s = start u in
     let w = c .before .before .write-sections in
-    done (s .args .converter) (given s) (s .args .out .now) (u .before .lent .ensures) (u .is-usable .result) (u .is-usable .ensures) (id-long s) (o .before .before .before .if1 .left)
-    (o .before .before .vacant-end .result) (o .before .before .vacant-end .ensures) (o .before .num-ranges .result) (o .before .num-ranges .ensures)
+    done (s .args .converter) (given s) (s .args .out .now) (u .before .lent .ensures) (u .is-usable .result) (u .is-usable .ensures) (id-long s) (o .before .if1 .left)
     (o .lay-out .result) (o .lay-out .ensures) (c .before .before .before .before .if2 .left) (w .last .0) (w .ensures (s .args .strings .now))
 
 pub serialize-spec : {M : Type 1} → statement M
@@ -68,8 +59,6 @@ serialize-spec =
     (λ c κs. search needs)
     (λ c κs. search needs)
     returns
-    (λ c κs. search needs)
-    num-ranges-requires
     (λ c κs. search needs)
     returns-2
     write-sections-requires

@@ -17,7 +17,7 @@ write-files-requires c κs =
     let at-lay-out = at-write-head .before .before in
     let at-slice-known = at-lay-out .before .before .before .before .before .before .before in
     let a = at-slice-known .before in
-    files-fit (a .args .converter .state) (a .args .all) (at-lay-out .lay-out .result) (at-lay-out .lay-out .ensures) (at-write-head .write-head .kept .0) (a .pre .room)
+    files-fit (a .args .converter .state) (a .args .converter .state .ranges) (at-lay-out .lay-out .result) (at-lay-out .lay-out .ensures) (at-write-head .write-head .kept .0) (a .pre .room)
 
 write-functions-requires : tie.Need-write-functions-requires
 write-functions-requires c κs =
@@ -26,7 +26,7 @@ write-functions-requires c κs =
     let at-lay-out = at-write-head .before .before in
     let at-slice-known = at-lay-out .before .before .before .before .before .before .before in
     let a = at-slice-known .before in
-    functions-fit (a .args .converter .state) (a .args .all) (at-lay-out .lay-out .result) (at-lay-out .lay-out .ensures) (at-write-files .write-files .kept .0 ∙ at-write-head .write-head .kept .0) (a .pre .room)
+    functions-fit (a .args .converter .state) (a .args .converter .state .ranges) (at-lay-out .lay-out .result) (at-lay-out .lay-out .ensures) (at-write-files .write-files .kept .0 ∙ at-write-head .write-head .kept .0) (a .pre .room)
 
 write-call-locations-requires : tie.Need-write-call-locations-requires
 write-call-locations-requires c κs =
@@ -36,7 +36,7 @@ write-call-locations-requires c κs =
     let at-lay-out = at-write-head .before .before in
     let at-slice-known = at-lay-out .before .before .before .before .before .before .before in
     let a = at-slice-known .before in
-    calls-fit (a .args .converter .state) (a .args .all) (at-lay-out .lay-out .result) (at-lay-out .lay-out .ensures) (at-write-functions .write-functions .kept .0 ∙ at-write-files .write-files .kept .0 ∙ at-write-head .write-head .kept .0) (a .pre .room)
+    calls-fit (a .args .converter .state) (a .args .converter .state .ranges) (at-lay-out .lay-out .result) (at-lay-out .lay-out .ensures) (at-write-functions .write-functions .kept .0 ∙ at-write-files .write-files .kept .0 ∙ at-write-head .write-head .kept .0) (a .pre .room)
 
 write-sorted-requires : tie.Need-write-sorted-requires
 write-sorted-requires c κs =
@@ -47,7 +47,7 @@ write-sorted-requires c κs =
     let at-lay-out = at-write-head .before .before in
     let at-slice-known = at-lay-out .before .before .before .before .before .before .before in
     let a = at-slice-known .before in
-    (a .pre .size, ranges-fit (a .args .converter .state) (a .args .all) (at-lay-out .lay-out .result) (at-lay-out .lay-out .ensures) (at-write-call-locations .write-call-locations .kept .0 ∙ at-write-functions .write-functions .kept .0 ∙ at-write-files .write-files .kept .0 ∙ at-write-head .write-head .kept .0) (a .pre .room))
+    ranges-fit (a .args .converter .state) (a .args .converter .state .ranges) (at-lay-out .lay-out .result) (at-lay-out .lay-out .ensures) (at-write-call-locations .write-call-locations .kept .0 ∙ at-write-functions .write-functions .kept .0 ∙ at-write-files .write-files .kept .0 ∙ at-write-head .write-head .kept .0) (a .pre .room)
 
 write-texts-requires : tie.Need-write-texts-requires
 write-texts-requires c κs =
@@ -60,7 +60,7 @@ write-texts-requires c κs =
     let at-lay-out = at-write-head .before .before in
     let at-slice-known = at-lay-out .before .before .before .before .before .before .before in
     let a = at-slice-known .before in
-    (a .pre .texts-there, texts-fit (a .args .converter .state) (a .args .all) (at-lay-out .lay-out .result) (at-lay-out .lay-out .ensures) (at-write-padding .write-padding .kept .0 ∙ at-write-sorted .write-sorted .kept .0 ∙ at-write-call-locations .write-call-locations .kept .0 ∙ at-write-functions .write-functions .kept .0 ∙ at-write-files .write-files .kept .0 ∙ at-write-head .write-head .kept .0) (a .pre .room))
+    (a .pre .texts-there, texts-fit (a .args .converter .state) (a .args .converter .state .ranges) (at-lay-out .lay-out .result) (at-lay-out .lay-out .ensures) (at-write-padding .write-padding .kept .0 ∙ at-write-sorted .write-sorted .kept .0 ∙ at-write-call-locations .write-call-locations .kept .0 ∙ at-write-functions .write-functions .kept .0 ∙ at-write-files .write-files .kept .0 ∙ at-write-head .write-head .kept .0) (a .pre .room))
 
 returns : tie.Need-returns
 returns c =
@@ -75,8 +75,7 @@ returns c =
     let a = start .args in
     let id = id-long start in
     λ i.
-    sections-written (a .converter) (memory (a .string-bytes .now) i (a .files .now) (a .functions .now) (a .call-locations .now) (a .ranges .now)) (a .end) (a .all) (length (a .string-bytes .now)) (length (a .out .now))
-    (start .pre) id (at-lay-out .lay-out .result) (at-lay-out .lay-out .ensures) (a .out .now)
+    sections-written (a .converter) (memory (a .string-bytes .now) i (a .files .now) (a .functions .now) (a .call-locations .now) (a .ranges .now)) id (at-lay-out .lay-out .result) (at-lay-out .lay-out .ensures) (a .out .now)
     (at-write-head .write-head .last .0)
     (at-write-files .write-files .last .0)
     (at-write-functions .write-functions .last .0)

@@ -6,21 +6,18 @@ use Rattle.c_words.proofs.record.state.Tie as tie
 
 returns : tie.Need-returns
 returns c =
-    let eighth = c .before in
-    let seventh = eighth .before in
-    let sixth = seventh .before in
-    let fifth = sixth .before in
+    let fifth = c .before in
     let fourth = fifth .before in
     let third = fourth .before in
     let second = third .before in
     let first = second .before in
     let start = first .before .before in
-    state-read (start .args .«record» .now) (first .word .ensures) (second .word2 .ensures) (third .word3 .ensures) (fourth .word4 .ensures) (fifth .word5 .ensures) (sixth .word6 .ensures) (seventh .word7 .ensures) (eighth .word8 .ensures) (c .last-addr .ensures)
+    state-read (start .args .«record» .now) (first .word .ensures) (second .word2 .ensures) (third .word3 .ensures) (fourth .word4 .ensures) (fifth .word5 .ensures) (c .word6 .ensures)
 
 pub state-spec : {M : Type 1} → statement M
 state-spec =
     tie.close
     (tie.spec
     (λ c κs. search needs) (λ c κs. search needs) (λ c κs. search needs) (λ c κs. search needs) (λ c κs. search needs)
-    (λ c κs. search needs) (λ c κs. search needs) (λ c κs. search needs) (λ c κs. search needs)
+    (λ c κs. search needs)
     returns)
