@@ -480,7 +480,7 @@ mod tests {
         assert_eq!(short, [7; RECORD_WORDS - 1]);
         assert!(memory.words[0].iter().all(|word| *word == 7));
 
-        // Bytes that the debug id lacks are 0, and words past the 20th stay.
+        // Bytes that the debug id lacks are 0, and words past the record's own stay.
         let mut record = [7; RECORD_WORDS + 2];
         let id: Vec<u8> = (1..=6).collect();
         assert_eq!(begin(&mut record, &id, 2, 1, 0, memory.lent()), 0);

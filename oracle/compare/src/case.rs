@@ -391,7 +391,7 @@ impl Case {
                     return Err(format!("the record: {wanted:?} expected, ours {:?}", &memory.record.get()[..RECORD_WORDS]));
                 }
                 if memory.record.get()[RECORD_WORDS..].iter().any(|w| *w != 0xA1A1_A1A1) {
-                    return Err("words of the record after the 20th changed".into());
+                    return Err("words of the record after the last that is named changed".into());
                 }
                 if (number == 17 || matches!(item.op, Op::Begin { .. })) && !memory.are_tables_zero() {
                     return Err("tables that should be zero".into());
