@@ -3,12 +3,12 @@
 use mathlib.Core.Path.{_≡_, refl, sym, ap, _∙_, subst}
 use mathlib.Core.Bool.{Bool, true, false, cond, _&&_}
 use mathlib.Core.Option.{Option, none, some}
-use mathlib.Core.Logic.{_⊎_, _≢_, ⊎-elim}
+use mathlib.Core.Logic.{_≢_, ⊎-elim}
 use mathlib.Core.List.{List, [], _∷_, _++_, map, append-nil}
 use Prim.Native.Nat.{ℕ, _^_, _≤_, _<_}
 use native.Mathlib.Omega.{arith}
 use lib.Dec.{eqb, leb, ltb}
-use lib.ListN.{length, take, drop}
+use lib.ListN.{length, drop}
 use lib.Seq.{take-at}
 use borrow.Author.Tests.{eqb-true, le-leb, lt-ltb}
 use Rattle.slices.proofs.Cases.{none-some}
@@ -27,7 +27,7 @@ use Rattle.refusals.specs.Refusals.{treeRefusal}
 use Rattle.refusals.proofs.Accepted.{accepted}
 use Rattle.memory.specs.declared.Converter.{Converter}
 use Rattle.steps.proofs.Lengths.{Lens}
-use Rattle.serialize.specs.File.{Wrote, wrote, serializeOf}
+use Rattle.serialize.specs.File.{Wrote, wrote, write-answer, serializeOf}
 use Rattle.symcache.specs.declared.SymCache.{SymCache}
 use Rattle.symcache.specs.Answers.{gives}
 use Rattle.symcache.specs.Reader.{layoutOf, opened}
@@ -124,7 +124,7 @@ found-some X q rs x h = go (line-at (q .lines) x) refl
 -- ── The file of a write that answers 0 ──
 
 -- F where the output holds it, and else 18
-taken : (F out : List ℕ) (o : Wrote) → o ≡ cond (leb (length F) (length out)) (wrote 0 (length F) (F ++ drop (length F) out)) (wrote 18 0 out) → o .code ≡ 0 → file-written o ≡ F
+taken : (F out : List ℕ) (o : Wrote) → o ≡ write-answer F out → o .code ≡ 0 → file-written o ≡ F
 taken F out o e z = go (leb (length F) (length out)) e
   where
     go : (b : Bool) → o ≡ cond b (wrote 0 (length F) (F ++ drop (length F) out)) (wrote 18 0 out) → file-written o ≡ F

@@ -1,15 +1,15 @@
 -- WHAT IS WRITTEN IS THE PLAIN FILE: where words hold the plain tables of a list, the bytes that `serialize` writes are the sections of these tables, with the ranges ascending by start.
 -- Section by section: a row of words is the file's row. The ranges: sorting entries (start, row number) is putting what they stand for in order of start, since no start stands twice.
 use mathlib.Core.Path.{_≡_, refl, sym, ap, ap₂, _∙_, subst}
-use mathlib.Core.Bool.{Bool, true, false, cond, _&&_}
+use mathlib.Core.Bool.{Bool, true, false, _&&_}
 use mathlib.Core.Option.{none}
 use mathlib.Core.Logic.{⊎-elim}
 use mathlib.Core.List.{List, [], _∷_, _++_, map, append-assoc, append-nil}
 use Prim.Native.Nat.{ℕ, suc, _+_, _*_, _<_}
 use native.Mathlib.Nat.{zero-add, add-zero, add-suc, suc-add}
 use native.Mathlib.Omega.{arith}
-use lib.Dec.{ltb, leb, eqb}
-use lib.ListN.{length, getD, take, drop, length-map, length-append, List·getD-map}
+use lib.Dec.{ltb, eqb}
+use lib.ListN.{length, getD, take, length-map, length-append, List·getD-map}
 use borrow.Author.Tests.{eqb-true, eqb-false}
 use Rattle.slices.proofs.Cases.{none-some, both-of}
 use Rattle.text.specs.Leb128.{encoded}
@@ -38,7 +38,7 @@ use Rattle.memory.specs.Record.{fits?, usableIn}
 use Rattle.memory.specs.declared.Converter.{Converter}
 use Rattle.steps.proofs.Lengths.{Lens}
 use Rattle.serialize.specs.Sections.{file-row, function-row, call-row, entries, in-order, location-row, start-row}
-use Rattle.serialize.specs.File.{ranges-of, header-of, written-file, wrote, serializeOf}
+use Rattle.serialize.specs.File.{ranges-of, header-of, written-file, write-answer, serializeOf}
 use Rattle.serialize.proofs.Rows.{table-append}
 use Rattle.read_back.specs.Bytes.{file-bytes}
 use Rattle.read_back.specs.Bytes as reads
@@ -285,8 +285,8 @@ written-is X gs n c m h = file-written n (converted X gs) c m h (starts-unique X
 -- and what writing answers: 0, the length, and the plain file before the rest of the output; or 18 where the output is shorter
 pub write-answers : (X : Setup) (gs : List Given) (n : Lens) (c : Converter) (m : Memory) → c .«open» ≡ true → Enc n (converted X gs) (words-of c m) → (out : List ℕ)
     → let f = file-bytes (c .«debug_id») (c .arch) (sections (as-written (converted X gs))) in
-    serializeOf c m out ≡ cond (leb (length f) (length out)) (wrote 0 (length f) (f ++ drop (length f) out)) (wrote 18 0 out)
+    serializeOf c m out ≡ write-answer f out
 unfolding serializeOf usableIn
 write-answers X gs n c m o h out =
     let e : (c .«open» && fits? (words-of c m)) ≡ true = both-of (c .«open») (fits? (words-of c m)) o (has-room (words-of c m) (enc-room n (converted X gs) (words-of c m) h)) in
-    rw e (ap (λ (f : List ℕ). cond (leb (length f) (length out)) (wrote 0 (length f) (f ++ drop (length f) out)) (wrote 18 0 out)) (written-is X gs n c m h))
+    rw e (ap (λ (f : List ℕ). write-answer f out) (written-is X gs n c m h))

@@ -15,13 +15,14 @@ use Rattle.model.specs.FileWords.{sections}
 use Rattle.memory.specs.declared.Converter.{Converter}
 use Rattle.memory.specs.Record.{beginOf}
 use Rattle.steps.specs.Steps.{held}
+use Rattle.serialize.specs.File.{write-answer}
 use Rattle.read_back.specs.Bytes.{file-bytes}
 use Rattle.demand3.specs.Lists.{Standing, run, by-value, beginning}
 use Rattle.demand3.proofs.Interned.{shown, got}
 use Rattle.demand3.proofs.OneCall.{lengths-of}
 use Rattle.demand3.proofs.EveryList.{Open, every-list}
 use Rattle.demand3.proofs.WrittenFile.{write-answers}
-use Rattle.last_end.specs.LastEnd.{reference-file, write-answer, Unneeded, LastEndUnneeded}
+use Rattle.last_end.specs.LastEnd.{reference-file, Unneeded, LastEndUnneeded}
 use Rattle.last_end.proofs.Starts.{last-end-starts, nothing-added}
 
 -- what is held is found

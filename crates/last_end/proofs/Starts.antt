@@ -9,39 +9,33 @@ use Prim.Native.Nat.{ℕ, suc, _≤_, _<_}
 use native.Mathlib.Omega.{arith}
 use lib.Dec.{ltb, leb}
 use borrow.Author.Tests.{ltb-true, ltb-false, leb-false, le-leb}
-use Rattle.slices.proofs.Cases.{eq-or-ne}
+use Rattle.slices.proofs.Cases.{eq-or-ne, none-some}
 use Rattle.model.specs.Basics.{Span, Deep}
 use Rattle.model.specs.Rows.{LineRow, FunctionRow, SymbolRow, Given, skipped, function-end, symbol-skipped}
 use Rattle.model.specs.Machine.{Ref, OpM, treeM, symbolM, set-atM, kid-spansM, unless-held, put-end, entryM, closingM, rowM, convertM, startM, named-symbolM, convert-symbolM, convert-opM, runM}
 use Rattle.model.specs.Converter.{Setup, Location, nowhere, at, Tables, is-nowhere, range-at, put-at, begin-row, locate-line, begin-symbol, locate-symbol, enter-call, input, op, plain, converted}
-use Rattle.model.proofs.Chains.{put-same, put-other}
+use Rattle.model.proofs.Chains.{put-same, put-other, some-eq}
 use Rattle.model.proofs.Couple.{Couple, Limits, Preserves, Calls, no-calls, a-call, row-both}
 use Rattle.model.proofs.Always.{blank}
 use Rattle.last_end.specs.Reference.{or-zero, later, cleared, Reference, reference-begun, rowR, convertR, symbolR, opR, runR, referred, last-end, with-sentinel, reference-tables}
 
 -- ── The rules, in other words ──
 
-none-set : {A : Type 0} (a : ℕ) → _≡_ {A = Option ℕ} none (some a) → A
-none-set a e = let bad : _≡_ {A = ℕ} 0 1 = cc in absurd (omega arith)
-
-same-set : (e a : ℕ) → _≡_ {A = Option ℕ} (some e) (some a) → e ≡ a
-same-set e a h = cc
-
 -- after a function it is at least the function's end, and at least what it was
 pub later-above : (o : Option ℕ) (e a : ℕ) → later o e ≡ some a → (or-zero o ≤ a) × (e ≤ a)
 later-above o e a z = go (ltb (or-zero o) e) refl z
   where
     go : (b : Bool) → ltb (or-zero o) e ≡ b → cond b (some e) (some (or-zero o)) ≡ some a → (or-zero o ≤ a) × (e ≤ a)
-    go true f y = let k : e ≡ a = same-set e a y in let l : or-zero o < e = ltb-true _ _ f in (omega arith, omega arith)
-    go false f y = let k : or-zero o ≡ a = same-set (or-zero o) a y in let l : e ≤ or-zero o = ltb-false _ _ f in (omega arith, omega arith)
+    go true f y = let k : e ≡ a = some-eq y in let l : or-zero o < e = ltb-true _ _ f in (omega arith, omega arith)
+    go false f y = let k : or-zero o ≡ a = some-eq y in let l : e ≤ or-zero o = ltb-false _ _ f in (omega arith, omega arith)
 
 -- after a named symbol it is above the symbol's address, if it is set at all
 pub cleared-below : (o : Option ℕ) (y a : ℕ) → cleared o y ≡ some a → y < a
 cleared-below o y a z = go (leb (or-zero o) y) refl z
   where
     go : (b : Bool) → leb (or-zero o) y ≡ b → cond b none (some (or-zero o)) ≡ some a → y < a
-    go true f e = none-set a e
-    go false f e = let k : or-zero o ≡ a = same-set (or-zero o) a e in let l : y < or-zero o = leb-false _ _ f in omega arith
+    go true f e = none-some e
+    go false f e = let k : or-zero o ≡ a = some-eq e in let l : y < or-zero o = leb-false _ _ f in omega arith
 
 -- ── Forgetting the last end commutes with every step ──
 
@@ -223,15 +217,15 @@ module _ (X : Setup) where
       unset (some b) i f y = g a (i ∙ ap some y)
 
       go : (b : Bool) → ltb (or-zero o) e ≡ b → cond b (some e) (some (or-zero o)) ≡ some a → Held t a
-      go true f y = subst (Held t) (same-set e a y) h
-      go false f y = unset o refl f (same-set (or-zero o) a y)
+      go true f y = subst (Held t) (some-eq y) h
+      go false f y = unset o refl f (some-eq y)
 
   cleared-held : (t : Tables) (o : Option ℕ) (y : ℕ) → ((a : ℕ) → o ≡ some a → Held t a) → (a : ℕ) → cleared o y ≡ some a → Held t a
-  cleared-held t none y g a z = none-set a (rw (le-leb 0 y (omega arith)) at z)
+  cleared-held t none y g a z = none-some (rw (le-leb 0 y (omega arith)) at z)
   cleared-held t (some b) y g a z = go (leb b y) z
     where
       go : (c : Bool) → cond c none (some b) ≡ some a → Held t a
-      go true e = none-set a e
+      go true e = none-some e
       go false e = g a e
 
   -- the end of a row that is visited and not skipped is a start after it
@@ -285,7 +279,7 @@ module _ (X : Setup) where
   run-stands (o ∷ os) s h = run-stands os (opR X o s) (op-stands o s h)
 
   referred-stands : (gs : List Given) → Stands (referred X gs)
-  referred-stands gs = run-stands (map op gs) reference-begun (λ a e. none-set a e)
+  referred-stands gs = run-stands (map op gs) reference-begun (λ a e. none-some e)
 
   -- A LAST END THAT IS SET IS A START, after every list
   pub last-end-starts : (gs : List Given) (a : ℕ) → last-end X gs ≡ some a → (l : Location) × (range-at (converted X gs .ranges) a ≡ some l)

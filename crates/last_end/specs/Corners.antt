@@ -11,7 +11,7 @@ use Rattle.model.specs.Machine.{advanceM, set-atM, kid-spansM, unless-held, put
 use Rattle.model.specs.Machine.{named-symbolM, convert-symbolM}
 use Rattle.model.specs.Converter.{Setup, Location, Tables, nothing, intern-text, intern-six, range-at, range-put}
 use Rattle.model.specs.Converter.{begin-row, locate-line, begin-symbol, locate-symbol, enter-call}
-use Rattle.last_end.specs.Reference.{rowR, convertR, symbolR, opR, runR, last-end, with-sentinel}
+use Rattle.last_end.specs.Reference.{rowR, convertR, symbolR, opR, runR, referred, last-end, with-sentinel}
 
 abbrev setup : Setup
 setup = record { functions-on = false; symbols-on = false }
@@ -35,6 +35,10 @@ sym a = symbol-row (record { address = a; size = 0; name = some (67 ∷ []) })
 abbrev starts : Tables → List ℕ
 starts s = map (λ (e : Entry Location). e .key) (s .ranges)
 
+-- the tables after a function from 16 on, which has a location at 16
+abbrev from-16 : Tables
+from-16 = referred setup (function 16 16 ∷ []) .tables
+
 pub record Corners : Type 0 where
   -- a function's end sets it; a later end that is less leaves it, one that is greater moves it
   pub set : last-end setup (function 16 16 ∷ []) ≡ some 32
@@ -55,6 +59,7 @@ pub record Corners : Type 0 where
   pub unnamed : last-end setup (function 16 16 ∷ symbol-row (record { address = 64; size = 0; name = none }) ∷ []) ≡ some 32
   -- the branch at writing adds a last end that is no start, and leaves one that is: a reference made up by hand
   pub adds : starts (with-sentinel setup (record { tables = nothing; last = some 7 })) ≡ 7 ∷ []
+  pub leaves : with-sentinel setup (record { tables = from-16; last = some 16 }) .ranges ≡ from-16 .ranges
 
 pub corners : Corners
 unfolding rowR convertR symbolR opR runR with-sentinel
@@ -75,4 +80,5 @@ corners = record {
   skipped = refl;
   unnamed = refl;
   adds = refl;
+  leaves = refl;
 }

@@ -2,12 +2,10 @@
 -- the converter is open, the Rust's last end, where it is set, is a start already in the ranges; so what `serialize` of writer.rs would insert is there,
 -- and what we write is the reference converter's file, byte for byte.
 use mathlib.Core.Path.{_≡_}
-use mathlib.Core.Bool.{Bool, true, cond}
+use mathlib.Core.Bool.{Bool, true}
 use mathlib.Core.Option.{some}
-use mathlib.Core.List.{List, _++_}
+use mathlib.Core.List.{List}
 use Prim.Native.Nat.{ℕ}
-use lib.Dec.{leb}
-use lib.ListN.{length, drop}
 use Rattle.raw.specs.declared.SourceLocation.{SourceLocation}
 use Rattle.tables.specs.Ranges.{getOf}
 use Rattle.tables.specs.declared.ranges.Found.the-variants.{At}
@@ -18,7 +16,7 @@ use Rattle.model.specs.Written.{as-written}
 use Rattle.model.specs.FileWords.{sections}
 use Rattle.memory.specs.Memory.{Memory}
 use Rattle.memory.specs.declared.Converter.{Converter}
-use Rattle.serialize.specs.File.{Wrote, wrote, serializeOf}
+use Rattle.serialize.specs.File.{write-answer, serializeOf}
 use Rattle.read_back.specs.Bytes.{file-bytes}
 use Rattle.demand3.specs.Lists.{Call, Standing, run, by-value, beginning, Typed}
 use Rattle.last_end.specs.Reference.{last-end, reference-tables}
@@ -26,10 +24,6 @@ use Rattle.last_end.specs.Reference.{last-end, reference-tables}
 -- the reference converter's file
 abbrev pub reference-file : List ℕ → ℕ → Setup → List Given → List ℕ
 reference-file id arch X gs = file-bytes id arch (sections (as-written (reference-tables X gs)))
-
--- what writing a file answers: 0, its length, and its bytes before the rest of the output; or 18 where the output is shorter
-abbrev pub write-answer : List ℕ → List ℕ → Wrote
-write-answer file out = cond (leb (length file) (length out)) (wrote 0 (length file) (file ++ drop (length file) out)) (wrote 18 0 out)
 
 -- a list that stands open, after a beginning with this debug id, arch number and switches:
 -- `is-a-start`: the lent ranges hold the last end, if it is set; `same-file`: a write answers what the reference converter's file would be answered with

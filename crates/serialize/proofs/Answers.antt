@@ -2,11 +2,11 @@
 use Prim.Native.Nat.{ℕ, _<_, _≤_}
 use mathlib.Core.Bool.{Bool, true, false, cond, not, _&&_}
 use mathlib.Core.Path.{_≡_, refl, ap, sym, _∙_}
-use mathlib.Core.List.{List, _++_}
+use mathlib.Core.List.{List}
 use native.Mathlib.Nat.{zero-add, le-trans}
 use native.Mathlib.Omega.{arith}
 use lib.Dec.{leb}
-use lib.ListN.{length, drop}
+use lib.ListN.{length}
 use lib.Seq.{sets, sets-eq}
 use borrow.Author.Tests.{not-true, not-false, leb-true, le-leb, lt-leb}
 use Rattle.slices.proofs.Cases.{both-true}
@@ -18,7 +18,7 @@ use Rattle.memory.specs.Memory.{Memory, lent}
 use Rattle.memory.specs.Record.{fitsIn, usableIn, usable?}
 use Rattle.memory.specs.declared.Lengths.{Lengths}
 use Rattle.memory.specs.declared.Converter.{Converter}
-use Rattle.serialize.specs.File.{written-file, layout-of, Ready, Wrote, wrote, serializeOf}
+use Rattle.serialize.specs.File.{written-file, layout-of, Ready, Wrote, wrote, write-answer, serializeOf}
 use Rattle.serialize.specs.declared.Layout.{Layout}
 use Rattle.serialize.proofs.Whole.{length-ranges, laid, written-length}
 
@@ -56,7 +56,7 @@ counts c m g b e h =
 
 -- the definition, over the test and the file
 abbrev answer : Bool → List ℕ → List ℕ → Wrote
-answer usable file s = cond usable (cond (leb (length file) (length s)) (wrote 0 (length file) (file ++ drop (length file) s)) (wrote 18 0 s)) (wrote 19 0 s)
+answer usable file s = cond usable (write-answer file s) (wrote 19 0 s)
 
 module _ (b : Bool) (file s : List ℕ) where
   closed-answer : b ≡ false → wrote 19 0 s ≡ answer b file s

@@ -61,14 +61,14 @@ pub record Wrote : Type 0 where
 abbrev pub wrote : ℕ → ℕ → List ℕ → Wrote
 wrote n l o = record { code = n; len = l; output = o }
 
--- "Writing: 19, 18"; "Output beyond the written file keeps its content". A refusal answers length 0
+-- a file into an output: 0, its length, and its bytes ("Output beyond the written file keeps its content"); or 18 where the output is shorter. A refusal
+-- answers length 0
+abbrev pub write-answer : List ℕ → List ℕ → Wrote
+write-answer file out = cond (leb (length file) (length out)) (wrote 0 (length file) (file ++ drop (length file) out)) (wrote 18 0 out)
+
+-- "Writing: 19, 18"
 unfoldable pub serializeOf : Converter → Memory → List ℕ → Wrote
-serializeOf c m out =
-    cond (usable? c m)
-    (cond (leb (length (written-file c m)) (length out))
-    (wrote 0 (length (written-file c m)) (written-file c m ++ drop (length (written-file c m)) out))
-    (wrote 18 0 out))
-    (wrote 19 0 out)
+serializeOf c m out = cond (usable? c m) (write-answer (written-file c m) out) (wrote 19 0 out)
 
 -- ── What a private function's contract cites ───────────────────────────────────────────────────────────────────────────
 
