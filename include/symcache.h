@@ -60,6 +60,8 @@ extern "C" {
 #define SYMCACHE_TABLE_FULL 17u              /* a table needs more rows or bytes than it has */
 #define SYMCACHE_OUTPUT_TOO_SHORT 18u        /* the output is shorter than the file */
 #define SYMCACHE_CLOSED 19u                  /* converter closed, or a count above its capacity */
+/* The feeder of rows again, right after 13. */
+#define SYMCACHE_TOO_DEEP 25u                /* a function row deeper than 41 */
 
 /* "None" in a 32-bit field: no location, no file, no text, no entry, no language. */
 #define SYMCACHE_MAX UINT32_C(0xFFFFFFFF)
@@ -89,6 +91,13 @@ extern "C" {
 #define SYMCACHE_MAX_ROWS UINT32_C(16777216)          /* rows of a table */
 #define SYMCACHE_MAX_STRING_BYTES UINT32_C(268435456) /* text bytes */
 #define SYMCACHE_MAX_FUNCTION_ROWS UINT32_C(65536)    /* function rows of one tree */
+
+/*
+ * The deepest function row that a tree may have, with the root at 0; and so the most frames that a
+ * lookup gives in a file that symcache_serialize wrote. Files of other makers may give more.
+ */
+#define SYMCACHE_MAX_DEPTH 41u
+#define SYMCACHE_MAX_FRAMES 42u
 
 /*
  * Six tables are lent to each call of the converter, always in this order, and keep their content
@@ -129,7 +138,7 @@ enum {
  * and a length in the lent text.
  */
 enum {
-    SYMCACHE_FUNCTION_DEPTH = 0, /* the root 0; an inlinee its caller's plus 1 */
+    SYMCACHE_FUNCTION_DEPTH = 0, /* the root 0; an inlinee its caller's plus 1; at most 41 */
     SYMCACHE_FUNCTION_INLINE,    /* 0 is no, anything else yes */
     SYMCACHE_FUNCTION_LANGUAGE,
     SYMCACHE_FUNCTION_NAME_START,
@@ -218,11 +227,12 @@ uint32_t symcache_begin(
  * Answers 0, or, in this order, SYMCACHE_CLOSED (19), SYMCACHE_INVALID_ROWS (13: no function rows,
  * over 65,536, a first depth other than 0, a later depth of 0 or above its predecessor's plus 1,
  * line counts that do not sum to the line rows, a length that is no multiple of its stride, row
- * counts that disagree), SYMCACHE_INVALID_TEXT (14: a text outside the lent text, or one other than
- * a compilation directory that is not UTF-8; in rows that are skipped, too),
- * SYMCACHE_ADDRESS_OVERFLOW (15), SYMCACHE_SCRATCH_TOO_SMALL (16), SYMCACHE_TABLE_FULL (17). After
- * 0 all of scratch is zero. 17 fills all tables and scratch with zeros and closes the converter
- * until symcache_begin. Another refusal changes nothing.
+ * counts that disagree), SYMCACHE_TOO_DEEP (25: a function row deeper than 41; one that is skipped,
+ * too), SYMCACHE_INVALID_TEXT (14: a text outside the lent text, or one other than a compilation
+ * directory that is not UTF-8; in rows that are skipped, too), SYMCACHE_ADDRESS_OVERFLOW (15),
+ * SYMCACHE_SCRATCH_TOO_SMALL (16), SYMCACHE_TABLE_FULL (17). After 0 all of scratch is zero. 17
+ * fills all tables and scratch with zeros and closes the converter until symcache_begin. Another
+ * refusal changes nothing.
  * Lend: scratch of four words for each function row and each line row; more is only zeroed. Its
  * content before does not matter.
  */
@@ -393,8 +403,9 @@ uint32_t symcache_lookup(
 /*
  * The next frame of a walk, innermost first: stores it in `frame` (without a file the six text
  * offsets stay) and moves the cursor. At the end only frame[0] is stored, as SYMCACHE_FRAME_END,
- * and the cursor stays. The walk ends at MAX, outside the table, or at an index already met. A
- * cursor of fewer than three words is one that has ended.
+ * and the cursor stays. The walk ends at MAX, outside the table, or at an index already met; in a
+ * file that symcache_serialize wrote, after SYMCACHE_MAX_FRAMES (42) frames at most. A cursor of
+ * fewer than three words is one that has ended.
  * Answers 0, or 1 to 11 in that order; then cursor and frame stay.
  * Lend: cursor of 3 words, frame of 13.
  */

@@ -104,10 +104,12 @@ static int at_front; /* the second pass */
 static enum function bite_function = NUM_FUNCTIONS;
 static enum slot bite_slot;
 
+#define ANSWERS (SYMCACHE_TOO_DEEP + 1)
+
 static enum function calling;
 static unsigned long list_number;
 static unsigned long calls[NUM_FUNCTIONS];
-static unsigned long answers[NUM_FUNCTIONS][20]; /* of find and walk: 0 an index, 1 MAX */
+static unsigned long answers[NUM_FUNCTIONS][ANSWERS]; /* of find and walk: 0 an index, 1 MAX */
 
 static void map_regions(void)
 {
@@ -263,7 +265,7 @@ static uint32_t leave(uint32_t answer)
     calls[calling]++;
     if (calling == FIND || calling == WALK)
         answers[calling][answer == SYMCACHE_MAX]++;
-    else if (answer < 20) {
+    else if (answer < ANSWERS) {
         answers[calling][answer]++;
         check_left(answer);
     } else {
@@ -468,11 +470,12 @@ static void any_record(void)
     r[SYMCACHE_RECORD_OPEN] = 1;
 }
 
-/* Rows of a tree, mostly right. */
+/* Rows of a tree, mostly right; one in forty is a chain that ends at depth 40 to 43. */
 static void any_rows(void)
 {
-    size_t f = 1 + below(one_in(5) ? 12 : 4), l = 0, line = 0;
-    size_t lines[13];
+    bool chain = one_in(40);
+    size_t f = chain ? SYMCACHE_MAX_DEPTH + below(4) : 1 + below(one_in(5) ? 12 : 4), l = 0, line = 0;
+    size_t lines[SYMCACHE_MAX_DEPTH + 4];
     for (size_t i = 0; i < f; i++)
         l += lines[i] = one_in(4) ? 0 : below(5);
     any_text();
@@ -486,7 +489,7 @@ static void any_rows(void)
         uint64_t *r64 = (uint64_t *)at[FUNCTIONS64] + i * SYMCACHE_FUNCTIONS64_WORDS;
         uint32_t *r32 = (uint32_t *)at[FUNCTIONS32] + i * SYMCACHE_FUNCTIONS32_WORDS;
         uint64_t base = any_address();
-        depth = i == 0 ? 0 : 1 + below(depth + 1);
+        depth = i == 0 ? 0 : chain ? i : 1 + below(depth + 1);
         r64[0] = base;
         r64[1] = any_size();
         r32[SYMCACHE_FUNCTION_DEPTH] = (uint32_t)depth;
@@ -887,12 +890,12 @@ static void print_calls(void)
     for (int f = 0; f < NUM_FUNCTIONS; f++) {
         const char *between = ":";
         printf("%s %lu", interface[f].name, calls[f]);
-        for (int i = 0; i < 20; i++)
+        for (unsigned i = 0; i < ANSWERS; i++)
             if (answers[f][i] > 0) {
                 if (f == FIND || f == WALK)
                     printf("%s %s %lu", between, i == 1 ? "MAX" : "an index", answers[f][i]);
                 else
-                    printf("%s %d %lu", between, i, answers[f][i]);
+                    printf("%s %u %lu", between, i, answers[f][i]);
                 between = ",";
             }
         printf("\n");

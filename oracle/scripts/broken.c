@@ -73,6 +73,8 @@ uint32_t symcache_process_symbolic_function(uint32_t *record, size_t record_len,
         for (size_t i = 0; i < scratch_len; i++) scratch[i] = 0;
         return 0;
     }
+    for (size_t i = 0; broken() == 50 && i < functions32_len; i += SYMCACHE_FUNCTIONS32_WORDS) /* 25 at depth 41 */
+        if (functions32[i] == SYMCACHE_MAX_DEPTH) return 25;
     uint32_t answer = real_symcache_process_symbolic_function(record, record_len, LENT, scratch, scratch_len, functions64,
         functions64_len, functions32, functions32_len, lines64, lines64_len, lines32, lines32_len, text, text_len);
     if (answer == 0) {
@@ -90,6 +92,8 @@ uint32_t symcache_process_symbolic_function(uint32_t *record, size_t record_len,
         if (broken() == 18 && answer == 14) return 15; /* 15 for 14 */
         if (broken() == 19 && answer == 13) return 14; /* 14 for 13 */
         if (broken() == 20 && answer == 19) return 13; /* 13 for 19 */
+        if (broken() == 51 && answer == 25) return 13; /* 13 for 25 */
+        if (broken() == 52 && answer == 25) return 0; /* a tree too deep acknowledged */
     }
     return answer;
 }

@@ -10,6 +10,8 @@ use crate::{Columns, Error, LineRows, Rows};
 pub const MAX_ROWS: usize = c::SYMCACHE_MAX_ROWS as usize;
 /// The most bytes that all texts together can have: 268,435,456.
 pub const MAX_STRING_BYTES: usize = c::SYMCACHE_MAX_STRING_BYTES as usize;
+/// The depth of the deepest inlinee that a tree may have, with the root at 0: 41.
+pub const MAX_DEPTH: u32 = c::SYMCACHE_MAX_DEPTH;
 
 /// How much a converter has room for. A row takes 32 bytes of memory. More than the ceilings
 /// ([`MAX_ROWS`], [`MAX_STRING_BYTES`]) counts as the ceiling.
@@ -374,8 +376,8 @@ impl Converter {
     /// Adds a function with its lines and all that is inlined into it.
     ///
     /// Refused with [`Error::Closed`], [`Error::InvalidRows`] (over 65,536 functions in one tree),
-    /// [`Error::InvalidText`] (texts above `u32::MAX` bytes in one tree),
-    /// [`Error::AddressOverflow`] or [`Error::TableFull`].
+    /// [`Error::TooDeep`] (an inlinee deeper than [`MAX_DEPTH`]), [`Error::InvalidText`] (texts
+    /// above `u32::MAX` bytes in one tree), [`Error::AddressOverflow`] or [`Error::TableFull`].
     pub fn process_symbolic_function(&mut self, function: &Function<'_>) -> Result<(), Error> {
         let mut rows = std::mem::take(&mut self.rows);
         rows.clear();
@@ -389,7 +391,8 @@ impl Converter {
     /// Adds a tree given as rows in columns, of any content.
     ///
     /// Refused, in this order, with [`Error::Closed`], [`Error::InvalidRows`],
-    /// [`Error::InvalidText`], [`Error::AddressOverflow`] or [`Error::TableFull`].
+    /// [`Error::TooDeep`], [`Error::InvalidText`], [`Error::AddressOverflow`] or
+    /// [`Error::TableFull`].
     pub fn process_rows(&mut self, columns: &Columns<'_>) -> Result<(), Error> {
         let words = columns.scratch_words();
         let mut scratch = std::mem::take(&mut self.scratch);

@@ -44,6 +44,9 @@ pub enum Error {
     /// 13: no function rows, over 65,536 of them, depths that are not a tree's in preorder, line
     /// counts that don't sum to the line rows, or columns whose lengths disagree.
     InvalidRows,
+    /// 25, right after 13: a function row is deeper than 41, [`MAX_DEPTH`](crate::MAX_DEPTH), be it
+    /// skipped or not.
+    TooDeep,
     /// 14: a text lies outside the lent text, or one other than a compilation directory isn't
     /// UTF-8.
     InvalidText,
@@ -63,7 +66,7 @@ pub enum Error {
 }
 
 impl Error {
-    /// The number of this reason, 1 to 19.
+    /// The number of this reason: 1 to 19, or 25.
     pub fn number(&self) -> u32 {
         match *self {
             Error::TooShort => c::SYMCACHE_TOO_SHORT,
@@ -79,6 +82,7 @@ impl Error {
             Error::InvalidVariableHeader => c::SYMCACHE_INVALID_VARIABLE_HEADER,
             Error::UnorderedRanges => c::SYMCACHE_UNORDERED_RANGES,
             Error::InvalidRows => c::SYMCACHE_INVALID_ROWS,
+            Error::TooDeep => c::SYMCACHE_TOO_DEEP,
             Error::InvalidText => c::SYMCACHE_INVALID_TEXT,
             Error::AddressOverflow => c::SYMCACHE_ADDRESS_OVERFLOW,
             Error::ScratchTooSmall => c::SYMCACHE_SCRATCH_TOO_SMALL,
@@ -105,6 +109,7 @@ impl Error {
             c::SYMCACHE_INVALID_VARIABLE_HEADER => Error::InvalidVariableHeader,
             c::SYMCACHE_UNORDERED_RANGES => Error::UnorderedRanges,
             c::SYMCACHE_INVALID_ROWS => Error::InvalidRows,
+            c::SYMCACHE_TOO_DEEP => Error::TooDeep,
             c::SYMCACHE_INVALID_TEXT => Error::InvalidText,
             c::SYMCACHE_ADDRESS_OVERFLOW => Error::AddressOverflow,
             c::SYMCACHE_SCRATCH_TOO_SMALL => Error::ScratchTooSmall,
@@ -160,6 +165,7 @@ impl fmt::Display for Error {
             Error::InvalidRows => {
                 f.write_str("the rows are not those of a function tree in preorder")
             }
+            Error::TooDeep => f.write_str("a function row is deeper than 41"),
             Error::InvalidText => f.write_str("a text lies outside the lent text or is not UTF-8"),
             Error::AddressOverflow => f.write_str("a function ends above 2^64 - 1"),
             Error::ScratchTooSmall => {
@@ -205,7 +211,7 @@ mod tests {
                 "{name} is {error:?}"
             );
         }
-        assert!(before >= 19);
+        assert!(before >= 25);
         assert_eq!(Error::check(0), Ok(()));
         assert_eq!(Error::check(20), Err(Error::Other(20)));
         assert_eq!(Error::Other(20).number(), 20);

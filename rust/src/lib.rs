@@ -2,7 +2,8 @@
 //!
 //! [`Converter`] collects functions, with their lines and what is inlined into them, and symbols,
 //! and writes them as a file. [`SymCache`] reads such a file and gives, for an address, the frames
-//! at it, innermost first. What both do is proved, for every input, of the library `libexports.a`;
+//! at it, innermost first; at most [`MAX_FRAMES`] in a file that a converter wrote. What both do is
+//! proved, for every input, of the library `libexports.a`;
 //! this crate lends it memory and gives its answers Rust's types.
 //!
 //! # Example
@@ -75,9 +76,10 @@ mod error;
 mod lookup;
 mod rows;
 
-pub use converter::{Capacity, Converter, ConverterBuilder, MAX_ROWS, MAX_STRING_BYTES};
+pub use converter::{Capacity, Converter, ConverterBuilder, MAX_DEPTH, MAX_ROWS, MAX_STRING_BYTES};
 pub use error::Error;
 pub use lookup::{
-    File, Files, Function, Functions, Layout, Section, SourceLocation, SourceLocations, SymCache,
+    File, Files, Frames, Function, Functions, Layout, Section, SourceLocation, SourceLocations,
+    SymCache, MAX_FRAMES,
 };
 pub use rows::{Columns, LineRow, LineRows, OptionalPart, Rows, TextPart};

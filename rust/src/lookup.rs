@@ -3,9 +3,14 @@
 
 use std::fmt;
 use std::iter::FusedIterator;
+use std::ops::Deref;
 
 use crate::ffi::{self, c};
 use crate::Error;
+
+/// The most frames that a lookup gives in a file that a converter wrote: 42, one for each depth up
+/// to [`MAX_DEPTH`](crate::MAX_DEPTH).
+pub const MAX_FRAMES: usize = c::SYMCACHE_MAX_FRAMES as usize;
 
 /// Where a table of a file lies.
 #[derive(Clone, Copy, Debug, PartialEq, Eq)]
@@ -134,6 +139,18 @@ impl<'data> SymCache<'data> {
             bytes: self.bytes,
             cursor,
         }
+    }
+
+    /// Looks an instruction address up as [`SymCache::lookup`] does, into memory that was laid out
+    /// in advance. Nothing is allocated.
+    pub fn lookup_into(&self, addr: u64, frames: &mut Frames<'data>) {
+        let mut all = self.lookup(addr);
+        frames.len = 0;
+        for (room, frame) in frames.frames.iter_mut().zip(&mut all) {
+            *room = frame;
+            frames.len += 1;
+        }
+        frames.rest = Some(all);
     }
 
     /// The index of the source location whose range holds an address. It may be that of the end of
@@ -282,6 +299,78 @@ impl<'data> Iterator for SourceLocations<'data> {
 }
 
 impl FusedIterator for SourceLocations<'_> {}
+
+/// Room for the [`MAX_FRAMES`] frames of a lookup, laid out in advance; filled by
+/// [`SymCache::lookup_into`] and read as a slice, innermost first.
+///
+/// ```
+/// # use symcache::debuginfo::{FileInfo, Function, LineInfo};
+/// # let mut converter = symcache::Converter::builder().build();
+/// # converter.process_symbolic_function(&Function {
+/// #     address: 0x1000, size: 16, name: "main".into(), language: 2,
+/// #     lines: vec![LineInfo { address: 0x1000, size: Some(16), line: 10, file: FileInfo::new("a.c", "src") }],
+/// #     ..Function::default()
+/// # })?;
+/// # let bytes = converter.serialize()?;
+/// use symcache::{Frames, SymCache};
+///
+/// let cache = SymCache::parse(&bytes)?;
+/// let mut frames = Frames::new();
+/// cache.lookup_into(0x1008, &mut frames);
+/// assert_eq!(frames.len(), 1);
+/// assert_eq!(frames[0].function().name(), "main");
+/// cache.lookup_into(0x1010, &mut frames);
+/// assert!(frames.is_empty());
+/// # Ok::<(), symcache::Error>(())
+/// ```
+#[derive(Clone, Copy)]
+pub struct Frames<'data> {
+    frames: [SourceLocation<'data>; MAX_FRAMES],
+    len: usize,
+    /// The walk from there on, after a lookup.
+    rest: Option<SourceLocations<'data>>,
+}
+
+impl<'data> Frames<'data> {
+    /// Room without a frame in it.
+    pub const fn new() -> Self {
+        let none = SourceLocation {
+            bytes: &[],
+            frame: [0; ffi::FRAME_WORDS],
+        };
+        Frames {
+            frames: [none; MAX_FRAMES],
+            len: 0,
+            rest: None,
+        }
+    }
+
+    /// The frames that come after these. A file that a converter wrote has none; a file of another
+    /// maker may.
+    pub fn rest(&self) -> impl Iterator<Item = SourceLocation<'data>> {
+        self.rest.into_iter().flatten()
+    }
+}
+
+impl Default for Frames<'_> {
+    fn default() -> Self {
+        Frames::new()
+    }
+}
+
+impl<'data> Deref for Frames<'data> {
+    type Target = [SourceLocation<'data>];
+
+    fn deref(&self) -> &Self::Target {
+        &self.frames[..self.len]
+    }
+}
+
+impl fmt::Debug for Frames<'_> {
+    fn fmt(&self, f: &mut fmt::Formatter<'_>) -> fmt::Result {
+        f.debug_list().entries(self.iter()).finish()
+    }
+}
 
 /// A function of a file.
 #[derive(Clone, Copy, Debug, PartialEq, Eq)]

@@ -395,9 +395,16 @@ impl Tree {
             t.text[at] = [0xFF, 0xC3, 0xE2][r.below(3) as usize];
         }
         let n = if r.one_in(40) { 0 } else { 1 + r.below(6) };
+        // One in thirty is a chain, down to depth 40, 41, 42 or 43.
+        let chain = r.one_in(30);
+        let n = if chain { 41 + r.below(4) } else { n };
         let mut depth = 0;
         for i in 0..n {
-            depth = if i == 0 { 0 } else { 1 + r.below(depth + 1) };
+            depth = match i {
+                0 => 0,
+                _ if chain => i,
+                _ => 1 + r.below(depth + 1),
+            };
             if r.one_in(80) {
                 depth = r.below(4);
             }
@@ -408,7 +415,12 @@ impl Tree {
             } else {
                 base + r.below(64)
             };
-            let size = if r.one_in(60) { r.next() } else { r.below(48) };
+            let far = address >> 33 != 0;
+            let size = if r.one_in(if far { 2 } else { 60 }) {
+                r.next()
+            } else {
+                r.below(48)
+            };
             t.functions64.extend([address, size]);
             let name = t.part(r);
             let dir = t.part(r);
@@ -639,6 +651,6 @@ fn random_lists_through_both() {
             .map(|k| k.1)
             .collect::<Vec<_>>()
     };
-    assert_eq!(met("with room"), [0, 13, 14, 15, 16, 17, 19]);
-    assert_eq!(met("without room"), [13, 14, 15, 16, 19]);
+    assert_eq!(met("with room"), [0, 13, 14, 15, 16, 17, 19, 25]);
+    assert_eq!(met("without room"), [13, 14, 15, 16, 19, 25]);
 }

@@ -2,7 +2,7 @@
 
 mod common;
 
-use common::{line, without_room, worked_file, worked_tree, Random};
+use common::{without_room, worked_file, worked_tree, Random};
 use symcache::debuginfo::{Function, Symbol};
 use symcache::{Capacity, Columns, Converter, Error, Layout, Rows, SymCache};
 
@@ -144,7 +144,7 @@ fn refused(converter: &mut Converter, given: &Given, error: Error) {
 }
 
 #[test]
-fn numbers_13_to_15_of_rows() {
+fn numbers_13_to_15_and_25_of_rows() {
     let mut converter = Converter::builder().build();
     converter.process_symbolic_function(&worked_tree()).unwrap();
     let cases = [
@@ -190,17 +190,19 @@ fn numbers_13_to_15_of_rows() {
             Error::AddressOverflow,
             Given::with(|g| g.functions64[3] = u64::MAX),
         ),
+        (Error::TooDeep, Given::with(|g| g.deepen(42))),
     ];
     for (error, given) in &cases {
         refused(&mut converter, given, *error);
     }
-    // Not refused: a compilation directory that isn't UTF-8, and an absent text that lies anywhere.
+    // Not refused: a compilation directory that isn't UTF-8, an absent text that lies anywhere, and depth 41.
     for given in [
         Given::with(|g| {
             let at = g.functions32[5] as usize;
             g.text[at] = 0xff;
         }),
         Given::with(|g| g.lines32[6] = 1000),
+        Given::with(|g| g.deepen(41)),
         Given::worked(),
     ] {
         converter.process_rows(&given.columns()).unwrap();
@@ -208,6 +210,15 @@ fn numbers_13_to_15_of_rows() {
 }
 
 impl Given {
+    /// Rows without lines below the last one, down to this depth. They have no size, so they are
+    /// skipped.
+    fn deepen(&mut self, bottom: u32) {
+        for depth in 2..=bottom {
+            self.functions64.extend([0, 0]);
+            self.functions32.extend([depth, 1, 0, 0, 0, 0, 0, 0]);
+        }
+    }
+
     fn then(mut self, change: impl FnOnce(&mut Given)) -> Self {
         change(&mut self);
         self
@@ -218,6 +229,7 @@ impl Given {
 fn earlier_numbers_come_first() {
     let all = Given::with(|g| {
         g.functions32[0] = 1;
+        g.deepen(42);
         g.text[0] = 0xff;
         g.functions64[3] = u64::MAX;
     });
@@ -227,6 +239,14 @@ fn earlier_numbers_come_first() {
         Err(Error::InvalidRows)
     );
     let all = all.then(|g| g.functions32[0] = 0);
+    assert_eq!(
+        converter.process_rows_with(&all.columns(), &mut []),
+        Err(Error::TooDeep)
+    );
+    let all = all.then(|g| {
+        g.functions64.truncate(4);
+        g.functions32.truncate(16);
+    });
     assert_eq!(
         converter.process_rows_with(&all.columns(), &mut []),
         Err(Error::InvalidText)
@@ -431,35 +451,4 @@ fn a_list_goes_on_after_refusals_and_writes() {
     }
     assert_eq!(disturbed.serialize(), plain.serialize());
     assert!(plain.used().ranges > 50);
-}
-
-#[test]
-fn a_tree_without_lines_and_a_deep_one() {
-    let mut tree = Function::default();
-    for depth in (0..2000).rev() {
-        tree = Function {
-            address: 0x100,
-            size: 16,
-            name: format!("f{depth}").into(),
-            lines: vec![line(0x100, 16, depth, "a")],
-            inlinees: match depth {
-                1999 => Vec::new(),
-                _ => vec![tree],
-            },
-            inline: depth != 0,
-            ..Function::default()
-        };
-    }
-    let mut converter = Converter::builder().build();
-    converter
-        .process_symbolic_function(&Function {
-            size: 4,
-            ..Function::default()
-        })
-        .unwrap();
-    converter.process_symbolic_function(&tree).unwrap();
-    let bytes = converter.serialize().unwrap();
-    let cache = SymCache::parse(&bytes).unwrap();
-    let lines: Vec<u32> = cache.lookup(0x108).map(|frame| frame.line()).collect();
-    assert_eq!(lines, (0..2000).rev().collect::<Vec<u32>>());
 }

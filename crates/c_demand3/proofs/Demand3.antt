@@ -2,18 +2,20 @@
 -- file shows by value the exported readers show by words (`Cursors`, `Names`).
 use mathlib.Core.Path.{_≡_, refl, sym, ap, ap₂, subst, _∙_}
 use mathlib.Core.Bool.{Bool, true, false, cond}
-use mathlib.Core.List.{List, _++_}
-use Prim.Native.Nat.{ℕ, _≤_, _<_}
+use mathlib.Core.Option.{Option, none, some}
+use mathlib.Core.List.{List, [], _++_}
+use Prim.Native.Nat.{ℕ, suc, _≤_, _<_}
 use native.Mathlib.Omega.{arith}
 use lib.Dec.{leb}
-use lib.ListN.{length, take, drop, getD}
+use lib.ListN.{length, take, drop, getD, replicate, length-map}
 use lib.Seq.{take-at}
 use borrow.Author.Tests.{le-ltb, leb-true}
 use Rattle.slices.specs.Bytes.{bytesAt}
 use Rattle.slices.proofs.Bytes.{length-bytesAt}
 use Rattle.model.specs.Rows.{Given}
-use Rattle.model.specs.Converter.{Setup}
-use Rattle.read_back.specs.Shown.{Shown, Found}
+use Rattle.model.specs.Converter.{Setup, converted}
+use Rattle.model.specs.Frames.{frames-at}
+use Rattle.read_back.specs.Shown.{ShownFile, Shown, shown, with-stand-in, Found}
 use Rattle.memory.specs.Memory.{Memory}
 use Rattle.memory.specs.declared.Converter.{Converter}
 use Rattle.memory.specs.Record.{usable?, beginOf}
@@ -30,7 +32,8 @@ use Rattle.slices.specs.Slices.{yes}
 use Rattle.c_words.specs.Record.{converterOf, Bytes}
 use Rattle.c_words.specs.Writing.{beginCall, treeCall, linesCall, symbolCall, serializeCall}
 use Rattle.c_words.specs.Record.{lenWords}
-use Rattle.c_demand3.specs.Walks.{FoundByCalls}
+use Rattle.c_demand3.specs.Walks.{FileByWords, WalkedByCalls, FoundByCalls}
+use Rattle.c_demand3.specs.Walks as walks
 use Rattle.c_demand3.specs.Lists.{exported, exported-beginning, FileLeft, ExportedDemand3}
 use Rattle.c_demand3.proofs.Carried.{tree-carried, lines-carried, symbol-carried, begin-carried}
 use Rattle.c_demand3.proofs.Cursors.{counts-below, found-by-calls}
@@ -100,6 +103,34 @@ module _ (id : List ℕ) (arch : ℕ) (X : Setup) (gs : List Given) (file : List
   by-calls : (d : List ℕ) (x : ℕ) (vs : List Shown) → Found file d x vs → FoundByCalls file d x vs
   by-calls d x vs = found-by-calls file d x (plain-layout id arch X gs) vs (o .opens) counts-low
 
+  -- ── K7 ──
+
+  -- by value at most 42 frames, and so of the plain tables
+  plain-few : (x : ℕ) → length (frames-at (converted X gs) x) ≤ 42
+  plain-few x =
+      let f = o .every-address [] x in
+      let e = sym (length-map (frames-at (converted X gs) x) (with-stand-in [])) ∙ ap length (sym (f .shows)) ∙ length-map (f .frames) (shown file []) in
+      rw e (o .few-frames x (f .cursor) (f .frames) (f .looked) (f .walked))
+
+  -- a frame is not the end
+  not-end : (w : List ℕ) (v : Option ShownFile) → FileByWords file w v → getD w 0 0 ≡ 0 → ⊥
+  not-end w none e z = omega (arith, e, z)
+  not-end w (some t) e z = omega (arith, e .kind, z)
+
+  -- a walk gives as many frames as it gives
+  walked-alike : {d k t : List ℕ} {vs ws : List Shown} → WalkedByCalls file d k t vs → WalkedByCalls file d k t ws → length vs ≡ length ws
+  walked-alike (walks.ends a e) (walks.ends b f) = refl
+  walked-alike (walks.ends a e) (walks.goes {v} b f w) = absurd (not-end _ (v .file) (f .file) e)
+  walked-alike (walks.goes {v} a e w) (walks.ends b f) = absurd (not-end _ (v .file) (e .file) f)
+  walked-alike (walks.goes a e v) (walks.goes b f w) = ap suc (walked-alike v w)
+
+  few-by-calls : (d : List ℕ) (x : ℕ) (vs : List Shown) → FoundByCalls file d x vs → length vs ≤ 42
+  few-by-calls d x vs f =
+      let there = by-calls d x _ (o .every-address d x) in
+      let few = plain-few x in
+      let e = walked-alike (f .by-lookup (replicate 3 0) (replicate 13 0) (omega arith) (omega arith) .1) (there .by-lookup (replicate 3 0) (replicate 13 0) (omega arith) (omega arith) .1) in
+      rw (e ∙ length-map (frames-at (converted X gs) x) (with-stand-in d)) few
+
 file-left : (id : List ℕ) (arch : ℕ) (X : Setup) (x : Standing (List ℕ)) (out l : List ℕ) → length id ≡ 32 → Writes id arch X out (standing-of x)
     → let o = serializeCall (x .carrier) (x .memory) out l in o .code ≡ 0 → FileLeft id arch X (x .counted) out l o
 unfolding serializeCall lenWords
@@ -115,6 +146,7 @@ file-left id arch X x out l size w z =
       room = rw (h .size) (h .room);
       len = rw (z, h .size);
       reopened = r;
+      few-frames = few-by-calls id arch X (x .counted) file size r;
       every-address = λ d a. by-calls id arch X (x .counted) file size r d a _ (r .every-address d a);
       demanded = λ p q rs i n j a k d. by-calls id arch X (x .counted) file size r d a _ (r .demanded p q rs i n j a k .frames d);
     }

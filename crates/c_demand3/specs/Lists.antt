@@ -9,7 +9,7 @@ use Rattle.model.specs.Rows.{MAX, LineRow, FunctionRow, Given, tree-rows}
 use Rattle.model.specs.Converter.{Setup, converted}
 use Rattle.model.specs.Frames.{frames-at}
 use Rattle.model.specs.Premises.{reach}
-use Rattle.read_back.specs.Shown.{with-stand-in}
+use Rattle.read_back.specs.Shown.{Shown, with-stand-in}
 use Rattle.memory.specs.Memory.{Memory}
 use Rattle.line_rows.specs.Lines.{lineColumns}
 use Rattle.demand3.specs.Lists.{Call, tree, lines-tree, symbol, write, Outcome, outcome, Standing, none-counted, run, Typed}
@@ -38,8 +38,8 @@ exported-beginning r id arch f s m = let o = beginCall r id arch f s m in none-c
 
 -- what a write that answers 0 leaves, after a beginning with this debug id and arch number and after the counted calls gs: the output begins with the
 -- file, and beyond it keeps its content; the word of the length, where one is lent, has its length. Reopened unchanged, the file is what demand 3 says
--- (`Reopened`), and the exported readers alone show it: at every address what the plain tables of the counted calls say, and, where the premises hold,
--- at each address that a line of a root covers, the frames asked for
+-- (`Reopened`), and the exported readers alone show it: at every address what the plain tables of the counted calls say, at most 42 frames (K7); and,
+-- where the premises hold, at each address that a line of a root covers, the frames asked for
 pub record FileLeft (id : List ℕ) (arch : ℕ) (X : Setup) (gs : List Given) (out l : List ℕ) (o : LeftFile) : Type 0 where
   pub file : List ℕ
   pub begins : o .output ≡ file ++ drop (length file) out
@@ -47,6 +47,7 @@ pub record FileLeft (id : List ℕ) (arch : ℕ) (X : Setup) (gs : List Given) (
   pub len : o .len ≡ stored (length file ∷ []) l
   pub reopened : Reopened id arch X gs file
   pub every-address : (d : List ℕ) (x : ℕ) → FoundByCalls file d x (map (with-stand-in d) (frames-at (converted X gs) x))
+  pub few-frames : (d : List ℕ) (x : ℕ) (vs : List Shown) → FoundByCalls file d x vs → length vs ≤ 42
   pub demanded : Premises gs → (q : FunctionRow) (rs : List FunctionRow) → tree-rows q rs ∈ gs
       → (n : LineRow) → n ∈ q .lines → (x : ℕ) → Covers (reach n) x → (d : List ℕ) → FoundByCalls file d x (asked X d x q rs)
 

@@ -10,7 +10,7 @@ use lib.ListN.{length, take}
 use borrow.Author.Tests.{eq-eqb, ne-eqb, le-leb, lt-leb, eqb-false}
 use Rattle.slices.specs.Slices.{zeros}
 use Rattle.rows.specs.Columns.{Columns, columns}
-use Rattle.refusals.specs.Refusals.{shaped?, texts?, ends?, room?, treeRefusal}
+use Rattle.refusals.specs.Refusals.{shaped?, shallow?, texts?, ends?, room?, treeRefusal}
 use Rattle.rows.specs.declared.LineRow.{LineRow}
 use Rattle.memory.specs.Memory.{Memory}
 use Rattle.memory.specs.Record.{usable?}
@@ -65,14 +65,16 @@ fits32 n m h = omega arith
 
 rows-kept : (k : Columns) (s : ℕ) (c : Converter) (r : List ℕ) → eqb (treeRefusal k s) 0 ≡ false → kept (treeRefusal k s) c r ≡ r
 unfolding treeRefusal kept
-rows-kept k s c r = go (shaped? k) (texts? k) (ends? k) (room? k s)
+rows-kept k s c r = go (shaped? k) (shallow? k) (texts? k) (ends? k) (room? k s)
   where
-    go : (a b d e : Bool) → eqb (cond a (cond b (cond d (cond e 0 16) 15) 14) 13) 0 ≡ false → kept (cond a (cond b (cond d (cond e 0 16) 15) 14) 13) c r ≡ r
-    go false b d e h = refl
-    go true false d e h = refl
-    go true true false e h = refl
-    go true true true false h = refl
-    go true true true true h = absurd (eqb-false 0 0 h refl)
+    go : (a x b d e : Bool) → eqb (cond a (cond x (cond b (cond d (cond e 0 16) 15) 14) 25) 13) 0 ≡ false
+        → kept (cond a (cond x (cond b (cond d (cond e 0 16) 15) 14) 25) 13) c r ≡ r
+    go false x b d e h = refl
+    go true false b d e h = refl
+    go true true false d e h = refl
+    go true true true false e h = refl
+    go true true true true false h = refl
+    go true true true true true h = absurd (eqb-false 0 0 h refl)
 
 kept-16 : (c : Converter) (r : List ℕ) → kept 16 c r ≡ r
 unfolding kept

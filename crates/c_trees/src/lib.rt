@@ -15,7 +15,7 @@ use refusals::SYMCACHE_SCRATCH_TOO_SMALL;
 use slices::zero;
 use slices::zero64;
 
-// A tree: 0, or 19, 13, 14, 15, 16, 17.
+// A tree: 0, or 19, 13, 25, 14, 15, 16, 17.
 pub fn process_symbolic_function(
     record: &mut [u32],
     string_bytes: &mut [u8],
@@ -61,7 +61,7 @@ pub fn process_symbolic_function(
     answer.code
 }
 
-// The number that a tree whose line rows are one list is refused with before a row is unpacked: 19, 13, 14, 15, 16; 0 where it isn't. Of the tables,
+// The number that a tree whose line rows are one list is refused with before a row is unpacked: 19, 13, 25, 14, 15, 16; 0 where it isn't. Of the tables,
 // scratch, the memory to unpack into and the line rows the lengths are given; the record is lent as the caller has it, and stays.
 pub fn lines_refusal(
     record: &mut [u32],

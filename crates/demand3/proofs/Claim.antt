@@ -1,5 +1,5 @@
 -- DEMAND 3 IS PROVED. A write that answers 0 finds the list open, so the memory holds the plain tables of the counted calls (EveryList); what it writes is their file (WrittenFile); and of that
--- file's bytes crate read_back has demand 3. What is left here: the depths that 13 leaves, and that the answer 0 is the file and not 18 or 19.
+-- file's bytes crate read_back has demand 3. What is left here: the depths that 13 and 25 leave, and that the answer 0 is the file and not 18 or 19.
 use mathlib.Core.Path.{_≡_, refl, sym, ap, _∙_, subst}
 use mathlib.Core.Bool.{Bool, true, false, cond, _&&_}
 use mathlib.Core.Option.{Option, none, some}
@@ -31,10 +31,13 @@ use Rattle.serialize.specs.File.{Wrote, wrote, write-answer, serializeOf}
 use Rattle.symcache.specs.declared.SymCache.{SymCache}
 use Rattle.symcache.specs.Answers.{gives}
 use Rattle.symcache.specs.Reader.{layoutOf, opened}
+use Rattle.lookup.specs.declared.SourceLocations.{SourceLocations}
+use Rattle.lookup.specs.Lookup.{lookedUp}
 use Rattle.read_back.specs.Bytes.{sections-header, file-bytes}
-use Rattle.read_back.specs.Shown.{with-stand-in, Found}
-use Rattle.read_back.proofs.Written.{file-shows, file-opened, file-demand}
+use Rattle.read_back.specs.Shown.{with-stand-in, Walked, Found}
+use Rattle.read_back.proofs.Written.{file-shows, file-opened, file-short, file-demand}
 use Rattle.symcache.proofs.ReaderLaws.{opened-parsed}
+use Rattle.read_back.proofs.Same.{walked-same}
 use Rattle.read_back.proofs.NeverCut.{next-ends-by-rule}
 use Rattle.symbol_call.specs.Calls.{setup, symbolOf}
 use Rattle.writer.specs.Calls.{treeOf}
@@ -50,8 +53,9 @@ use Rattle.demand3.proofs.WrittenFile.{write-answers}
 
 -- ── The depths of counted trees ──
 
+-- a tree's, and none deeper than 41
 abbrev Shaped : Given → Type 0
-Shaped (tree-rows q rs) = (q .depth ≡ 0) × Legal 0 rs
+Shaped (tree-rows q rs) = (q .depth ≡ 0) × (Legal 0 rs × ((r : FunctionRow) → r ∈ rs → r .depth ≤ 41))
 Shaped (symbol-row y) = Unit {0}
 
 accepted-tree : (r : Standing Converter) (k : Columns) (s : List ℕ) → treeOf (r .carrier) (r .memory) s k .code ≡ 0 → treeRefusal k (length s) ≡ 0
@@ -64,7 +68,7 @@ accepted-tree r k s e = go (usable? (r .carrier) (r .memory)) (eqb (treeRefusal 
     go false b u v = let bad : _≡_ {A = ℕ} 19 0 = rw (u, treeOf) at e in absurd (omega arith)
 
 tree-shaped : (k : Columns) (s : ℕ) → treeRefusal k s ≡ 0 → Shaped (givenTree k)
-tree-shaped k s e = let a = accepted k s e in (a .first, a .legal)
+tree-shaped k s e = let a = accepted k s e in (a .first, (a .legal, a .shallow))
 
 one-more : (gs : List Given) (g : Given) → ((h : Given) → h ∈ gs → Shaped h) → Shaped g → (h : Given) → h ∈ (gs ++ (g ∷ [])) → Shaped h
 one-more gs g a b h i = ⊎-elim (λ j. a h j) (λ j. ∈-elim Shaped b (λ y z. elim z [ ]) h j) (∈-append gs i)
@@ -96,7 +100,7 @@ run-shaped (k ∷ ks) r a = run-shaped ks (next by-value k r) (next-shaped k r a
 
 -- with these, the premises are those of the model
 whole : (g : Given) → Nested g → Shaped g → WellNested g
-whole (tree-rows q rs) a b = record { first = b .0; legal = b .1; root = a .0; others = a .1; rows = a .2 }
+whole (tree-rows q rs) a b = record { first = b .0; legal = b .1 .0; root = a .0; others = a .1; rows = a .2 }
 whole (symbol-row y) a b = tt
 
 -- ── A line of the root covers the address ──
@@ -146,6 +150,14 @@ open-shows n b r id arch X file h same size small shaped e =
       opens = opens;
       every-address = λ d x. subst (λ (f : List ℕ). Found f d x (map (with-stand-in d) (frames-at (converted X gs) x))) at (file-shows X gs (h .fitting) K (capacities-lent n) room id arch size low [] d x);
       ends-by-rule = next-ends-by-rule file;
+      few-frames = λ x k fs e w.
+          let f = file-shows X gs (h .fitting) K (capacities-lent n) room id arch size low [] [] x in
+          let short = file-short X gs (h .fitting) K (capacities-lent n) room id arch size low [] [] x 41 (λ q rs i t j. shaped (tree-rows q rs) i .1 .1 t j) in
+          let there : lookedUp file x ≡ gives (f .cursor) = subst (λ (l : List ℕ). lookedUp l x ≡ gives (f .cursor)) at (f .looked) in
+          let walk : Walked file (f .cursor) (f .frames) = subst (λ (l : List ℕ). Walked l (f .cursor) (f .frames)) at (f .walked) in
+          let same : k ≡ f .cursor = cc in
+          let long = ap length (walked-same (subst (λ (l : SourceLocations). Walked file l fs) same w) walk) in
+          omega arith;
       demanded = λ p q rs i l j x m.
           let well : (g : Given) → g ∈ gs → WellNested g = λ g k. whole g (p .nested g k) (shaped g k) in
           let some : nested-at X x (q ∷ rs) ≢ [] = found-some X q rs x (line-found (q .lines) l x j m) in

@@ -22,7 +22,7 @@ use Rattle.model.proofs.Spans.{∈-elim, ∈-append}
 use Rattle.model.proofs.Compact.{GivenFits, SymbolFits}
 use Rattle.model.proofs.Grown.{room}
 use Rattle.rows.specs.Columns.{Columns, treeRows, textOf, rootRow, laterRows}
-use Rattle.refusals.specs.Refusals.{treeRefusal, shaped?, texts?, ends?, room?, inside?, optional?, readable?}
+use Rattle.refusals.specs.Refusals.{treeRefusal, shaped?, shallow?, texts?, ends?, room?, inside?, optional?, readable?}
 use Rattle.rows.specs.declared.OptionalPart.{OptionalPart}
 use Rattle.rows.specs.declared.LineRow.{LineRow}
 use Rattle.refusals.proofs.Accepted.{Accepted, accepted, given-fits}
@@ -145,14 +145,15 @@ due-17 false e = refl
 
 other-refusals : (k : Columns) (s : ℕ) → treeRefusal k s ≢ 17
 unfolding treeRefusal
-other-refusals k s = go (shaped? k) (texts? k) (ends? k) (room? k s)
+other-refusals k s = go (shaped? k) (shallow? k) (texts? k) (ends? k) (room? k s)
   where
-    go : (a b c d : Bool) → _≢_ {A = ℕ} (cond a (cond b (cond c (cond d 0 16) 15) 14) 13) 17
-    go false b c d e = absurd (omega arith)
-    go true false c d e = absurd (omega arith)
-    go true true false d e = absurd (omega arith)
-    go true true true false e = absurd (omega arith)
-    go true true true true e = absurd (omega arith)
+    go : (a x b c d : Bool) → _≢_ {A = ℕ} (cond a (cond x (cond b (cond c (cond d 0 16) 15) 14) 25) 13) 17
+    go false x b c d e = absurd (omega arith)
+    go true false b c d e = absurd (omega arith)
+    go true true false c d e = absurd (omega arith)
+    go true true true false d e = absurd (omega arith)
+    go true true true true false e = absurd (omega arith)
+    go true true true true true e = absurd (omega arith)
 
 tree-usable : (c : Converter) (m : Memory) (s : List ℕ) (k : Columns) → usable? c m ≡ true
     → treeOf c m s k ≡ cond (eqb (treeRefusal k (length s)) 0) (finished c s (rows-converted c m k)) (called (treeRefusal k (length s)) c m s)
@@ -184,7 +185,7 @@ module _ (n : Lens) (b : Converter) (r : Standing Converter) (k : Columns) (s : 
       tree-usable (r .carrier) (r .memory) s k (open-usable n b r h) ∙ rw (eq-eqb refusal 0 z) (ap (finished (r .carrier) s) (rows-are z)) in
       subst (Done n b r (givenTree k) s) (sym e) (done n b r (givenTree k) s h (given-fits k (a .texts) (a .shape) t))
 
-  -- the number of a tree: 13, 14, 15, 16 as they are due; else 17 if the plain tables after it would not fit; else 0
+  -- the number of a tree: 13, 25, 14, 15, 16 as they are due; else 17 if the plain tables after it would not fit; else 0
   pub tree-number : Typed (tree k s) → treeOf (r .carrier) (r .memory) s k .code ≡ cond (eqb refusal 0) (due (capacities n) (setup b) (r .counted) (givenTree k)) refusal
   tree-number t = go (eqb refusal 0) refl
     where

@@ -1,5 +1,5 @@
--- A LIST OF TWENTY-TWO CALLS IS AN INSTANCE of demand 3, over words, with both switches on: three roots, two of which touch; inlinees one and two deep; symbols that start or end at a root's first address, at its
--- end, and between roots; refused calls of every number from 13 to 19, some of them across a root that counts; two writes that answer 0, the second after more calls. By computation alone (the contracts'
+-- A LIST OF TWENTY-THREE CALLS IS AN INSTANCE of demand 3, over words, with both switches on: three roots, two of which touch; inlinees one and two deep; symbols that start or end at a root's first address, at its
+-- end, and between roots; refused calls of every number from 13 to 19 and of 25, some of them across a root that counts; two writes that answer 0, the second after more calls. By computation alone (the contracts'
 -- own definitions, run by the checker): the number of every call, which calls count at each write, and the premises. By `demand3`: the frames that each file shows.
 use Prim.Native.Nat.{ℕ, _≤_}
 use mathlib.Core.Path.{_≡_, refl, sym, ap, _∙_, subst}
@@ -24,7 +24,8 @@ use Rattle.model.specs.Frames.{callers, frames-of, better, best, frames-at}
 use Rattle.model.specs.Premises.{inlinees, line-at, nested-at}
 use Rattle.model.proofs.Worked.{trk, pos, ars, prs, src, b, line, inlinee-row}
 use Rattle.rows.specs.Columns.{Columns, functionInColumns, lineInColumns, partOf, lineAt, linesFrom, treeRow, treeRowsFrom}
-use Rattle.refusals.specs.Refusals.{each, total, lengths?, count?, depth?, shaped?, inside?, readable?, optional?, functionTexts?, lineTexts?, texts?, end?, ends?, room?, treeRefusal}
+use Rattle.refusals.specs.Refusals.{each, total, lengths?, count?, depth?, shaped?, shallowRow?, shallow?, inside?, readable?, optional?, functionTexts?, lineTexts?, texts?, end?, ends?, room?, treeRefusal}
+use Rattle.refusals.proofs.Examples.{chain32, chain}
 use Rattle.tables.specs.Table.{rowAt, linkAt, headAt, setRow, appendOf, overOf, bucketOf, walk, keyOf, sameRow, hashOf, hitAt, newestOf, lookupOf, insertAt, insertOf, capacityOf}
 use Rattle.tables.specs.Ranges.{getOf, replaceOf, putAt, putOf}
 use Rattle.strings.specs.Strings.{textCapacityOf, storedText, textSize, hashFrom, textHash, textRow, isText, textAt, newestText, findText, indexOf, fullOf, storeOf, insertTextAt, insertTextOf}
@@ -111,6 +112,7 @@ first-calls =
     named 0x0ff0 16 22 4  -- `_low`; it ends where the first root begins
     ∷ tree (first-tree 1) (replicate 20 7)
     ∷ tree (first-tree 0) (replicate 20 7)  -- 13: a later depth 0
+    ∷ tree (chain 43) (replicate 172 7)  -- 25: 43 rows, each inside the one before it
     ∷ tree (lone 0x1008 16 26 1) (replicate 8 7)  -- 14: a name that isn't UTF-8
     ∷ tree (lone 0xffff_ffff_ffff_fff8 8 1 3) (replicate 8 7)  -- 15: its end is 2^64
     ∷ tree across (replicate 7 7)  -- 16: a word less than it needs
@@ -223,14 +225,14 @@ second-counted = first-counted ++ (tree-rows third-root (inner ∷ innermost ∷
 
 pub record Computed : Type 0 where
   pub words-typed : every? typed? calls ≡ true
-  pub answers : numbers by-value calls start ≡ 0 ∷ 0 ∷ 13 ∷ 14 ∷ 15 ∷ 16 ∷ 14 ∷ 18 ∷ 0 ∷ 0 ∷ 0 ∷ 0 ∷ 0 ∷ 0 ∷ 0 ∷ 0 ∷ 18 ∷ 0 ∷ 17 ∷ 19 ∷ 19 ∷ 19 ∷ []
+  pub answers : numbers by-value calls start ≡ 0 ∷ 0 ∷ 13 ∷ 25 ∷ 14 ∷ 15 ∷ 16 ∷ 14 ∷ 18 ∷ 0 ∷ 0 ∷ 0 ∷ 0 ∷ 0 ∷ 0 ∷ 0 ∷ 0 ∷ 18 ∷ 0 ∷ 17 ∷ 19 ∷ 19 ∷ 19 ∷ []
   pub first-counts : first-stand .counted ≡ first-counted
   pub first-met : premises? first-counted ≡ true
   pub second-counts : second-stand .counted ≡ second-counted
   pub second-met : premises? second-counted ≡ true
 
 pub computed : Computed
-unfolding every? some? typed? numbers next run usableIn finished beginOf treeOf symbolOf functionInColumns lineInColumns partOf lineAt linesFrom treeRow treeRowsFrom each total lengths? count? depth? shaped? inside? readable? optional? functionTexts? lineTexts? texts? end? ends? room? treeRefusal utf8 chars charLen UTF8-char fits within names.starts-with names.special names.contains names.rfind names.digit names.digits names.value names.number names.parses names.sized names.cut names.prefixed names.undecorated before place sort advanceM set-atM kid-spansM unless-held put-end walkM loopM entryM closingM rowM convertM startM named-symbolM convert-symbolM isNoSourceLocation rowAt linkAt headAt setRow appendOf overOf bucketOf walk keyOf sameRow hashOf hitAt newestOf lookupOf insertAt insertOf capacityOf getOf replaceOf putAt putOf textCapacityOf encoded-in encoded storedText textSize hashFrom textHash textRow isText textAt newestText findText indexOf fullOf storeOf insertTextAt insertTextOf fitsIn store add-function add-file-row add-call put-range store-six locate-six begin-named serializeOf written-file versionInfoBytes headerBytes bytes.wordBytes bytes.le bytes.tableBytes file-row fileBytes function-row functionBytes call-row locationBytes location-row start-row rangeBytes padding in-order entries table.rowsFrom inlinees asc? row-well? last-at? holds? inlinee-well? disjoint? apart? rows-well? nested? not-in? symbol-clear? separate? all-separate? premises?
+unfolding chain32 every? some? typed? numbers next run usableIn finished beginOf treeOf symbolOf functionInColumns lineInColumns partOf lineAt linesFrom treeRow treeRowsFrom each total lengths? count? depth? shaped? shallowRow? shallow? inside? readable? optional? functionTexts? lineTexts? texts? end? ends? room? treeRefusal utf8 chars charLen UTF8-char fits within names.starts-with names.special names.contains names.rfind names.digit names.digits names.value names.number names.parses names.sized names.cut names.prefixed names.undecorated before place sort advanceM set-atM kid-spansM unless-held put-end walkM loopM entryM closingM rowM convertM startM named-symbolM convert-symbolM isNoSourceLocation rowAt linkAt headAt setRow appendOf overOf bucketOf walk keyOf sameRow hashOf hitAt newestOf lookupOf insertAt insertOf capacityOf getOf replaceOf putAt putOf textCapacityOf encoded-in encoded storedText textSize hashFrom textHash textRow isText textAt newestText findText indexOf fullOf storeOf insertTextAt insertTextOf fitsIn store add-function add-file-row add-call put-range store-six locate-six begin-named serializeOf written-file versionInfoBytes headerBytes bytes.wordBytes bytes.le bytes.tableBytes file-row fileBytes function-row functionBytes call-row locationBytes location-row start-row rangeBytes padding in-order entries table.rowsFrom inlinees asc? row-well? last-at? holds? inlinee-well? disjoint? apart? rows-well? nested? not-in? symbol-clear? separate? all-separate? premises?
 computed = record {
   words-typed = refl;
   answers = refl;
@@ -248,7 +250,7 @@ pub record Refused : Type 0 where
   pub crosses : Premises (first-counted ++ (givenTree across ∷ [])) → ⊥
 
 pub refused : Refused
-unfolding functionInColumns lineInColumns partOf lineAt linesFrom treeRow treeRowsFrom each total lengths? count? depth? shaped? inside? readable? optional? functionTexts? lineTexts? texts? end? ends? room? treeRefusal utf8 chars charLen UTF8-char fits within
+unfolding functionInColumns lineInColumns partOf lineAt linesFrom treeRow treeRowsFrom each total lengths? count? depth? shaped? shallowRow? shallow? inside? readable? optional? functionTexts? lineTexts? texts? end? ends? room? treeRefusal utf8 chars charLen UTF8-char fits within
 refused = record {
   taken = refl;
   crosses = λ p. let clear = p .separate .1 .0 (givenTree across) (there (there (there (there (there here))))) in ⊎-elim (λ (h : 0x1010 ≤ 0x1008). omega arith) (λ (h : 0x1018 ≤ 0x1000). omega arith) clear;
@@ -264,10 +266,10 @@ second-file = file-written second-written
 
 -- both writes answer 0
 pub first-zero : first-written .code ≡ 0
-first-zero = sym (number-in by-value first-calls (more-calls ++ (write second-output ∷ last-calls)) (write first-output) start) ∙ ap (λ (l : List ℕ). getD l 13 0) (computed .answers)
+first-zero = sym (number-in by-value first-calls (more-calls ++ (write second-output ∷ last-calls)) (write first-output) start) ∙ ap (λ (l : List ℕ). getD l 14 0) (computed .answers)
 
 pub second-zero : second-written .code ≡ 0
-second-zero = sym (number-in by-value before-second last-calls (write second-output) start) ∙ ap (λ (l : List ℕ). getD l 17 0) (computed .answers)
+second-zero = sym (number-in by-value before-second last-calls (write second-output) start) ∙ ap (λ (l : List ℕ). getD l 18 0) (computed .answers)
 
 pub first-reopened : Reopened id 5 switches first-counted first-file
 first-reopened =

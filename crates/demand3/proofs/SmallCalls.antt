@@ -25,7 +25,7 @@ use Rattle.model.proofs.Worked.{plain-setup}
 use Rattle.rows.specs.Columns.{Columns, functionInColumns, lineInColumns, partOf, lineAt, linesFrom, treeRow, treeRowsFrom}
 use Rattle.rows.specs.declared.OptionalPart.{OptionalPart}
 use Rattle.rows.specs.declared.LineRow.{LineRow as LineStruct}
-use Rattle.refusals.specs.Refusals.{each, total, lengths?, count?, depth?, shaped?, inside?, readable?, optional?, functionTexts?, lineTexts?, texts?, end?, ends?, room?, treeRefusal}
+use Rattle.refusals.specs.Refusals.{each, total, lengths?, count?, depth?, shaped?, shallowRow?, shallow?, inside?, readable?, optional?, functionTexts?, lineTexts?, texts?, end?, ends?, room?, treeRefusal}
 use Rattle.tables.specs.Table.{rowAt, linkAt, headAt, setRow, appendOf, overOf, bucketOf, walk, keyOf, sameRow, hashOf, hitAt, newestOf, lookupOf, insertAt, insertOf, capacityOf}
 use Rattle.tables.specs.Ranges.{getOf, replaceOf, putAt, putOf}
 use Rattle.strings.specs.Strings.{textCapacityOf, storedText, textSize, hashFrom, textHash, textRow, isText, textAt, newestText, findText, indexOf, fullOf, storeOf, insertTextAt, insertTextOf}
@@ -121,7 +121,7 @@ pub record Computed : Type 0 where
   pub met : premises? given ≡ true
 
 pub computed : Computed
-unfolding every? some? typed? numbers next run usableIn finished beginOf treeOf linesOf packed unpackRoom? functionInColumns lineInColumns partOf lineAt linesFrom treeRow treeRowsFrom each total lengths? count? depth? shaped? inside? readable? optional? functionTexts? lineTexts? texts? end? ends? room? treeRefusal utf8 chars charLen UTF8-char fits within before place sort advanceM set-atM kid-spansM unless-held put-end walkM loopM entryM closingM rowM convertM startM isNoSourceLocation rowAt linkAt headAt setRow appendOf overOf bucketOf walk keyOf sameRow hashOf hitAt newestOf lookupOf insertAt insertOf capacityOf getOf replaceOf putAt putOf textCapacityOf encoded-in encoded storedText textSize hashFrom textHash textRow isText textAt newestText findText indexOf fullOf storeOf insertTextAt insertTextOf fitsIn store add-function add-file-row add-call put-range store-six locate-six begin-named serializeOf written-file versionInfoBytes headerBytes bytes.wordBytes bytes.le bytes.tableBytes file-row fileBytes function-row functionBytes call-row locationBytes location-row start-row rangeBytes padding in-order entries table.rowsFrom inlinees asc? row-well? last-at? holds? inlinee-well? disjoint? apart? rows-well? nested? separate? all-separate? premises?
+unfolding every? some? typed? numbers next run usableIn finished beginOf treeOf linesOf packed unpackRoom? functionInColumns lineInColumns partOf lineAt linesFrom treeRow treeRowsFrom each total lengths? count? depth? shaped? shallowRow? shallow? inside? readable? optional? functionTexts? lineTexts? texts? end? ends? room? treeRefusal utf8 chars charLen UTF8-char fits within before place sort advanceM set-atM kid-spansM unless-held put-end walkM loopM entryM closingM rowM convertM startM isNoSourceLocation rowAt linkAt headAt setRow appendOf overOf bucketOf walk keyOf sameRow hashOf hitAt newestOf lookupOf insertAt insertOf capacityOf getOf replaceOf putAt putOf textCapacityOf encoded-in encoded storedText textSize hashFrom textHash textRow isText textAt newestText findText indexOf fullOf storeOf insertTextAt insertTextOf fitsIn store add-function add-file-row add-call put-range store-six locate-six begin-named serializeOf written-file versionInfoBytes headerBytes bytes.wordBytes bytes.le bytes.tableBytes file-row fileBytes function-row functionBytes call-row locationBytes location-row start-row rangeBytes padding in-order entries table.rowsFrom inlinees asc? row-well? last-at? holds? inlinee-well? disjoint? apart? rows-well? nested? separate? all-separate? premises?
 computed = record { words-typed = refl; answers = refl; counted = refl; met = refl }
 
 -- ── What a file shows where these two trees count ──

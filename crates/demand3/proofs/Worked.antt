@@ -19,7 +19,7 @@ use Rattle.model.specs.Frames.{Frame}
 use Rattle.model.specs.Premises.{inlinees, line-at, nested-at}
 use Rattle.model.proofs.Worked.{plain-setup, trk, pos, ars, prs, src, b, line, root-row, inlinee-row, worked, worked-file}
 use Rattle.rows.specs.Columns.{functionInColumns, lineInColumns, partOf, lineAt, linesFrom, treeRow, treeRowsFrom}
-use Rattle.refusals.specs.Refusals.{each, total, lengths?, count?, depth?, shaped?, inside?, readable?, optional?, functionTexts?, lineTexts?, texts?, end?, ends?, room?, treeRefusal}
+use Rattle.refusals.specs.Refusals.{each, total, lengths?, count?, depth?, shaped?, shallowRow?, shallow?, inside?, readable?, optional?, functionTexts?, lineTexts?, texts?, end?, ends?, room?, treeRefusal}
 use Rattle.refusals.proofs.Examples.{worked-columns}
 use Rattle.tables.specs.Table.{rowAt, linkAt, headAt, setRow, appendOf, overOf, bucketOf, walk, keyOf, sameRow, hashOf, hitAt, newestOf, lookupOf, insertAt, insertOf, capacityOf}
 use Rattle.tables.specs.Ranges.{getOf, replaceOf, putAt, putOf}
@@ -75,7 +75,7 @@ pub record Computed : Type 0 where
   pub met : premises? worked ≡ true
 
 pub computed : Computed
-unfolding every? some? typed? numbers next run usableIn finished beginOf treeOf functionInColumns lineInColumns partOf lineAt linesFrom treeRow treeRowsFrom each total lengths? count? depth? shaped? inside? readable? optional? functionTexts? lineTexts? texts? end? ends? room? treeRefusal utf8 chars charLen UTF8-char fits within before place sort advanceM set-atM kid-spansM unless-held put-end walkM loopM entryM closingM rowM convertM startM isNoSourceLocation rowAt linkAt headAt setRow appendOf overOf bucketOf walk keyOf sameRow hashOf hitAt newestOf lookupOf insertAt insertOf capacityOf getOf replaceOf putAt putOf textCapacityOf encoded-in encoded storedText textSize hashFrom textHash textRow isText textAt newestText findText indexOf fullOf storeOf insertTextAt insertTextOf fitsIn store add-function add-file-row add-call put-range store-six locate-six begin-named serializeOf written-file versionInfoBytes headerBytes bytes.wordBytes bytes.le bytes.tableBytes file-row fileBytes function-row functionBytes call-row locationBytes location-row start-row rangeBytes padding in-order entries table.rowsFrom original.worked inlinees asc? row-well? last-at? holds? inlinee-well? disjoint? apart? rows-well? nested? separate? all-separate? premises?
+unfolding every? some? typed? numbers next run usableIn finished beginOf treeOf functionInColumns lineInColumns partOf lineAt linesFrom treeRow treeRowsFrom each total lengths? count? depth? shaped? shallowRow? shallow? inside? readable? optional? functionTexts? lineTexts? texts? end? ends? room? treeRefusal utf8 chars charLen UTF8-char fits within before place sort advanceM set-atM kid-spansM unless-held put-end walkM loopM entryM closingM rowM convertM startM isNoSourceLocation rowAt linkAt headAt setRow appendOf overOf bucketOf walk keyOf sameRow hashOf hitAt newestOf lookupOf insertAt insertOf capacityOf getOf replaceOf putAt putOf textCapacityOf encoded-in encoded storedText textSize hashFrom textHash textRow isText textAt newestText findText indexOf fullOf storeOf insertTextAt insertTextOf fitsIn store add-function add-file-row add-call put-range store-six locate-six begin-named serializeOf written-file versionInfoBytes headerBytes bytes.wordBytes bytes.le bytes.tableBytes file-row fileBytes function-row functionBytes call-row locationBytes location-row start-row rangeBytes padding in-order entries table.rowsFrom original.worked inlinees asc? row-well? last-at? holds? inlinee-well? disjoint? apart? rows-well? nested? separate? all-separate? premises?
 computed = record { words-typed = refl; answers = refl; counted = refl; file = refl; met = refl }
 
 -- ── What demand 3 gives ──

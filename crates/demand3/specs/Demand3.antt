@@ -19,8 +19,9 @@ use Rattle.symcache.specs.Answers.{gives}
 use Rattle.symcache.specs.Reader.{layoutOf, parsed, opened}
 use Rattle.lookup.specs.declared.SourceLocations.{SourceLocations}
 use Rattle.lookup.specs.declared.Frame.{Frame}
+use Rattle.lookup.specs.Lookup.{lookedUp}
 use Rattle.read_back.specs.Bytes.{sections-header, file-bytes}
-use Rattle.read_back.specs.Shown.{Shown, with-stand-in, Found}
+use Rattle.read_back.specs.Shown.{Shown, with-stand-in, Walked, Found}
 use Rattle.read_back.specs.Ends.{Handed, EndsByRule}
 use Rattle.memory.specs.Memory.{Memory}
 use Rattle.serialize.specs.File.{Wrote, serializeOf}
@@ -69,6 +70,7 @@ plain-layout id arch X gs = layoutOf (sections-header id arch (plain-sections X 
 -- `every-address`: as Lookup says, every lookup answers 0, at every address, and shows what the plain tables of the counted calls say;
 -- `ends-by-rule`: at every cursor that `lookup` and `next` hand out, `next` is at the end exactly where "The walk ends at MAX, outside the table, or at
 -- an index already met" says so;
+-- `few-frames`: K7, a lookup at any address, walked to its end, gives at most 42 frames;
 -- `demanded`: where the premises hold, demand 3
 pub record Reopened (id : List ℕ) (arch : ℕ) (X : Setup) (gs : List Given) (file : List ℕ) : Type 0 where
   pub laid-out : file ≡ file-bytes id arch (plain-sections X gs)
@@ -76,6 +78,7 @@ pub record Reopened (id : List ℕ) (arch : ℕ) (X : Setup) (gs : List Given) (
   pub opens : opened file ≡ gives (plain-layout id arch X gs)
   pub every-address : (d : List ℕ) (x : ℕ) → Found file d x (map (with-stand-in d) (frames-at (converted X gs) x))
   pub ends-by-rule : (fs : List Frame) (k : SourceLocations) → Handed file fs k → EndsByRule file fs k
+  pub few-frames : (x : ℕ) (k : SourceLocations) (fs : List Frame) → lookedUp file x ≡ gives k → Walked file k fs → length fs ≤ 42
   pub demanded : Premises gs → (q : FunctionRow) (rs : List FunctionRow) → tree-rows q rs ∈ gs
       → (n : LineRow) → n ∈ q .lines → (x : ℕ) → Covers (reach n) x → Shows X gs file q rs x
 

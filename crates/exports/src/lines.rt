@@ -9,7 +9,7 @@ use line_rows::lines_texts;
 use line_rows::unpack;
 use rows::LineRow;
 
-// 0, or 19, 13, 14, 15, 16, 17. The memory that the line rows are unpacked into (three 64-bit words and fourteen 32-bit words a row) counts as scratch.
+// 0, or 19, 13, 25, 14, 15, 16, 17. The memory that the line rows are unpacked into (three 64-bit words and fourteen 32-bit words a row) counts as scratch.
 #[no_mangle]
 pub extern "C" fn symcache_process_symbolic_function_lines(
     record: &mut [u32],

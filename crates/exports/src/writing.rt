@@ -50,7 +50,7 @@ pub extern "C" fn symcache_begin(
     )
 }
 
-// A tree: 0, or 19, 13, 14, 15, 16, 17.
+// A tree: 0, or 19, 13, 25, 14, 15, 16, 17.
 #[no_mangle]
 pub extern "C" fn symcache_process_symbolic_function(
     record: &mut [u32],

@@ -10,7 +10,7 @@ use lib.Dec.{eqb, leb}
 use lib.ListN.{length}
 use borrow.Author.Tests.{lt-leb, eq-eqb, eqb-true}
 use Rattle.rows.specs.Columns.{Columns, functionRows, lineRows}
-use Rattle.refusals.specs.Refusals.{shaped?, texts?, ends?, room?, treeRefusal}
+use Rattle.refusals.specs.Refusals.{shaped?, shallow?, texts?, ends?, room?, treeRefusal}
 use Rattle.refusals.proofs.Accepted.{some-row}
 use Rattle.memory.specs.Memory.{Memory}
 use Rattle.memory.specs.declared.Converter.{Converter}
@@ -26,15 +26,17 @@ use Rattle.line_calls.specs.Calls.{LinesCalled, lines-called, linesOf}
 -- with no scratch at all: 16 where there is nothing else to refuse
 pub no-scratch : (k : Columns) (s : ℕ) → treeRefusal k 0 ≡ cond (eqb (treeRefusal k s) 0) 16 (treeRefusal k s)
 unfolding treeRefusal room?
-no-scratch k s = go (shaped? k) (texts? k) (ends? k) (room? k s) refl
+no-scratch k s = go (shaped? k) (shallow? k) (texts? k) (ends? k) (room? k s) refl
   where
-    go : (a b c d : Bool) → shaped? k ≡ a
-        → _≡_ {A = ℕ} (cond a (cond b (cond c (cond (leb (4 * (functionRows k + lineRows k)) 0) 0 16) 15) 14) 13) (cond (eqb (cond a (cond b (cond c (cond d 0 16) 15) 14) 13) 0) 16 (cond a (cond b (cond c (cond d 0 16) 15) 14) 13))
-    go false b c d e = refl
-    go true false c d e = refl
-    go true true false d e = refl
-    go true true true true e = let h = some-row k e in rw (lt-leb (4 * (functionRows k + lineRows k)) 0 (omega (arith, h)))
-    go true true true false e = let h = some-row k e in rw (lt-leb (4 * (functionRows k + lineRows k)) 0 (omega (arith, h)))
+    go : (a x b c d : Bool) → shaped? k ≡ a
+        → _≡_ {A = ℕ} (cond a (cond x (cond b (cond c (cond (leb (4 * (functionRows k + lineRows k)) 0) 0 16) 15) 14) 25) 13)
+        (cond (eqb (cond a (cond x (cond b (cond c (cond d 0 16) 15) 14) 25) 13) 0) 16 (cond a (cond x (cond b (cond c (cond d 0 16) 15) 14) 25) 13))
+    go false x b c d e = refl
+    go true false b c d e = refl
+    go true true false c d e = refl
+    go true true true false d e = refl
+    go true true true true true e = let h = some-row k e in rw (lt-leb (4 * (functionRows k + lineRows k)) 0 (omega (arith, h)))
+    go true true true true false e = let h = some-row k e in rw (lt-leb (4 * (functionRows k + lineRows k)) 0 (omega (arith, h)))
 
 module _ (c : Converter) (m : Memory) (s u v : List ℕ) (k : Columns) where
   -- ── The same call ──

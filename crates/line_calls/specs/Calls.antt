@@ -25,7 +25,7 @@ lines-called o u v = record { called = o; unpacked64 = u; unpacked32 = v }
 
 -- That memory counts as scratch: 16 where it has fewer rows than there are line rows, zero after 17 and after every accepted tree, and any other
 -- refusal changes none of it.
--- "Trees: 19, 13, 14, 15, 16, 17"
+-- "Trees: 19, 13, 14, 15, 16, 17", with 25 right after 13 (K7)
 unfoldable pub linesOf : Converter → Memory → List ℕ → List ℕ → List ℕ → Columns → LinesCalled
 linesOf c m s u v k =
     cond (usable? c m && eqb (treeRefusal k (length s)) 0)

@@ -163,7 +163,7 @@ module _ (ls : List LineRow) (j : ℕ) (h : j < length ls) where
       let b = length32 ls in
       sym (line-in (packed words64 ls) (packed words32 ls) j (omega (arith, a, h)) (omega (arith, b, h))) ∙ words-back
 
--- ── 13 to 16 of the columns, by the list ──
+-- ── 13 to 16 and 25 of the columns, by the list ──
 
 each-same : (p r : ℕ → Bool) (n : ℕ) → ((i : ℕ) → i < n → p i ≡ r i) → each p n ≡ each r n
 unfolding each

@@ -89,7 +89,7 @@ pub fn unpack(refused: u32, lines: &[LineRow], unpacked64: &mut [u64], unpacked3
     }
 }
 
-// The number that the call is refused with before a word is unpacked: 19, 13, 14, 15 or 16, in that order; 0 where it isn't.
+// The number that the call is refused with before a word is unpacked: 19, 13, 25, 14, 15 or 16, in that order; 0 where it isn't.
 pub fn refusal(
     usable: bool,
     scratch: usize,

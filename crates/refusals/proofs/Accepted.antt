@@ -21,19 +21,21 @@ use Rattle.rows.specs.declared.OptionalPart.{OptionalPart}
 use Rattle.rows.specs.declared.FunctionRow.{FunctionRow as FunctionStruct}
 use Rattle.rows.specs.declared.LineRow.{LineRow as LineStruct}
 use Rattle.rows.specs.Columns.{Columns, functionRows, lineRows, functionStruct, lineStruct, textOf, optionalOf, lineAt, linesFrom, treeRow, treeRowsFrom, treeRows, rootRow, laterRows}
-use Rattle.refusals.specs.Refusals.{each, total, lengths?, count?, depth?, firstLine, shaped?, inside?, readable?, optional?, functionTexts?, lineTexts?, texts?, end?, ends?, room?, treeRefusal}
+use Rattle.refusals.specs.Refusals.{each, total, lengths?, count?, depth?, firstLine, shaped?, shallowRow?, shallow?, inside?, readable?, optional?, functionTexts?, lineTexts?, texts?, end?, ends?, room?, treeRefusal}
 use Rattle.rows.proofs.Laws.{function-in}
 use Rattle.refusals.proofs.Laws.{each-at, optional-present}
 use Rattle.rows.proofs.RowLaws.{linesFrom-append}
 
 -- ── The tests, taken apart ──
 
-zero-only : (a b c d : Bool) → _≡_ {A = ℕ} (cond a (cond b (cond c (cond d 0 16) 15) 14) 13) 0 → (a ≡ true) × (b ≡ true) × (c ≡ true) × (d ≡ true)
-zero-only true true true true e = (refl, refl, refl, refl)
-zero-only true true true false e = absurd (omega arith)
-zero-only true true false d e = absurd (omega arith)
-zero-only true false c d e = absurd (omega arith)
-zero-only false b c d e = absurd (omega arith)
+zero-only : (a x b c d : Bool) → _≡_ {A = ℕ} (cond a (cond x (cond b (cond c (cond d 0 16) 15) 14) 25) 13) 0
+    → (a ≡ true) × (x ≡ true) × (b ≡ true) × (c ≡ true) × (d ≡ true)
+zero-only true true true true true e = (refl, refl, refl, refl, refl)
+zero-only true true true true false e = absurd (omega arith)
+zero-only true true true false d e = absurd (omega arith)
+zero-only true true false c d e = absurd (omega arith)
+zero-only true false b c d e = absurd (omega arith)
+zero-only false x b c d e = absurd (omega arith)
 
 four : (a b c d : Bool) → a && (b && (c && d)) ≡ true → (a ≡ true) × (b ≡ true) × (c ≡ true) × (d ≡ true)
 four a b c d e =
@@ -48,10 +50,10 @@ five a b c d x e = let (p, r) = both-true a (b && (c && (d && x))) e in let (q, 
 six : (a b c d x y : Bool) → a && (b && (c && (d && (x && y)))) ≡ true → (a ≡ true) × (b ≡ true) × (c ≡ true) × (d ≡ true) × (x ≡ true) × (y ≡ true)
 six a b c d x y e = let (p, r) = both-true a (b && (c && (d && (x && y)))) e in let (q, m, n, o, l) = five b c d x y r in (p, q, m, n, o, l)
 
--- no number: each of the four tests passes
-pub tests : (k : Columns) (s : ℕ) → treeRefusal k s ≡ 0 → (shaped? k ≡ true) × (texts? k ≡ true) × (ends? k ≡ true) × (room? k s ≡ true)
+-- no number: each of the five tests passes
+pub tests : (k : Columns) (s : ℕ) → treeRefusal k s ≡ 0 → (shaped? k ≡ true) × (shallow? k ≡ true) × (texts? k ≡ true) × (ends? k ≡ true) × (room? k s ≡ true)
 unfolding treeRefusal
-tests k s e = zero-only (shaped? k) (texts? k) (ends? k) (room? k s) e
+tests k s e = zero-only (shaped? k) (shallow? k) (texts? k) (ends? k) (room? k s) e
 
 -- ── 13 ──
 
@@ -297,6 +299,7 @@ pub record Accepted (k : Columns) (s : ℕ) : Type 0 where
   pub first : rootRow k .depth ≡ 0
   pub legal : Legal 0 (laterRows k)
   pub few : functionRows k ≤ 65536
+  pub shallow : (q : FunctionRow) → q ∈ laterRows k → q .depth ≤ 41
   pub sum : firstLine k (functionRows k) ≡ lineRows k
   pub within : (i : ℕ) → i < functionRows k → firstLine k i + functionStruct k i .lines ≤ lineRows k
   pub all-lines : lines-of (treeRows k) ≡ linesFrom k 0 (lineRows k)
@@ -305,6 +308,21 @@ pub record Accepted (k : Columns) (s : ℕ) : Type 0 where
   pub lines : (j : ℕ) → j < lineRows k → LineReadable (k .text) (lineStruct k j)
   pub ends : (i : ℕ) → i < functionRows k → functionStruct k i .address + functionStruct k i .size < 2 ^ 64
   pub room : 4 * (functionRows k + lineRows k) ≤ s
+
+-- 25: no row is deeper than 41
+module _ (k : Columns) (low : shallow? k ≡ true) where
+  not-deep : (i : ℕ) → i < functionRows k → functionStruct k i .depth ≤ 41
+  unfolding shallow? shallowRow?
+  not-deep i h = leb-true _ _ (each-at (λ (r : ℕ). shallowRow? (functionStruct k r)) (functionRows k) i h low)
+
+  shallow-from : (n i j : ℕ) → i + n ≤ functionRows k → (q : FunctionRow) → q ∈ treeRowsFrom k i n j → q .depth ≤ 41
+  unfolding treeRowsFrom treeRow
+  shallow-from zero i j h q m = elim m [ ]
+  shallow-from (suc n) i j h q m =
+      ∈-elim (λ (p : FunctionRow). p .depth ≤ 41) (not-deep i (omega arith)) (λ p o. shallow-from n (suc i) (j + functionStruct k i .lines) (omega arith) p o) q m
+
+  shallow-rows : shaped? k ≡ true → (q : FunctionRow) → q ∈ laterRows k → q .depth ≤ 41
+  shallow-rows shape = let h = some-row k shape in shallow-from (functionRows k - 1) 1 (functionStruct k 0 .lines) (omega arith)
 
 ends-low : (k : Columns) → ends? k ≡ true → (i : ℕ) → i < functionRows k → functionStruct k i .address + functionStruct k i .size < 2 ^ 64
 unfolding ends? end?
@@ -319,7 +337,7 @@ room-enough k s e = leb-true _ _ e
 
 pub accepted : (k : Columns) (s : ℕ) → treeRefusal k s ≡ 0 → Accepted k s
 accepted k s e =
-    let (shape, right, low, room) = tests k s e in
+    let (shape, shallow, right, low, room) = tests k s e in
     record {
       shape = shape;
       texts = right;
@@ -328,6 +346,7 @@ accepted k s e =
       first = first k shape;
       legal = legal k shape;
       few = few-rows k shape;
+      shallow = shallow-rows k shallow shape;
       sum = sum k shape;
       within = lines-within k shape;
       all-lines = all-lines k shape;

@@ -15,7 +15,7 @@ pub use Rattle.slices.proofs.Cases.{and-stop, and-then}
 use Rattle.rows.specs.declared.FunctionRow.{FunctionRow}
 use Rattle.rows.specs.declared.OptionalPart.{OptionalPart}
 use Rattle.rows.specs.Columns.{Columns, functionRows, lineRows, lineStruct, functionInColumns}
-use Rattle.refusals.specs.Refusals.{each, total, lengths?, count?, depth?, shaped?, readable?, optional?, functionTexts?, lineTexts?, texts?, end?, ends?, room?, treeRefusal, functionLengths?, lineLengths?, shapedWith?, refusalWith}
+use Rattle.refusals.specs.Refusals.{each, total, lengths?, count?, depth?, shallowRow?, shallow?, shaped?, readable?, optional?, functionTexts?, lineTexts?, texts?, end?, ends?, room?, treeRefusal, functionLengths?, lineLengths?, shapedWith?, refusalWith}
 
 -- ── Loops over rows ──
 
@@ -98,6 +98,16 @@ module _ (d : ℕ → ℕ) where
   pub depths-most : (i m : ℕ) → m ≡ d i → m + 1 ≡ d (i + 1 - 1) + 1
   depths-most i m e = let z : i + 1 - 1 ≡ i = omega arith in rw (z, e)
 
+-- ── 25 ──
+
+pub deep : (q : FunctionRow) → 41 < q .depth → shallowRow? q ≡ false
+unfolding shallowRow?
+deep q h = lt-leb (q .depth) 41 h
+
+pub not-deep : (q : FunctionRow) → q .depth ≤ 41 → shallowRow? q ≡ true
+unfolding shallowRow?
+not-deep q h = le-leb (q .depth) 41 h
+
 -- ── 15 ──
 
 pub end-no : (q : FunctionRow) → 0xffff_ffff_ffff_ffff - q .address < q .size → end? q ≡ false
@@ -119,7 +129,7 @@ module _ (t : List ℕ) (o : OptionalPart) where
   unfolding optional?
   optional-absent e = rw e
 
--- ── 13 to 16 ──
+-- ── 13 to 16 and 25 ──
 
 module _ (n : ℕ) where
   pub count-yes : (n ≡ 0 → ⊥) → n ≤ 65536 → count? n ≡ true
@@ -141,28 +151,33 @@ module _ (f64 f32 : List ℕ) (n : ℕ) (b : Bool) (t : List ℕ) (s : ℕ) wher
   with-13 e = rw e
 
   module _ (shape : shapedWith? f64 f32 n ≡ true) where
-    pub with-14-functions : each (λ (i : ℕ). functionTexts? t (functionInColumns f64 f32 i)) (length f64 / 2) ≡ false → 14 ≡ refusalWith f64 f32 n b t s
+    pub with-25 : each (λ (i : ℕ). shallowRow? (functionInColumns f64 f32 i)) (length f64 / 2) ≡ false → 25 ≡ refusalWith f64 f32 n b t s
     unfolding refusalWith
-    with-14-functions e = rw (shape, e)
+    with-25 e = rw (shape, e)
 
-    module _ (names : each (λ (i : ℕ). functionTexts? t (functionInColumns f64 f32 i)) (length f64 / 2) ≡ true) where
-      pub with-14-lines : b ≡ false → 14 ≡ refusalWith f64 f32 n b t s
+    module _ (shallow : each (λ (i : ℕ). shallowRow? (functionInColumns f64 f32 i)) (length f64 / 2) ≡ true) where
+      pub with-14-functions : each (λ (i : ℕ). functionTexts? t (functionInColumns f64 f32 i)) (length f64 / 2) ≡ false → 14 ≡ refusalWith f64 f32 n b t s
       unfolding refusalWith
-      with-14-lines e = rw (shape, names, e)
+      with-14-functions e = rw (shape, shallow, e)
 
-      module _ (files : b ≡ true) where
-        pub with-15 : each (λ (i : ℕ). end? (functionInColumns f64 f32 i)) (length f64 / 2) ≡ false → 15 ≡ refusalWith f64 f32 n b t s
+      module _ (names : each (λ (i : ℕ). functionTexts? t (functionInColumns f64 f32 i)) (length f64 / 2) ≡ true) where
+        pub with-14-lines : b ≡ false → 14 ≡ refusalWith f64 f32 n b t s
         unfolding refusalWith
-        with-15 e = rw (shape, names, files, e)
+        with-14-lines e = rw (shape, shallow, names, e)
 
-        module _ (low : each (λ (i : ℕ). end? (functionInColumns f64 f32 i)) (length f64 / 2) ≡ true) where
-          pub with-16 : s / 4 < length f64 / 2 + n → 16 ≡ refusalWith f64 f32 n b t s
+        module _ (files : b ≡ true) where
+          pub with-15 : each (λ (i : ℕ). end? (functionInColumns f64 f32 i)) (length f64 / 2) ≡ false → 15 ≡ refusalWith f64 f32 n b t s
           unfolding refusalWith
-          with-16 h = rw (shape, names, files, low, lt-leb (4 * (length f64 / 2 + n)) s (omega arith))
+          with-15 e = rw (shape, shallow, names, files, e)
 
-          pub with-0 : length f64 / 2 + n ≤ s / 4 → 0 ≡ refusalWith f64 f32 n b t s
-          unfolding refusalWith
-          with-0 h = rw (shape, names, files, low, le-leb (4 * (length f64 / 2 + n)) s (omega arith))
+          module _ (low : each (λ (i : ℕ). end? (functionInColumns f64 f32 i)) (length f64 / 2) ≡ true) where
+            pub with-16 : s / 4 < length f64 / 2 + n → 16 ≡ refusalWith f64 f32 n b t s
+            unfolding refusalWith
+            with-16 h = rw (shape, shallow, names, files, low, lt-leb (4 * (length f64 / 2 + n)) s (omega arith))
+
+            pub with-0 : length f64 / 2 + n ≤ s / 4 → 0 ≡ refusalWith f64 f32 n b t s
+            unfolding refusalWith
+            with-0 h = rw (shape, shallow, names, files, low, le-leb (4 * (length f64 / 2 + n)) s (omega arith))
 
 -- rows in columns: their lengths are two tests, of the function rows' slices and of the line rows'
 six : (a b c d e f : Bool) → a && (b && (c && (d && (e && f)))) ≡ (a && (b && e)) && (c && (d && f))
@@ -186,7 +201,7 @@ module _ (k : Columns) where
 
   pub refusal-columns : (s : ℕ) → lineLengths? (k .lines64) (k .lines32) ≡ true
       → refusalWith (k .functions64) (k .functions32) (lineRows k) (each (λ (j : ℕ). lineTexts? (k .text) (lineStruct k j)) (lineRows k)) (k .text) s ≡ treeRefusal k s
-  unfolding refusalWith treeRefusal shapedWith? shaped? texts? ends? room?
+  unfolding refusalWith treeRefusal shapedWith? shaped? shallow? texts? ends? room?
   refusal-columns s e = rw (lengths-two, e, and-true)
 
   pub refusal-lengths : (s : ℕ) → lineLengths? (k .lines64) (k .lines32) ≡ false → 13 ≡ treeRefusal k s

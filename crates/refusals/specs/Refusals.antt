@@ -1,5 +1,5 @@
--- The numbers 13 to 16, in include/symcache.h INVALID_ROWS, INVALID_TEXT, ADDRESS_OVERFLOW and SCRATCH_TOO_SMALL: "one definition over the rows, callable
--- by itself". "A number is given when its condition holds and no earlier one's does, and only then."
+-- The numbers 13 to 16 and 25, in include/symcache.h INVALID_ROWS, INVALID_TEXT, ADDRESS_OVERFLOW, SCRATCH_TOO_SMALL and TOO_DEEP: "one definition over
+-- the rows, callable by itself". "A number is given when its condition holds and no earlier one's does, and only then."
 use mathlib.Core.Bool.{Bool, true, cond, _&&_}
 use mathlib.Core.List.{List}
 use Prim.Native.Nat.{ℕ, zero, suc, _+_, _*_, _/_, _%_}
@@ -53,6 +53,16 @@ shaped? k =
     && (count? (functionRows k)
     && (each (depth? (λ (i : ℕ). functionStruct k i .depth)) (functionRows k) && eqb (firstLine k (functionRows k)) (lineRows k)))
 
+-- ── 25 ──
+
+-- K7: "the deepest inlinee stood at depth 41, with the root at 0. That becomes the limit"
+unfoldable pub shallowRow? : FunctionRow → Bool
+shallowRow? q = leb (q .depth) 41
+
+-- "a function row deeper than 41": none, be it visited or not
+unfoldable pub shallow? : Columns → Bool
+shallow? k = each (λ (i : ℕ). shallowRow? (functionStruct k i)) (functionRows k)
+
 -- ── 14 ──
 
 -- "a text outside the lent text": an empty one too, where it starts past the end
@@ -94,9 +104,9 @@ ends? k = each (λ (i : ℕ). end? (functionStruct k i)) (functionRows k)
 unfoldable pub room? : Columns → ℕ → Bool
 room? k s = leb (4 * (functionRows k + lineRows k)) s
 
--- "13, 14, 15, 16": 0 where there is nothing to refuse
+-- "13, 14, 15, 16", with 25 "right after 13": 0 where there is nothing to refuse
 unfoldable pub treeRefusal : Columns → ℕ → ℕ
-treeRefusal k s = cond (shaped? k) (cond (texts? k) (cond (ends? k) (cond (room? k s) 0 16) 15) 14) 13
+treeRefusal k s = cond (shaped? k) (cond (shallow? k) (cond (texts? k) (cond (ends? k) (cond (room? k s) 0 16) 15) 14) 25) 13
 
 -- ── The same where of the line rows their count is given, n, and whether their texts are in order, b ──
 
@@ -116,7 +126,9 @@ shapedWith? f64 f32 n =
 unfoldable pub refusalWith : List ℕ → List ℕ → ℕ → Bool → List ℕ → ℕ → ℕ
 refusalWith f64 f32 n b t s =
     cond (shapedWith? f64 f32 n)
+    (cond (each (λ (i : ℕ). shallowRow? (functionInColumns f64 f32 i)) (length f64 / 2))
     (cond (each (λ (i : ℕ). functionTexts? t (functionInColumns f64 f32 i)) (length f64 / 2) && b)
     (cond (each (λ (i : ℕ). end? (functionInColumns f64 f32 i)) (length f64 / 2)) (cond (leb (4 * (length f64 / 2 + n)) s) 0 16) 15)
     14)
+    25)
     13

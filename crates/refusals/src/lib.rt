@@ -1,4 +1,4 @@
-// The numbers 13 to 16 of a tree call, from its rows alone.
+// The numbers 13 to 16 and 25 of a tree call, from its rows alone.
 ghost use mathlib.Core.Path.{_≡_};
 ghost use mathlib.Core.List.{List};
 ghost use Prim.Native.Nat.{ℕ, _≤_};
@@ -9,6 +9,7 @@ ghost use Rattle.refusals.specs.Refusals.{
   functionLengths?,
   lineLengths?,
   depth?,
+  shallowRow?,
   shapedWith?,
   inside?,
   readable?,
@@ -37,6 +38,11 @@ pub const SYMCACHE_INVALID_TEXT: u32 = 14;
 pub const SYMCACHE_ADDRESS_OVERFLOW: u32 = 15;
 
 pub const SYMCACHE_SCRATCH_TOO_SMALL: u32 = 16;
+
+pub const SYMCACHE_TOO_DEEP: u32 = 25;
+
+// The depth of the deepest function row that is taken.
+pub const SYMCACHE_MAX_DEPTH: u32 = 41;
 
 // 13: the lengths of the function rows' slices are those of whole rows, and agree.
 fn function_lengths(functions64: &[u64], functions32: &[u32]) -> bool
@@ -120,6 +126,22 @@ fn shaped(functions64: &[u64], functions32: &[u32], lines: usize) -> bool
         return false;
     }
     line_count(functions64, functions32, n) == lines
+}
+
+// 25: none of the first n function rows lies deeper than 41, also of those that will be skipped.
+fn shallow(functions64: &[u64], functions32: &[u32], n: usize) -> bool
+    ensures { λ r. let row = functionInColumns (now (functions64 .entry)) (now (functions32 .entry)) in
+        ⌜ r ≡ each (λ (i : ℕ). shallowRow? (row i)) n ⌝ }
+{
+    let mut i = 0;
+    while i < n {
+        let q = function_row(functions64, functions32, i);
+        if SYMCACHE_MAX_DEPTH < q.depth {
+            return false;
+        }
+        i += 1;
+    }
+    true
 }
 
 // 14: the part lies inside the text.
@@ -226,8 +248,8 @@ fn ends(functions64: &[u64], functions32: &[u32], n: usize) -> bool
     true
 }
 
-// The number that a tree call refuses its rows with, where of its line rows their count is given and whether their texts are in order: 13, 14, 15 or 16,
-// in that order; 0 where it takes them.
+// The number that a tree call refuses its rows with, where of its line rows their count is given and whether their texts are in order: 13, 25, 14, 15 or
+// 16, in that order; 0 where it takes them.
 pub fn refusal_with(
     functions64: &[u64],
     functions32: &[u32],
@@ -243,6 +265,9 @@ pub fn refusal_with(
     let n = functions64.len() / 2;
     if !shaped(functions64, functions32, lines) {
         return SYMCACHE_INVALID_ROWS;
+    }
+    if !shallow(functions64, functions32, n) {
+        return SYMCACHE_TOO_DEEP;
     }
     if !functions_texts(functions64, functions32, text, n) {
         return SYMCACHE_INVALID_TEXT;

@@ -89,7 +89,8 @@ fn low_byte(n: u64) -> u8 {
     (n % 256) as u8
 }
 
-// The word i of a slice whose words begin at `from`. After the first 64 every function row is an inlinee of depth 1 and zeros.
+// The word i of a slice whose words begin at `from`. After the first 64 every function row is an inlinee of depth 1 and zeros; where the case is `nested`,
+// it lies inside the row before it, so its depth is how many rows come before it.
 fn word(words: &[u64; 384], from: usize, i: usize) -> u64 {
     if i < 64 {
         if from < 320 {
@@ -97,9 +98,16 @@ fn word(words: &[u64; 384], from: usize, i: usize) -> u64 {
         }
     }
     if from == 64 && i % 8 == 0 {
-        return 1;
+        return next_depth(words, i / 8);
     }
     0
+}
+
+fn next_depth(words: &[u64; 384], row: usize) -> u64 {
+    if words[383] != 0 {
+        return row as u64;
+    }
+    1
 }
 
 // How many words were set, and whether each was there already.

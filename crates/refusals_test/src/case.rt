@@ -18,7 +18,7 @@ pub(crate) const SYMBOL: usize = 6;
 pub(crate) const WRITE: usize = 7;
 
 // `begun` is how much of each slice is lent to the calls before the one under test, `lent` how much to that one. `words` are what a call is given,
-// 64 for each slice from 8 on. `slice`, `mode` and `index` say what the next number of the line stands for.
+// 64 for each slice from 8 on; the last of them is 1 for a case that is `nested`. `slice`, `mode` and `index` say what the next number of the line stands for.
 pub(crate) struct Case {
     pub call: usize,
     pub first: bool,
@@ -163,7 +163,10 @@ fn with_mark(mut c: Case, k: usize, w: &[u8]) -> Case {
     c.first = c.first || k == 8;
     c.whole = c.whole || k == 9;
     c.closed = c.closed || k == 10;
-    if k > 10 {
+    if k == 11 {
+        c.words[383] = 1;
+    }
+    if k > 11 {
         io::write_all(STDOUT_FILENO, b"unknown word ");
         io::write_all(STDOUT_FILENO, w);
         io::write_all(STDOUT_FILENO, b"\n");
@@ -179,7 +182,7 @@ fn with_name(mut c: Case, w: &[u8]) -> Case {
         return c;
     }
     let k = index_in(
-        b"of only at is begin tree symbol write first whole closed ",
+        b"of only at is begin tree symbol write first whole closed nested ",
         w,
     );
     if k < BEGIN {

@@ -1,6 +1,6 @@
-// Shows document 01's numbers 13 to 19 at their boundaries: the least that is refused, and the most that is accepted. The cases are the lines of
-// data/refusals.cases. A line is printed for each: the number answered, the case's title, and ok, or DIFFERS where some lent memory or the record is not
-// left as document 01 says. All lent memory is compared with what it was before the call.
+// Shows document 01's numbers 13 to 19, and document 02's 25, at their boundaries: the least that is refused, and the most that is accepted. The cases are
+// the lines of data/refusals.cases. A line is printed for each: the number answered, the case's title, and ok, or DIFFERS where some lent memory or the
+// record is not left as document 01 says. All lent memory is compared with what it was before the call.
 // Each case begins a converter on lent tables that hold other content, gives it the worked tree of document 01 (unless the case says `first`), and then
 // makes one call, with what the line changes. After 17 the printed line goes on with the numbers of a tree, a symbol and a write, and of a write after
 // a new beginning and the worked tree.

@@ -19,7 +19,7 @@ use Rattle.symbol_call.specs.Calls.{Called, called, setup, finished}
 abbrev pub rows-converted : Converter → Memory → Columns → Words
 rows-converted c m k = convertM input (over-words (setup c)) (map deep (treeRows k)) (startM input (over-words (setup c))) (words-of c m)
 
--- "Trees: 19, 13, 14, 15, 16, 17"; "Every other refusal changes no lent byte and no state"
+-- "Trees: 19, 13, 14, 15, 16, 17", with 25 right after 13 (K7); "Every other refusal changes no lent byte and no state"
 unfoldable pub treeOf : Converter → Memory → List ℕ → Columns → Called
 treeOf c m s k =
     cond (usable? c m)

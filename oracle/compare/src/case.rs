@@ -5,7 +5,7 @@ use std::time::Instant;
 use oracle::answers::{Columns, FUNCTION32, FUNCTION64, LINE32, LINE64};
 use oracle::claims::ranges_in_domain;
 use oracle::original::State;
-use oracle::{Begin, Call, Kept, Row, Session, Sym, arch, begin_script, call_script, language};
+use oracle::{Begin, Call, Kept, MAX_DEPTH, Row, Session, Sym, arch, begin_script, call_script, language};
 use symcache::ffi::{self, c, CACHE_WORDS, FUNCTIONS32_WORDS, FUNCTIONS64_WORDS, LINES32_WORDS, LINES64_WORDS, RECORD_WORDS};
 
 use crate::memory::{Lent, Memory, TABLES};
@@ -187,7 +187,7 @@ pub struct Outcome {
     /// The last file written.
     pub file: Vec<u8>,
     /// Answers by number.
-    pub numbers: [u64; 20],
+    pub numbers: [u64; 26],
 }
 
 impl Case {
@@ -458,7 +458,7 @@ fn record_words(begun: &Begin, state: &State, open: bool) -> [u32; RECORD_WORDS]
 // ---- what a list holds
 
 /// What lists are counted by.
-pub const TRAITS: [&str; 12] = [
+pub const TRAITS: [&str; 14] = [
     "undecorated function names",
     "undecorated symbol names",
     "a function row that is skipped",
@@ -471,13 +471,15 @@ pub const TRAITS: [&str; 12] = [
     "a symbol after a tree",
     "several writes",
     "a call outside the domain, numbers only",
+    "a function row at depth 41",
+    "a tree refused for a row deeper than 41",
 ];
 
 impl Case {
     /// Which of them a list holds, as far as its accepted calls go.
-    pub fn traits(&self) -> [bool; 12] {
+    pub fn traits(&self) -> [bool; 14] {
         let max = u64::from(u32::MAX);
-        let mut out = [false; 12];
+        let mut out = [false; 14];
         let (mut trees, mut symbols, mut writes) = (0, 0, 0);
         for item in &self.items {
             match &item.op {
@@ -500,6 +502,7 @@ impl Case {
                         let directory = &c.text[f32[5] as usize..][..f32[6] as usize];
                         out[6] |= std::str::from_utf8(directory).is_err();
                         out[7] |= f32[4] == 0;
+                        out[12] |= f32[0] == MAX_DEPTH;
                     }
                     for (l64, l32) in c.lines64.chunks(LINE64).zip(c.lines32.chunks(LINE32)) {
                         out[4] |= l64[0] > max;
@@ -507,6 +510,7 @@ impl Case {
                         out[7] |= l32[2] == 0;
                     }
                 }
+                Op::Tree(c) => out[13] |= c.refusal() == Some(25),
                 _ => {}
             }
         }

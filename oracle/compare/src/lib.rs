@@ -36,6 +36,31 @@ impl EmptyNames {
     }
 }
 
+/// Lookups in written files that give as many frames as there may be, 42, and the most frames of any.
+#[derive(Clone, Copy, Default)]
+pub struct FullWalks {
+    lookups: u64,
+    most: usize,
+}
+
+impl FullWalks {
+    /// So many lookups of a file with 42 frames; the most frames of one.
+    pub fn add(&mut self, lookups: u64, most: usize) {
+        self.lookups += lookups;
+        self.most = self.most.max(most);
+    }
+
+    /// Prints them; whether none has more, and a run of so many random lists has some, and refused some tree with 25, as it must from 1,000 lists on.
+    pub fn shown(&self, lists: u64, refused: u64) -> bool {
+        println!("lookups with 42 frames: {}; most frames of any: {}; trees refused with 25: {refused}", self.lookups, self.most);
+        let enough = self.lookups > 0 && refused > 0 || lists < 1000;
+        if !enough {
+            println!("no lookup has 42 frames, or no tree was refused with 25: a run of 1,000 lists or more must have both");
+        }
+        enough && self.most <= oracle::MAX_FRAMES
+    }
+}
+
 /// The bytes of a file twice: on a multiple of 8 for the original, and anywhere for the library.
 #[derive(Default)]
 pub struct TwoFiles {

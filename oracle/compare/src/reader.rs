@@ -2,7 +2,7 @@
 
 use oracle::answers::file_number;
 use oracle::original::{Frame, Texts};
-use oracle::{MAX, SymCache, language, original};
+use oracle::{MAX, MAX_FRAMES, SymCache, language, original};
 use symbolic_symcache::ErrorKind;
 use symcache::ffi::{self, CACHE_WORDS};
 
@@ -20,6 +20,9 @@ pub struct Compared {
     pub frames: u64,
     /// Frames whose file has an empty name.
     pub empty_names: u64,
+    /// Lookups with 42 frames, and the most frames of any.
+    pub full: u64,
+    pub most: usize,
 }
 
 /// A file that the library has opened.
@@ -377,6 +380,8 @@ pub fn compare(file: &[u8], bytes: &[u8]) -> Result<Compared, Difference> {
         let ours = reader.frames(address)?;
         compared.frames += theirs.len() as u64;
         compared.empty_names += empty_names(&theirs);
+        compared.full += u64::from(theirs.len() == MAX_FRAMES);
+        compared.most = compared.most.max(theirs.len());
         if theirs != ours {
             return Err(format!("frames at {address}: the original {theirs:?}, ours {ours:?}"));
         }

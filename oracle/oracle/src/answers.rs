@@ -341,7 +341,7 @@ impl Columns {
         self.text.get(start as usize..)?.get(..length as usize)
     }
 
-    /// Document 01's 13, 14 or 15.
+    /// Document 01's 13, 14 or 15, with document 02's 25 right after 13.
     pub fn refusal(&self) -> Option<u32> {
         let whole = |words: usize, row: usize| (words % row == 0).then_some(words / row);
         let counts = (whole(self.functions64.len(), FUNCTION64), whole(self.lines64.len(), LINE64));
@@ -360,6 +360,9 @@ impl Columns {
             || lines != (self.lines64.len() / LINE64) as u64
         {
             return Some(13);
+        }
+        if functions.iter().any(|f| f[0] > MAX_DEPTH) {
+            return Some(25);
         }
         let utf8 = |start: u32, length: u32| {
             self.text_at(start, length).is_some_and(|t| std::str::from_utf8(t).is_ok())

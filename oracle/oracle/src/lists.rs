@@ -31,6 +31,32 @@ pub fn small() -> (Begin, Vec<Call>) {
     (Begin::default(), vec![Call::Tree(rows), Call::Write])
 }
 
+/// A tree whose rows lie each inside the one before it, down to this depth, and a write. Each row covers one address less at either end than its caller, so
+/// that the middle gives a frame for every row.
+pub fn chain(depth: u32) -> (Begin, Vec<Call>) {
+    let rows = (0..=depth).map(|d| {
+        let (address, size) = (0x1000 + u64::from(d), 2 * u64::from(depth - d) + 1);
+        Row {
+            depth: d,
+            address,
+            size,
+            inline: d > 0,
+            language: 2,
+            name: format!("f{d}").into_bytes(),
+            comp_dir: b"/b".to_vec(),
+            lines: vec![Line {
+                address,
+                size: Some(size),
+                number: 10 + u64::from(d),
+                name: b"a.rs".to_vec(),
+                dir: b"src".to_vec(),
+                srcsrv: [None, None, None],
+            }],
+        }
+    });
+    (Begin::default(), vec![Call::Tree(rows.collect()), Call::Write])
+}
+
 #[derive(Clone, Copy)]
 pub enum Kind {
     Good,
@@ -146,7 +172,7 @@ pub fn refused(r: &mut Random, mut c: Columns) -> Columns {
     let lines = c.lines32.len() / LINE32;
     let row = r.below(last as u64 + 1) as usize;
     let line = r.below(lines.max(1) as u64) as usize;
-    match r.below(10) {
+    match r.below(11) {
         0 => return Columns { text: c.text, ..Default::default() },
         1 => c.functions32[0] = 1,
         2 if last > 0 => c.functions32[FUNCTION32 * last] = 0,
@@ -169,12 +195,23 @@ pub fn refused(r: &mut Random, mut c: Columns) -> Columns {
             c.text.extend(b"\xed\xa0\x80");
         }
         8 => c.functions32[FUNCTION32 * row + 6] = u32::MAX,
+        9 => deepen(r, &mut c, last),
         _ => {
             c.functions64[FUNCTION64 * row] = u64::MAX - 3;
             c.functions64[FUNCTION64 * row + 1] = 4 + r.below(9);
         }
     }
     c
+}
+
+/// Rows without lines below the last row, down to a depth that is 42 or a little more: 25. Some are skipped, and none below a skipped one is visited.
+fn deepen(r: &mut Random, c: &mut Columns, last: usize) {
+    let bottom = MAX_DEPTH + 1 + r.below(3) as u32;
+    let (address, size) = (c.functions64[FUNCTION64 * last], c.functions64[FUNCTION64 * last + 1]);
+    for depth in c.functions32[FUNCTION32 * last] + 1..=bottom {
+        c.functions64.extend([address, if r.one_in(4) { 0 } else { size }]);
+        c.functions32.extend([depth, 1, 0, 0, 0, 0, 0, 0]);
+    }
 }
 
 /// Document 01's domain for equality, of a list of calls.

@@ -31,6 +31,64 @@ impl Kind {
     }
 }
 
+/// How a tree of 65,536 function rows, each with a line, reaches depth 41.
+#[derive(Clone, Copy, PartialEq, Eq)]
+pub enum Deep {
+    /// Chains from depth 1 to 41, side by side below the root.
+    Chains,
+    /// One chain of 42, each of whose callers has 1,598 inlinees beside the chain, or a few less: a row is passed by all its callers as they gather their
+    /// inlinee ranges.
+    Wide,
+}
+
+impl Deep {
+    fn depth(self, i: u32) -> u32 {
+        match self {
+            Deep::Chains if i > 0 => 1 + (i - 1) % MAX_DEPTH,
+            Deep::Chains => 0,
+            Deep::Wide if i <= MAX_DEPTH => i,
+            Deep::Wide => MAX_DEPTH - (i - MAX_DEPTH - 1) / 1598,
+        }
+    }
+}
+
+/// Tree `i` of 65,536 rows. Every row covers what its inlinees cover, and two addresses more.
+pub fn deep_tree(i: u64, kind: Deep) -> Vec<Row> {
+    const ROWS: u32 = 65_536;
+    let base = i << 20;
+    let depths: Vec<u32> = (0..ROWS).map(|row| kind.depth(row)).collect();
+    // A row begins at an address of its own; it ends an address behind the last one that begins below it, and one more for each level between.
+    let mut open: Vec<usize> = Vec::new();
+    let mut ends = vec![0u64; depths.len()];
+    let mut at = base;
+    let mut starts = Vec::with_capacity(depths.len());
+    for (row, depth) in depths.iter().map(|d| *d as usize).chain([0]).enumerate() {
+        while open.len() > depth {
+            at += 1;
+            ends[open.pop().unwrap()] = at;
+        }
+        starts.push(at);
+        open.push(row);
+        at += 1;
+    }
+    let file = |row: u64| (format!("module_{:04}_source.rs", row % 1000).into_bytes(), b"library/component/src/detail".to_vec());
+    let rows = depths.iter().zip(&starts).zip(&ends).enumerate().map(|(row, ((depth, start), end))| {
+        let (name, dir) = file(row as u64);
+        let size = end - start;
+        Row {
+            depth: *depth,
+            address: *start,
+            size,
+            inline: *depth > 0,
+            language: 7,
+            name: format!("_ZN7project9component6detail8function{:08}E", row % 20_000).into_bytes(),
+            comp_dir: b"/build/workspace/project".to_vec(),
+            lines: vec![Line { address: *start, size: Some(size), number: 1 + row as u64 % 4000, name, dir, srcsrv: [None, None, None] }],
+        }
+    });
+    rows.collect()
+}
+
 /// Functions of ten lines, 160 bytes each; three inlinees, one of them a level deeper.
 pub fn tree(r: &mut Random, i: u64, kind: Kind) -> Vec<Row> {
     let base = kind.base(i);

@@ -6,11 +6,11 @@
 //!
 //! Every list meets demand 3's premises. Refused calls stand in between, and files are written in between. Last line:
 //! 'LISTS lists, WRITES files, LOOKUPS lookups, N differences'. Exit code 1 if there is one, or if 1,000 random lists
-//! or more give no frame with an empty file name.
+//! or more give no frame with an empty file name, no lookup of 42 frames, or no tree that is refused with 25.
 
 use std::time::{Duration, Instant};
 
-use compare::EmptyNames;
+use compare::{EmptyNames, FullWalks};
 use compare::ours::{Ours, bounds};
 use compare::reader::{Reader, empty_names};
 use oracle::answers::Columns;
@@ -33,7 +33,8 @@ struct Tally {
     /// Of these frames, those that fit and whose file has an empty name.
     empty_names: u64,
     /// Refused calls by number.
-    refused: [u64; 20],
+    refused: [u64; 26],
+    full_walks: FullWalks,
 }
 
 /// A file that was written after these calls.
@@ -59,6 +60,7 @@ fn check_file(begin: &Begin, calls: &[Call], file: &[u8], tally: &mut Tally) -> 
     for address in breakpoints(calls, &laid.ranges) {
         tally.lookups += 1;
         let frames = reader.frames(address)?;
+        tally.full_walks.add(u64::from(frames.len() == MAX_FRAMES), frames.len());
         if is_covered(calls, address) {
             tally.covered += 1;
             tally.frames += frames.len() as u64;
@@ -248,15 +250,16 @@ impl Run {
         }
     }
 
-    /// Prints what was found; whether nothing differs, and random lists gave empty file names (every file of
-    /// `exhaustive` has a name).
+    /// Prints what was found; whether nothing differs, and random lists gave empty file names, 42 frames and 25 (every file of
+    /// `exhaustive` has a name, and its trees are small).
     fn end(&self, random: bool) -> bool {
         let by_number = self.tally.refused.iter().enumerate().filter(|(_, n)| **n > 0);
         let by_number: Vec<String> = by_number.map(|(i, n)| format!("{i}: {n}")).collect();
         println!("refused calls by number: {}", by_number.join(", "));
         let seconds = self.begun.elapsed().as_secs_f64();
         println!("{} lookups at addresses of lines, {} frames, {seconds:.0} s", self.tally.covered, self.tally.frames);
-        let enough = !random || self.empty_names.shown(self.lists);
+        let enough = !random
+            || self.empty_names.shown(self.lists) & self.tally.full_walks.shown(self.lists, self.tally.refused[25]);
         println!(
             "{} lists, {} files, {} lookups, {} differences",
             self.lists, self.tally.files, self.tally.lookups, self.differences

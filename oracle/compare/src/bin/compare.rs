@@ -3,7 +3,7 @@
 //!     compare LISTS SEED
 //!
 //! Last line: 'LISTS lists, FILES files, N differences'. Exit code 1 if there is one, or if 1,000 lists or more give no
-//! frame with an empty file name.
+//! frame with an empty file name, no lookup of 42 frames, or no tree that is refused with 25.
 
 use std::time::{Duration, Instant};
 
@@ -11,10 +11,10 @@ use compare::case::{Case, Item, Op, Room, TRAITS};
 use compare::generate;
 use compare::memory::Memory;
 use compare::reader::{Compared, addresses};
-use compare::{EmptyNames, TwoFiles};
+use compare::{EmptyNames, FullWalks, TwoFiles};
 use oracle::answers::Columns;
 use oracle::claims::take_apart;
-use oracle::lists::small;
+use oracle::lists::{chain, small};
 use oracle::random::Random;
 use oracle::*;
 
@@ -37,13 +37,14 @@ struct Run {
     /// Lists by what they hold.
     traits: [u64; TRAITS.len()],
     /// Answers to calls, by number.
-    numbers: [u64; 20],
+    numbers: [u64; 26],
     /// Files by document 01's number.
     read: [u64; 13],
     lookups: u64,
     frames: u64,
     /// Of files that lists wrote.
     empty_names: EmptyNames,
+    full_walks: FullWalks,
 }
 
 impl Run {
@@ -78,6 +79,13 @@ impl Run {
         }
     }
 
+    /// A file that a list wrote.
+    fn written(&mut self, file: &[u8]) {
+        let compared = self.file(file);
+        self.empty_names.add(compared.empty_names);
+        self.full_walks.add(compared.full, compared.most);
+    }
+
     fn file(&mut self, file: &[u8]) -> Compared {
         self.files += 1;
         match self.two.compare(file) {
@@ -107,10 +115,14 @@ impl Run {
     }
 }
 
-/// Lists that chance would not find: the worked file, and as many function rows as document 01 allows, and one more.
+/// Lists that chance would not find: the worked file; chains down to depth 41 and 42; as many function rows as document 01 allows, and one more.
 fn chosen() -> Vec<Case> {
     let (begin, calls) = small();
     let mut out = vec![Case::plain(&begin, &calls)];
+    for depth in [MAX_DEPTH, MAX_DEPTH + 1] {
+        let (begin, calls) = chain(depth);
+        out.push(Case::plain(&begin, &calls));
+    }
     for (rows, last) in [(65_536, Room::More(0)), (65_537, Room::More(0)), (65_536, Room::Less(1))] {
         let row = |i: u64| Row {
             depth: u32::from(i > 0),
@@ -136,14 +148,17 @@ fn run(lists: u64, seed: u64) -> bool {
     let mut r = Random::new(seed);
     let mut run = Run::default();
     for case in chosen() {
-        run.list(&case);
+        let written = run.list(&case);
+        // The largest files have too many starts to be looked up at each.
+        if !written.is_empty() && written.len() < 100_000 {
+            run.written(&written);
+        }
     }
     while run.lists < lists {
         let case = generate::case(&mut r);
         let written = run.list(&case);
         if !written.is_empty() {
-            let compared = run.file(&written);
-            run.empty_names.add(compared.empty_names);
+            run.written(&written);
         }
         let other = generate::file(&mut r, &written);
         run.file(&other);
@@ -158,7 +173,7 @@ fn run(lists: u64, seed: u64) -> bool {
     println!("calls by number: {}", shown(&run.numbers));
     println!("files by number: {}", shown(&run.read));
     println!("{} lookups, {} frames, {:.0} s", run.lookups, run.frames, begun.elapsed().as_secs_f64());
-    let enough = run.empty_names.shown(run.lists);
+    let enough = run.empty_names.shown(run.lists) & run.full_walks.shown(run.lists, run.numbers[25]);
     println!("{} lists, {} files, {} differences", run.lists, run.files, run.differences);
     run.differences == 0 && enough
 }

@@ -118,6 +118,11 @@ fn steps_of(begin: &Begin, calls: &[Call]) -> Vec<Step> {
     steps
 }
 
+/// The greatest depth among the rows.
+fn deepest(c: &Columns) -> u32 {
+    c.functions32.chunks(FUNCTION32).map(|f| f[0]).max().unwrap_or(0)
+}
+
 /// Sizes that a replay program has to hold: rows of a tree, and the converter's tables.
 fn measure(made: &mut Made, steps: &[Step]) {
     let mut session = None;
@@ -153,7 +158,7 @@ fn converter(seed: u64) -> Made {
         let mut bytes = Vec::new();
         steps.iter().for_each(|s| s.put(&mut bytes));
         // Few lists are long: the container stays small.
-        let room = if made.count % 25 == 0 { 14_000 } else { 5_000 };
+        let room = if made.count % 25 == 0 || what.contains("deep") { 14_000 } else { 5_000 };
         if records(&bytes).iter().any(|b| b.len() > LONGEST) || bytes.len() > room {
             return false;
         }
@@ -174,11 +179,21 @@ fn converter(seed: u64) -> Made {
                 Step::End => continue,
             };
             made.one(kind);
+            if matches!(step, Step::Tree(c) if c.refusal().is_none() && deepest(c) == MAX_DEPTH) {
+                made.one("trees accepted, of depth 41");
+            }
         }
         true
     };
     let (begin, calls) = small();
     add(&mut made, "in the domain: worked", &steps_of(&begin, &calls));
+    // Depth 41 and, refused, 42; before the second a tree that is kept.
+    let (begin, calls) = chain(MAX_DEPTH);
+    add(&mut made, "in the domain: as deep as may be", &steps_of(&begin, &calls));
+    let (_, deeper) = chain(MAX_DEPTH + 1);
+    let (begin, mut calls) = small();
+    calls.splice(1..1, deeper);
+    add(&mut made, "beyond it: deeper than that, refused", &steps_of(&begin, &calls));
     for (kind, what, lists) in [
         (Kind::Good, "in the domain: well nested", 250),
         (Kind::Gaps, "in the domain: well nested, symbols in gaps", 100),

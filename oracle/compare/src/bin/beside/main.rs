@@ -1,10 +1,11 @@
-//! The original and the proved library side by side: same input, same driver, one process. `beside [TREES]`.
+//! The original and the proved library side by side: same input, same driver, one process. `beside [TREES]`, `beside deep`.
 //!
 //! Conversion and writing are timed at ten times TREES (trees of 16 line rows), as one file and as ten files of TREES, in address order and
 //! shuffled; lookups on the large file. The tenths are the trees of the whole, so that both read the same input: what differs is how much the
 //! tables hold. What both are given is made before the clock starts; the library's memory is lent by the driver and zeroed by `begin`, inside
 //! the time. The original's output keeps its room from run to run, as the library's does. Times are those that the thread ran (CPU time). A
-//! ratio is taken in each of seven runs, in which theirs and ours, the tenths and the whole come in turn; its median counts.
+//! ratio is taken in each of seven runs, in which theirs and ours, the tenths and the whole come in turn; its median counts. Last come
+//! trees of 65,536 function rows at depths up to 41.
 
 mod clock;
 mod library;
@@ -14,7 +15,7 @@ use std::hint::black_box;
 use clock::Moment;
 use library::{Cache, Capacities, Library, Packed};
 use oracle::random::Random;
-use oracle::trees::{Kind, tree};
+use oracle::trees::{Deep, Kind, deep_tree, tree};
 use oracle::*;
 
 const RUNS: usize = 7;
@@ -43,8 +44,8 @@ struct Input<'a> {
 }
 
 impl<'a> Input<'a> {
-    fn new(each: usize, rows: &'a [Vec<Row>], packed: &'a [Packed]) -> Self {
-        Input { each, rows, packed, library: Library::new(capacities(each)), theirs: Vec::new(), ours: Vec::new(), times: Vec::new() }
+    fn new(each: usize, rows: &'a [Vec<Row>], packed: &'a [Packed], capacities: Capacities) -> Self {
+        Input { each, rows, packed, library: Library::new(capacities), theirs: Vec::new(), ours: Vec::new(), times: Vec::new() }
     }
 
     fn run(&mut self) {
@@ -112,8 +113,8 @@ struct Made {
 /// The trees as one file, and as ten files of a tenth each, in turn; every ratio is the median of those of the runs.
 fn convert(what: &str, rows: &[Vec<Row>]) -> Made {
     let packed: Vec<Packed> = rows.iter().map(|t| Packed::new(t)).collect();
-    let mut tenths = Input::new(rows.len() / 10, rows, &packed);
-    let mut whole = Input::new(rows.len(), rows, &packed);
+    let mut tenths = Input::new(rows.len() / 10, rows, &packed, capacities(rows.len() / 10));
+    let mut whole = Input::new(rows.len(), rows, &packed, capacities(rows.len()));
     for _ in 0..RUNS {
         tenths.run();
         whole.run();
@@ -126,6 +127,25 @@ fn convert(what: &str, rows: &[Vec<Row>]) -> Made {
     });
     println!("{what}: time of the whole over that of its tenths: {:.3} and {:.3}", growth[0], growth[1]);
     Made { ratio: whole.over(ratio).1, growth, file: whole.ours }
+}
+
+/// Trees of 65,536 function rows at depths up to 41, four in a file; ours over theirs, converting and writing together.
+fn deep(what: &str, kind: Deep) -> f64 {
+    let rows: Vec<Vec<Row>> = (0..4).map(|i| deep_tree(i, kind)).collect();
+    let packed: Vec<Packed> = rows.iter().map(|t| Packed::new(t)).collect();
+    let n = rows.iter().map(Vec::len).sum();
+    let room = Capacities { text: 80 * n, strings: n, files: 2_000, functions: n, call_locations: n, ranges: 4 * n };
+    let mut whole = Input::new(rows.len(), &rows, &packed, room);
+    for _ in 0..RUNS {
+        whole.run();
+    }
+    whole.report(what);
+    whole.over(ratio).1
+}
+
+/// The worse of the two kinds.
+fn deep_ratio() -> f64 {
+    deep("depth 41, chains side by side", Deep::Chains).max(deep("depth 41, a chain of 42 with wide subtrees", Deep::Wide))
 }
 
 /// Ours over theirs (the median of the runs) on one list of addresses: the first location, whole walks, whole walks with all texts; and of the library's search
@@ -187,6 +207,10 @@ fn bytes_of(file: symbolic_symcache::File) -> usize {
 }
 
 fn main() {
+    if std::env::args().nth(1).as_deref() == Some("deep") {
+        println!("deep-ratio {:.2}", deep_ratio());
+        return;
+    }
     let trees: usize = std::env::args().nth(1).map_or(10_000, |a| a.parse().expect("a number"));
     assert!(trees > 0 && trees * 190 <= 16_777_216, "ten times TREES would need more ranges than a table may have (16,777,216)");
     let mut growth: f64 = 0.0;
@@ -224,10 +248,12 @@ fn main() {
     ascending.sort();
     let a = lookups("random", &theirs, &ours, &random);
     let b = lookups("ascending", &theirs, &ours, &ascending);
+    let deep = deep_ratio();
     let worse = |i: usize| a[i].max(b[i]);
     println!("convert-ratio {:.2}", ordered.ratio);
     println!("shuffled-ratio {:.2}", shuffled.ratio);
     println!("lookup-ratio {:.2}", worse(0));
     println!("walk-ratio {:.2}", worse(2));
     println!("growth-ratio {growth:.3}");
+    println!("deep-ratio {deep:.2}");
 }
