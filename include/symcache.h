@@ -94,7 +94,8 @@ extern "C" {
 
 /*
  * The deepest function row that a tree may have, with the root at 0; and so the most frames that a
- * lookup gives in a file that symcache_serialize wrote. Files of other makers may give more.
+ * lookup gives in a file that symcache_serialize wrote from a record and tables as the calls since
+ * symcache_begin left them. Files of other makers may give more.
  */
 #define SYMCACHE_MAX_DEPTH 41u
 #define SYMCACHE_MAX_FRAMES 42u
@@ -404,8 +405,8 @@ uint32_t symcache_lookup(
  * The next frame of a walk, innermost first: stores it in `frame` (without a file the six text
  * offsets stay) and moves the cursor. At the end only frame[0] is stored, as SYMCACHE_FRAME_END,
  * and the cursor stays. The walk ends at MAX, outside the table, or at an index already met; in a
- * file that symcache_serialize wrote, after SYMCACHE_MAX_FRAMES (42) frames at most. A cursor of
- * fewer than three words is one that has ended.
+ * written file after SYMCACHE_MAX_FRAMES (42) frames at most (see there). A cursor of fewer than
+ * three words is one that has ended.
  * Answers 0, or 1 to 11 in that order; then cursor and frame stay.
  * Lend: cursor of 3 words, frame of 13.
  */

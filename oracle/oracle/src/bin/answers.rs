@@ -187,13 +187,8 @@ fn converter(seed: u64) -> Made {
     };
     let (begin, calls) = small();
     add(&mut made, "in the domain: worked", &steps_of(&begin, &calls));
-    // Depth 41 and, refused, 42; before the second a tree that is kept.
     let (begin, calls) = chain(MAX_DEPTH);
     add(&mut made, "in the domain: as deep as may be", &steps_of(&begin, &calls));
-    let (_, deeper) = chain(MAX_DEPTH + 1);
-    let (begin, mut calls) = small();
-    calls.splice(1..1, deeper);
-    add(&mut made, "beyond it: deeper than that, refused", &steps_of(&begin, &calls));
     for (kind, what, lists) in [
         (Kind::Good, "in the domain: well nested", 250),
         (Kind::Gaps, "in the domain: well nested, symbols in gaps", 100),
@@ -211,7 +206,11 @@ fn converter(seed: u64) -> Made {
             left -= usize::from(add(&mut made, what, &steps_of(&begin, &calls)));
         }
     }
-    // Outside the domain for equality, yet fixed by document 01.
+    // Outside the domain for equality, yet fixed by documents 01 and 02. First depth 42, between a tree that is kept and its write.
+    let (_, deeper) = chain(MAX_DEPTH + 1);
+    let (begin, mut calls) = small();
+    calls.splice(1..1, deeper);
+    add(&mut made, "beyond it: deeper than that, refused", &steps_of(&begin, &calls));
     let mut left = 120;
     while left > 0 {
         let kind = if left % 2 == 0 { Kind::Wild } else { Kind::Good };
