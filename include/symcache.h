@@ -68,7 +68,7 @@ extern "C" {
 
 /* ---- How much memory to lend ---- */
 
-#define SYMCACHE_RECORD_WORDS 18u      /* uint32_t: the converter's record */
+#define SYMCACHE_RECORD_WORDS 20u      /* uint32_t: the converter's record */
 #define SYMCACHE_DEBUG_ID_BYTES 32u    /* uint8_t */
 #define SYMCACHE_TABLE_ROW_WORDS 8u    /* uint32_t a row of a table */
 #define SYMCACHE_SCRATCH_ROW_WORDS 4u  /* uint32_t a function row, and a line row */
@@ -131,7 +131,8 @@ enum {
     SYMCACHE_RECORD_FUNCTIONS = 14,
     SYMCACHE_RECORD_CALL_LOCATIONS = 15,
     SYMCACHE_RECORD_RANGES = 16,
-    SYMCACHE_RECORD_OPEN = 17
+    SYMCACHE_RECORD_CLAMPED_LINES = 17,        /* 2 words, the low one first: symcache_clamped_lines */
+    SYMCACHE_RECORD_OPEN = 19
 };
 
 /*
@@ -208,8 +209,8 @@ enum {
  * nothing in it. debug_id: its first 32 bytes count, missing ones are 0. arch, and the two switches
  * (0 no, anything else yes: names of functions, and of symbols, are freed of their Windows
  * decorations before they are stored).
- * Answers 0, or SYMCACHE_CLOSED where the record has fewer than 18 words; then nothing changes.
- * Lend: record 18 words; tables as large as all calls to come need (see above).
+ * Answers 0, or SYMCACHE_CLOSED where the record has fewer than 20 words; then nothing changes.
+ * Lend: record 20 words; tables as large as all calls to come need (see above).
  */
 uint32_t symcache_begin(
     uint32_t *SYMCACHE_RESTRICT record, size_t record_len,
@@ -316,6 +317,16 @@ uint32_t symcache_process_symbolic_symbol(
     uint64_t address, uint64_t size, uint32_t named, uint32_t name_start, uint32_t name_len);
 
 /*
+ * How many line rows of the trees accepted since symcache_begin lie past the 32-bit space, in whole
+ * or in part: their address is above MAX, or the address plus the size (1 where absent) is. Their
+ * start or end was cut back to MAX, so the file lacks what lies above. Each line row counts once, in
+ * function rows that are skipped, too. The count stays at 2^64 - 1 once there; refused calls and
+ * symbols count nothing. 0 while the converter is closed, whatever the record's words say.
+ * Lend: record 20 words; one with fewer is a closed converter.
+ */
+uint64_t symcache_clamped_lines(const uint32_t *SYMCACHE_RESTRICT record, size_t record_len);
+
+/*
  * Writes the file and stores its length in len[0]. The converter stays as it is: writing may be
  * repeated, and calls may follow.
  * Answers 0, or, in this order, SYMCACHE_CLOSED (19), SYMCACHE_OUTPUT_TOO_SHORT (18). A refusal
@@ -334,7 +345,7 @@ uint32_t symcache_serialize(
     uint64_t *SYMCACHE_RESTRICT len, size_t len_len);
 
 /*
- * The length of the file that symcache_serialize writes for this record of 18 words: 80 bytes, the
+ * The length of the file that symcache_serialize writes for this record of 20 words: 80 bytes, the
  * rows, four bytes of padding where the ranges are odd, and the texts. (Not a function of the
  * library: it is counted here, from the record.)
  */

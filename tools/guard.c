@@ -47,8 +47,8 @@ static const size_t element[SLOTS] = {
 };
 
 enum function {
-    BEGIN, TREE, TREE_LINES, SYMBOL, SERIALIZE, PARSE, OPEN, FIND, WALK, LOOKUP, NEXT, READ_STRING,
-    FUNCTION_NAME, GET_FUNCTION, GET_FILE, FUNCTIONS_NEXT, FILES_NEXT, NUM_FUNCTIONS
+    BEGIN, TREE, TREE_LINES, SYMBOL, CLAMPED_LINES, SERIALIZE, PARSE, OPEN, FIND, WALK, LOOKUP, NEXT,
+    READ_STRING, FUNCTION_NAME, GET_FUNCTION, GET_FILE, FUNCTIONS_NEXT, FILES_NEXT, NUM_FUNCTIONS
 };
 
 #define BIT(s) (1u << (s))
@@ -61,7 +61,7 @@ enum function {
  * Each function: the slices that it may write, those that it only reads, and those that it has no
  * reason to look at, at their end or at their front. Writing takes the texts from their bytes and
  * needs no index of them, nor, of the other tables, the words that index them, which are their last.
- * The search and the walk need only the words 4 to 7 of the cache.
+ * The count of clamped lines needs only the last three words of the record. The search and the walk need only the words 4 to 7 of the cache.
  */
 static const struct {
     const char *name;
@@ -74,6 +74,7 @@ static const struct {
         BIT(RECORD) | TABLE_BITS | BIT(SCRATCH) | BIT(UNPACKED64) | BIT(UNPACKED32),
         BIT(FUNCTIONS64) | BIT(FUNCTIONS32) | BIT(LINES) | BIT(TEXT), {0, 0}},
     [SYMBOL] = {"symcache_process_symbolic_symbol", BIT(RECORD) | TABLE_BITS, BIT(TEXT), {0, 0}},
+    [CLAMPED_LINES] = {"symcache_clamped_lines", 0, BIT(RECORD), {0, BIT(RECORD)}},
     [SERIALIZE] = {"symcache_serialize", BIT(OUT) | BIT(LENGTH), BIT(RECORD) | TABLE_BITS,
         {BIT(STRINGS) | BIT(FILES) | BIT(FUNCTIONS) | BIT(CALL_LOCATIONS) | BIT(RANGES), BIT(STRINGS)}},
     [PARSE] = {"symcache_parse", BIT(CACHE), BIT(BYTES), {0, 0}},
@@ -109,7 +110,8 @@ static enum slot bite_slot;
 static enum function calling;
 static unsigned long list_number;
 static unsigned long calls[NUM_FUNCTIONS];
-static unsigned long answers[NUM_FUNCTIONS][ANSWERS]; /* of find and walk: 0 an index, 1 MAX */
+/* Of find and walk: 0 an index, 1 MAX. Of the count: 0 none, 1 some. */
+static unsigned long answers[NUM_FUNCTIONS][ANSWERS];
 
 static void map_regions(void)
 {
@@ -265,6 +267,8 @@ static uint32_t leave(uint32_t answer)
     calls[calling]++;
     if (calling == FIND || calling == WALK)
         answers[calling][answer == SYMCACHE_MAX]++;
+    else if (calling == CLAMPED_LINES)
+        answers[calling][answer]++;
     else if (answer < ANSWERS) {
         answers[calling][answer]++;
         check_left(answer);
@@ -615,6 +619,24 @@ static uint32_t call_symbol(void)
         P32(RECORD), TABLES, P8(TEXT), address, size, named, name[0], name[1]));
 }
 
+/* What the record's words say where it is open, else 0. */
+static void call_clamped_lines(void)
+{
+    uint64_t count, wanted = 0;
+    const uint32_t *r = at[RECORD];
+    if (len[RECORD] >= SYMCACHE_RECORD_WORDS && r[SYMCACHE_RECORD_OPEN] != 0)
+        wanted = r[SYMCACHE_RECORD_CLAMPED_LINES]
+            | (uint64_t)r[SYMCACHE_RECORD_CLAMPED_LINES + 1] << 32;
+    enter(CLAMPED_LINES);
+    count = symcache_clamped_lines(P32(RECORD));
+    leave(count != 0);
+    if (count != wanted) {
+        fprintf(stderr, "symcache_clamped_lines answered %" PRIu64 ", not %" PRIu64 ", list %lu\n",
+            count, wanted, list_number);
+        exit(1);
+    }
+}
+
 static uint32_t call_serialize(void)
 {
     size_t n = 100 + below(1000);
@@ -871,6 +893,7 @@ static void run_list(void)
             answer = one_in(2) ? call_tree() : call_tree_lines();
             break;
         }
+        call_clamped_lines();
         if (answer == SYMCACHE_TABLE_FULL && !one_in(4))
             call_begin();
     }
@@ -894,6 +917,8 @@ static void print_calls(void)
             if (answers[f][i] > 0) {
                 if (f == FIND || f == WALK)
                     printf("%s %s %lu", between, i == 1 ? "MAX" : "an index", answers[f][i]);
+                else if (f == CLAMPED_LINES)
+                    printf("%s %s %lu", between, i == 1 ? "some" : "none", answers[f][i]);
                 else
                     printf("%s %u %lu", between, i, answers[f][i]);
                 between = ",";

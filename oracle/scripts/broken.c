@@ -28,6 +28,7 @@ static int broken(void) {
 REAL(symcache_begin);
 REAL(symcache_process_symbolic_function);
 REAL(symcache_process_symbolic_symbol);
+REAL(symcache_clamped_lines);
 REAL(symcache_serialize);
 REAL(symcache_parse);
 REAL(symcache_open);
@@ -75,6 +76,7 @@ uint32_t symcache_process_symbolic_function(uint32_t *record, size_t record_len,
     }
     for (size_t i = 0; broken() == 50 && i < functions32_len; i += SYMCACHE_FUNCTIONS32_WORDS) /* 25 at depth 41 */
         if (functions32[i] == SYMCACHE_MAX_DEPTH) return 25;
+    uint32_t counted = record_len >= SYMCACHE_RECORD_WORDS ? record[SYMCACHE_RECORD_CLAMPED_LINES] : 0;
     uint32_t answer = real_symcache_process_symbolic_function(record, record_len, LENT, scratch, scratch_len, functions64,
         functions64_len, functions32, functions32_len, lines64, lines64_len, lines32, lines32_len, text, text_len);
     if (answer == 0) {
@@ -82,6 +84,7 @@ uint32_t symcache_process_symbolic_function(uint32_t *record, size_t record_len,
         if (broken() == 10 && scratch_len > 0) scratch[scratch_len - 1] = 1; /* scratch not zero after a tree */
         if (broken() == 11) record[SYMCACHE_RECORD_RANGES]++; /* a range too many is counted */
         if (broken() == 12 && scratch_len > 0) scratch[scratch_len] = 0; /* a word after the scratch */
+        if (broken() == 55 && functions64[1] == 0) record[SYMCACHE_RECORD_CLAMPED_LINES] = counted; /* lines of a skipped root not counted */
     } else if (answer == 17) {
         if (broken() == 13 && scratch_len > 0) scratch[0] = 1; /* scratch not zero after 17 */
         if (broken() == 14 && files_len > 0) files[files_len - 1] = 1; /* a table not zero after 17 */
@@ -89,6 +92,7 @@ uint32_t symcache_process_symbolic_function(uint32_t *record, size_t record_len,
     } else {
         if (broken() == 16 && answer != 19) record[SYMCACHE_RECORD_STRING_BYTES]++; /* a refusal changes the record */
         if (broken() == 17 && scratch_len > 0) scratch[0] = 0; /* a refusal changes scratch */
+        if (broken() == 56 && answer == 16) record[SYMCACHE_RECORD_CLAMPED_LINES]++; /* a refused tree counts */
         if (broken() == 18 && answer == 14) return 15; /* 15 for 14 */
         if (broken() == 19 && answer == 13) return 14; /* 14 for 13 */
         if (broken() == 20 && answer == 19) return 13; /* 13 for 19 */
@@ -106,6 +110,13 @@ uint32_t symcache_process_symbolic_symbol(uint32_t *record, size_t record_len, T
         name_start, name_len);
     if (broken() == 23 && answer == 0 && functions_len > 0) functions[0] ^= 1; /* a name moved */
     return answer;
+}
+
+uint64_t symcache_clamped_lines(const uint32_t *record, size_t record_len) {
+    if (broken() == 53 && record_len >= SYMCACHE_RECORD_WORDS) /* a closed converter hands out its words */
+        return record[SYMCACHE_RECORD_CLAMPED_LINES] + ((uint64_t)record[SYMCACHE_RECORD_CLAMPED_LINES + 1] << 32);
+    if (broken() == 54) return (uint32_t)real_symcache_clamped_lines(record, record_len); /* the low word alone */
+    return real_symcache_clamped_lines(record, record_len);
 }
 
 uint32_t symcache_serialize(const uint32_t *record, size_t record_len, TABLES_OF(const), uint8_t *out, size_t out_len,

@@ -359,6 +359,34 @@ impl Converter {
         self.record[c::SYMCACHE_RECORD_OPEN] != 0
     }
 
+    /// How many lines of the functions added so far, inlinees' too, lie past the 32-bit space in
+    /// whole or in part: the address is above `u32::MAX`, or the address plus the size (1 where
+    /// there is none) is. What lies above is missing in the file.
+    ///
+    /// Each line counts once, also of functions that are skipped. The count stays at `u64::MAX` once
+    /// there, and is 0 while the converter is closed.
+    ///
+    /// ```
+    /// use symcache::debuginfo::{FileInfo, Function, LineInfo};
+    /// use symcache::Converter;
+    ///
+    /// let line = |address, size| LineInfo { address, size, line: 10, file: FileInfo::new("a.c", "src") };
+    /// let max = u64::from(u32::MAX);
+    /// let mut converter = Converter::builder().build();
+    /// converter.process_symbolic_function(&Function {
+    ///     address: max - 15,
+    ///     size: 32,
+    ///     name: "high".into(),
+    ///     lines: vec![line(max - 15, Some(15)), line(max, Some(8)), line(max + 8, Some(8))],
+    ///     ..Function::default()
+    /// })?;
+    /// assert_eq!(converter.clamped_lines(), 2);
+    /// # Ok::<(), symcache::Error>(())
+    /// ```
+    pub fn clamped_lines(&self) -> u64 {
+        ffi::clamped_lines(&self.record)
+    }
+
     /// Begins anew, empty, with the same header values, switches and capacities.
     pub fn restart(&mut self) {
         if let Some(kept) = &mut self.kept {
@@ -493,7 +521,7 @@ impl Converter {
         Ok(len[0] as usize)
     }
 
-    /// Begins: the tables become zero and the record that of an open converter. A record of 18
+    /// Begins: the tables become zero and the record that of an open converter. A record of 20
     /// words is never refused.
     fn begin(&mut self) {
         let Setup {
@@ -739,6 +767,44 @@ mod tests {
         let result = converter.process_symbolic_function(&tree());
         assert_eq!(result, Err(Error::Closed));
         assert_eq!(memory(&converter), closed);
+    }
+
+    #[test]
+    fn clamped_lines_are_counted_once() {
+        let mut far = tree();
+        far.lines[0].address = u64::from(u32::MAX);
+        far.inlinees.push(far.clone());
+        // With room for one range the calls are made again in larger tables.
+        for grows in [false, true] {
+            let mut converter = Converter::builder()
+                .ranges(if grows { 1 } else { 99 })
+                .keep_calls(grows)
+                .build();
+            for trees in 1..=3 {
+                converter.process_symbolic_function(&far).unwrap();
+                assert_eq!(converter.clamped_lines(), 2 * trees);
+                converter.process_symbolic_function(&tree()).unwrap();
+                assert_eq!(converter.clamped_lines(), 2 * trees);
+            }
+            let copy = converter.clone();
+            converter.restart();
+            assert_eq!((converter.clamped_lines(), copy.clamped_lines()), (0, 6));
+        }
+
+        // 17 closes, and then there is nothing to hand out.
+        let mut converter = Converter::builder().build();
+        converter.process_symbolic_function(&far).unwrap();
+        let ranges = converter.used().ranges;
+        let mut converter = Converter::builder().ranges(ranges).build();
+        converter.process_symbolic_function(&far).unwrap();
+        assert_eq!(converter.clamped_lines(), 2);
+        let mut other = far.clone();
+        other.address = 0x5000;
+        assert_eq!(
+            converter.process_symbolic_function(&other),
+            Err(Error::TableFull)
+        );
+        assert_eq!(converter.clamped_lines(), 0);
     }
 
     #[test]

@@ -228,6 +228,12 @@ pub fn process_symbolic_symbol(
     }
 }
 
+pub fn clamped_lines(record: &[u32]) -> u64 {
+    // SAFETY: the pointer and the length come from one reference to a slice that lives through the
+    // call.
+    unsafe { c::symcache_clamped_lines(record.as_ptr(), record.len()) }
+}
+
 pub fn serialize(record: &[u32], tables: TablesRef<'_>, out: &mut [u8], len: &mut [u64]) -> u32 {
     // SAFETY: each pointer and length comes from one reference to a slice that lives through the
     // call. Written slices come from `&mut`, so nothing overlaps them; the others are only read.
@@ -474,10 +480,11 @@ mod tests {
             words: std::array::from_fn(|_| vec![7; 80]),
         };
 
-        // One of 17 words is a closed converter, and stays.
+        // One of 19 words is a closed converter, and stays.
         let mut short = [7; RECORD_WORDS - 1];
         assert_eq!(begin(&mut short, &[1], 2, 1, 0, memory.lent()), 19);
         assert_eq!(short, [7; RECORD_WORDS - 1]);
+        assert_eq!(clamped_lines(&short), 0);
         assert!(memory.words[0].iter().all(|word| *word == 7));
 
         // Bytes that the debug id lacks are 0, and words past the record's own stay.
@@ -503,7 +510,7 @@ mod tests {
         assert_eq!(scratch, [0; 5]);
         // Four text bytes, one text, one function, its start and its end.
         wanted[c::SYMCACHE_RECORD_STRING_BYTES..c::SYMCACHE_RECORD_OPEN]
-            .copy_from_slice(&[4, 1, 0, 1, 0, 2]);
+            .copy_from_slice(&[4, 1, 0, 1, 0, 2, 0, 0]);
         assert_eq!(record, wanted);
 
         assert_eq!(
@@ -512,8 +519,74 @@ mod tests {
         );
         // Its three text bytes, its function and its start.
         wanted[c::SYMCACHE_RECORD_STRING_BYTES..c::SYMCACHE_RECORD_OPEN]
-            .copy_from_slice(&[7, 2, 0, 2, 0, 3]);
+            .copy_from_slice(&[7, 2, 0, 2, 0, 3, 0, 0]);
         assert_eq!(record, wanted);
+    }
+
+    #[test]
+    fn the_count_of_clamped_lines() {
+        let mut memory = Memory {
+            texts: vec![7; 100],
+            words: std::array::from_fn(|_| vec![7; 80]),
+        };
+        let mut record = [7; RECORD_WORDS];
+        begin(&mut record, &[], 0, 0, 0, memory.lent());
+        assert_eq!(clamped_lines(&record), 0);
+
+        // A skipped root with lines at (MAX, 0), (MAX, absent), (MAX - 5, 5), (MAX - 5, 6), (MAX + 1, 0).
+        let max = u64::from(u32::MAX);
+        let mut functions32 = [0; FUNCTIONS32_WORDS];
+        functions32[c::SYMCACHE_FUNCTION_LINES] = 5;
+        let lines = [
+            (max, Some(0)),
+            (max, None),
+            (max - 5, Some(5)),
+            (max - 5, Some(6)),
+            (max + 1, Some(0)),
+        ];
+        let mut lines64 = Vec::new();
+        let mut lines32 = Vec::new();
+        for (address, size) in lines {
+            lines64.extend([address, size.unwrap_or(9), 1]);
+            let mut words = [0; LINES32_WORDS];
+            words[c::SYMCACHE_LINE_HAS_SIZE] = u32::from(size.is_some());
+            lines32.extend(words);
+        }
+        let columns = crate::Columns {
+            functions64: &[0x1000, 0],
+            functions32: &functions32,
+            lines64: &lines64,
+            lines32: &lines32,
+            text: &[],
+        };
+        let mut scratch = [0; 4 * 6];
+        let tree = |record: &mut [u32], memory: &mut Memory, scratch: &mut [u32]| {
+            process_symbolic_function(record, memory.lent(), scratch, &columns)
+        };
+        assert_eq!(tree(&mut record, &mut memory, &mut scratch[1..]), 16);
+        assert_eq!(clamped_lines(&record), 0);
+        assert_eq!(tree(&mut record, &mut memory, &mut scratch), 0);
+        assert_eq!(clamped_lines(&record), 3);
+        let clamped = c::SYMCACHE_RECORD_CLAMPED_LINES;
+        assert_eq!(record[clamped..clamped + 2], [3, 0]);
+
+        // The high word; then it stays at the most that 64 bits hold.
+        record[clamped..clamped + 2].copy_from_slice(&[u32::MAX, 1]);
+        assert_eq!(tree(&mut record, &mut memory, &mut scratch), 0);
+        assert_eq!(clamped_lines(&record), (2 << 32) + 2);
+        record[clamped..clamped + 2].copy_from_slice(&[u32::MAX - 2, u32::MAX]);
+        assert_eq!(clamped_lines(&record), u64::MAX - 2);
+        assert_eq!(tree(&mut record, &mut memory, &mut scratch), 0);
+        assert_eq!(clamped_lines(&record), u64::MAX);
+        assert_eq!(tree(&mut record, &mut memory, &mut scratch), 0);
+        assert_eq!(clamped_lines(&record), u64::MAX);
+
+        // Closed, whatever its words say, and with a word too few.
+        assert_eq!(clamped_lines(&record[..RECORD_WORDS - 1]), 0);
+        record[c::SYMCACHE_RECORD_OPEN] = 0;
+        assert_eq!(clamped_lines(&record), 0);
+        assert_eq!(tree(&mut record, &mut memory, &mut scratch), 19);
+        assert_eq!(record[clamped], u32::MAX);
     }
 
     #[test]

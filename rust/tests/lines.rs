@@ -498,7 +498,7 @@ fn the_305_bytes() {
     assert_eq!(std::mem::size_of::<LineRow>(), 88);
     let t = worked();
     let mut s = State {
-        record: vec![0; 18],
+        record: vec![0; 20],
         string_bytes: vec![9; 64],
         tables: std::array::from_fn(|_| vec![9; 64]),
     };
@@ -564,7 +564,7 @@ fn random_lists_through_both() {
         });
         let bytes = len(&mut r);
         let mut a = State {
-            record: words(&mut r, 18),
+            record: words(&mut r, 20),
             string_bytes: (0..bytes).map(|_| r.next() as u8).collect(),
             tables: words_of,
         };

@@ -20,14 +20,14 @@ pub id-bytes : (s : List ℕ) (h : Header) → h ≡ headerAt s 0 → h .«debug
 unfolding headerAt
 id-bytes s h e = ap (λ (x : Header). x .«debug_id») e
 
--- a record of fewer than eighteen words
-pub begin-closed : (r id : List ℕ) (arch f s : ℕ) (m : Memory) → length r < 18 → callLeft 19 r m [] ≡ beginCall r id arch f s m
+-- a record of fewer than twenty words
+pub begin-closed : (r id : List ℕ) (arch f s : ℕ) (m : Memory) → length r < 20 → callLeft 19 r m [] ≡ beginCall r id arch f s m
 unfolding beginCall
-begin-closed r id arch f s m h = rw (lt-ltb (length r) 18 h)
+begin-closed r id arch f s m h = rw (lt-ltb (length r) 20 h)
 
-pub begin-law : (r id : List ℕ) (arch f s : ℕ) (m : Memory) {i : List ℕ} {a b : Bool} {c : Converter} {m₁ : Memory} {r₁ : List ℕ} → 18 ≤ length r
+pub begin-law : (r id : List ℕ) (arch f s : ℕ) (m : Memory) {i : List ℕ} {a b : Bool} {c : Converter} {m₁ : Memory} {r₁ : List ℕ} → 20 ≤ length r
     → i ≡ bytesAt 32 id 0 → a ≡ yes f → b ≡ yes s → (c, m₁) ≡ beginOf i arch a b m → r₁ ≡ stored (wordsOf c) r → callLeft 0 r₁ m₁ [] ≡ beginCall r id arch f s m
 unfolding beginCall
 begin-law r id arch f s m {i = i} {a = a} {b = b} h ei ea eb e er =
-    rw (le-ltb (length r) 18 h)
+    rw (le-ltb (length r) 20 h)
     (rw er (ap (λ (p : Converter × Memory). callLeft 0 (stored (wordsOf (p .0)) r) (p .1) []) (e ∙ rw (ei, ea, eb))))

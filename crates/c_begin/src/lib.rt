@@ -1,4 +1,4 @@
-// A new converter over words: its record is eighteen words between calls, and the six tables are lent at each call. The exported function passes on what
+// A new converter over words: its record is twenty words between calls, and the six tables are lent at each call. The exported function passes on what
 // this answers.
 ghost use mathlib.Core.Path.{_≡_};
 ghost use mathlib.Core.List.{[]};
@@ -17,7 +17,7 @@ fn debug_id_of(bytes: &[u8]) -> [u8; 32]
     header.debug_id
 }
 
-// A new converter. 0, or 19 where the record has fewer than eighteen words.
+// A new converter. 0, or 19 where the record has fewer than twenty words.
 pub fn begin(
     record: &mut [u32],
     debug_id: &[u8],
@@ -40,7 +40,7 @@ pub fn begin(
         ≡ beginCall (now («record» .entry)) (now («debug_id» .entry)) arch «undecorate_functions» «undecorate_symbols» before
         ) ⌝ }
 {
-    if record.len() < 18 {
+    if record.len() < 20 {
         return SYMCACHE_CLOSED;
     }
     let c = memory::begin(

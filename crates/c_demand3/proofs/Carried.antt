@@ -4,7 +4,7 @@ use Prim.Native.Nat.{ℕ, zero, suc, _+_, _*_, _/_, _%_, _<_, _≤_}
 use native.Mathlib.Omega.{arith}
 use native.Mathlib.Nat.{zero-add}
 use mathlib.Core.Bool.{Bool, true, false, cond, _&&_, _||_}
-use mathlib.Core.Path.{_≡_, refl, sym, ap, ap₂, _∙_}
+use mathlib.Core.Path.{_≡_, refl, sym, ap, ap₂, _∙_, subst}
 use mathlib.Core.List.{List, [], _∷_, _++_}
 use lib.Dec.{eqb, ltb}
 use lib.ListN.{length, getD, List·getD-eq-default}
@@ -23,15 +23,16 @@ use Rattle.memory.specs.Record.{usableIn, fits?}
 use Rattle.steps.specs.Steps.{over-words}
 use Rattle.memory.specs.declared.Converter.{Converter}
 use Rattle.symbol_call.specs.Calls.{Called, called, setup, finished, symbolOf}
-use Rattle.writer.specs.Calls.{rows-converted, treeOf}
+use Rattle.writer.specs.Calls.{rows-converted, tree-counted, treeOf}
 use Rattle.memory.specs.Record.{words-of, usable?, beginOf}
 use Rattle.steps.specs.Symbols.{symbolRow}
 use Rattle.line_rows.specs.Numbers.{unpackRoom?}
 use Rattle.line_calls.specs.Calls.{LinesCalled, linesOf}
+use Rattle.demand3.proofs.Clamped.{by-cond}
 use Rattle.slices.proofs.Runs.{sets-in}
 use Rattle.c_reading.specs.Stored.{stored}
 use Rattle.slices.specs.Slices.{yes, flagOf}
-use Rattle.c_words.specs.Record.{idOf, stateOf, converterOf, idWords, wordsOf, Bytes, IdFits}
+use Rattle.c_words.specs.Record.{idOf, stateOf, clampedOf, converterOf, idWords, wordsOf, Bytes, IdFits}
 use Rattle.c_words.specs.Writing.{beginCall, treeCall, linesCall, symbolCall}
 use Rattle.c_words.specs.Record.{kept}
 
@@ -90,7 +91,7 @@ yes-back : (b : Bool) → yes (flagOf b) ≡ b
 yes-back true = refl
 yes-back false = refl
 
-module _ (id : List ℕ) (arch : ℕ) (f g o : Bool) (x i p q c n : ℕ) where
+module _ (id : List ℕ) (arch : ℕ) (f g o : Bool) (x i p q c n z : ℕ) where
   abbrev made : Converter
   made = record {
     «debug_id» = id;
@@ -99,24 +100,29 @@ module _ (id : List ℕ) (arch : ℕ) (f g o : Bool) (x i p q c n : ℕ) where
     «undecorate_symbols» = g;
     «open» = o;
     state = record { «string_bytes» = x; strings = i; files = p; functions = q; «call_locations» = c; ranges = n };
+    «clamped_lines» = z;
   }
 
+  -- a number of 64 bits is its two halves
+  halves : z % 4294967296 + 4294967296 * (z / 4294967296) ≡ z
+  halves = omega arith
+
   made-back : IdFits id → converterOf (wordsOf made) ≡ made
-  unfolding converterOf idOf stateOf wordsOf bytesAt
-  made-back h = rw (id-back id h, yes-back f, yes-back g, yes-back o)
+  unfolding converterOf idOf stateOf clampedOf wordsOf bytesAt
+  made-back h = rw (id-back id h, yes-back f, yes-back g, yes-back o, halves)
 
 -- the words of a converter are that converter
 pub words-back : (c : Converter) → IdFits (c .«debug_id») → converterOf (wordsOf c) ≡ c
 words-back c h =
     made-back (c .«debug_id») (c .arch) (c .«undecorate_functions») (c .«undecorate_symbols») (c .«open») (c .state .«string_bytes») (c .state .strings) (c .state .files) (c .state .functions)
-    (c .state .«call_locations») (c .state .ranges) h
+    (c .state .«call_locations») (c .state .ranges) (c .«clamped_lines») h
 
 -- ── In a slice ─────────────────────────────────────────────────────────────────────────────────────────────────────────
 
--- only the first eighteen words count
-module _ (r r′ : List ℕ) (same : (i : ℕ) → i < 18 → getD r i 0 ≡ getD r′ i 0) where
+-- only the first twenty words count
+module _ (r r′ : List ℕ) (same : (i : ℕ) → i < 20 → getD r i 0 ≡ getD r′ i 0) where
   record-same : converterOf r ≡ converterOf r′
-  unfolding converterOf idOf stateOf bytesAt
+  unfolding converterOf idOf stateOf clampedOf bytesAt
   record-same =
       rw (
         same 0 (omega arith),
@@ -137,17 +143,19 @@ module _ (r r′ : List ℕ) (same : (i : ℕ) → i < 18 → getD r i 0 ≡ get
         same 15 (omega arith),
         same 16 (omega arith),
         same 17 (omega arith),
+        same 18 (omega arith),
+        same 19 (omega arith),
       )
 
-words-length : (c : Converter) → length (wordsOf c) ≡ 18
+words-length : (c : Converter) → length (wordsOf c) ≡ 20
 unfolding wordsOf
 words-length c = refl
 
--- a record of eighteen words or more, after a converter was stored in it, is that converter
-pub stored-back : (r : List ℕ) (c : Converter) → 18 ≤ length r → IdFits (c .«debug_id») → converterOf (stored (wordsOf c) r) ≡ c
+-- a record of twenty words or more, after a converter was stored in it, is that converter
+pub stored-back : (r : List ℕ) (c : Converter) → 20 ≤ length r → IdFits (c .«debug_id») → converterOf (stored (wordsOf c) r) ≡ c
 stored-back r c h f =
     record-same (stored (wordsOf c) r) (wordsOf c)
-    (λ i p. let e : length (wordsOf c) ≡ 18 = words-length c in sets-in (wordsOf c) r 0 i i (omega arith) (omega arith) (omega arith))
+    (λ i p. let e : length (wordsOf c) ≡ 20 = words-length c in sets-in (wordsOf c) r 0 i i (omega arith) (omega arith) (omega arith))
     ∙ words-back c f
 
 -- ── Calls ──────────────────────────────────────────────────────────────────────────────────────────────────────────────
@@ -156,30 +164,30 @@ id-fits : (r : List ℕ) → IdFits (idOf r)
 unfolding idOf
 id-fits r = record { size = length-words (bytesAt 8 r 0) ∙ ap (λ (n : ℕ). 4 * n) (length-bytesAt 8 r 0); bytes = bytes-words (bytesAt 8 r 0) }
 
+id-read : (r : List ℕ) → converterOf r .«debug_id» ≡ idOf r
+unfolding converterOf
+id-read r = refl
+
 -- an open record has its last word
-long : (r : List ℕ) → yes (getD r 17 0) ≡ true → 18 ≤ length r
-long r e = go (ltb 17 (length r)) refl
+long : (r : List ℕ) → yes (getD r 19 0) ≡ true → 20 ≤ length r
+long r e = go (ltb 19 (length r)) refl
   where
-    go : (b : Bool) → ltb 17 (length r) ≡ b → 18 ≤ length r
-    go true h = let p : 17 < length r = ltb-true 17 (length r) h in omega arith
+    go : (b : Bool) → ltb 19 (length r) ≡ b → 20 ≤ length r
+    go true h = let p : 19 < length r = ltb-true 19 (length r) h in omega arith
     go false h =
-        let z : getD r 17 0 ≡ 0 = List·getD-eq-default r 0 {n = 17} (ltb-false 17 (length r) h) in
+        let z : getD r 19 0 ≡ 0 = List·getD-eq-default r 0 {n = 19} (ltb-false 19 (length r) h) in
         let no : _≡_ {A = ℕ} 0 1 = ap flagOf (sym (ap yes z) ∙ e) in
         omega arith
 
-usable-long : (r : List ℕ) (m : Memory) → usable? (converterOf r) m ≡ true → 18 ≤ length r
+usable-long : (r : List ℕ) (m : Memory) → usable? (converterOf r) m ≡ true → 20 ≤ length r
 unfolding usableIn converterOf
-usable-long r m h = long r (both-true (yes (getD r 17 0)) _ h .0)
+usable-long r m h = long r (both-true (yes (getD r 19 0)) _ h .0)
 
 -- after a call that answered o, the record is the converter of o
 abbrev Carries : List ℕ → Called → Type 0
 Carries r o = converterOf (kept (o .code) (o .converter) r) ≡ o .converter
 
-by-cond : {A : Type 0} (P : A → Type 0) (b : Bool) (x y : A) → (b ≡ true → P x) → (b ≡ false → P y) → P (cond b x y)
-by-cond P true x y f g = f refl
-by-cond P false x y f g = g refl
-
-either : (r : List ℕ) → 18 ≤ length r → (b : Bool) → converterOf (cond b (stored (wordsOf (converterOf r)) r) r) ≡ converterOf r
+either : (r : List ℕ) → 20 ≤ length r → (b : Bool) → converterOf (cond b (stored (wordsOf (converterOf r)) r) r) ≡ converterOf r
 unfolding converterOf
 either r h true = stored-back r (converterOf r) h (id-fits r)
 either r h false = refl
@@ -189,14 +197,15 @@ module _ (r : List ℕ) (m : Memory) (s : List ℕ) where
   unfolding kept
   closed-carried = refl
 
-  refused-carried : (n : ℕ) → 18 ≤ length r → Carries r (called n (converterOf r) m s)
+  refused-carried : (n : ℕ) → 20 ≤ length r → Carries r (called n (converterOf r) m s)
   unfolding kept
   refused-carried n h = either r h (eqb n 0 || eqb n 17)
 
-finished-carried : (r s : List ℕ) (w : Words) → 18 ≤ length r → Carries r (finished (converterOf r) s w)
-unfolding finished kept converterOf
-finished-carried r s w h =
-    by-cond (Carries r) (fits? w) _ _ (λ _. stored-back r _ h (id-fits r)) (λ _. stored-back r _ h (id-fits r))
+finished-carried : (r s : List ℕ) (c : Converter) (w : Words) → 20 ≤ length r → c .«debug_id» ≡ idOf r → Carries r (finished c s w)
+unfolding finished kept
+finished-carried r s c w h e =
+    let fits : IdFits (c .«debug_id») = subst IdFits (sym e) (id-fits r) in
+    by-cond (Carries r) (fits? w) _ _ (λ _. stored-back r _ h fits) (λ _. stored-back r _ h fits)
 
 -- for every record, every content and every length
 pub tree-carried : (r : List ℕ) (m : Memory) (s : List ℕ) (k : Columns) → converterOf (treeCall r m s k .words) ≡ treeOf (converterOf r) m s k .converter
@@ -204,7 +213,7 @@ unfolding treeCall treeOf
 tree-carried r m s k =
     by-cond (Carries r) (usable? (converterOf r) m) _ _
     (λ h. by-cond (Carries r) (eqb (treeRefusal k (length s)) 0) _ _
-    (λ _. finished-carried r s (rows-converted (converterOf r) m k) (usable-long r m h))
+    (λ _. finished-carried r s (tree-counted (converterOf r) k) (rows-converted (converterOf r) m k) (usable-long r m h) (id-read r))
     (λ _. refused-carried r m s (treeRefusal k (length s)) (usable-long r m h)))
     (λ _. closed-carried r m s)
 
@@ -224,11 +233,11 @@ unfolding symbolCall symbolOf
 symbol-carried r m t address size name =
     by-cond (Carries r) (usable? (converterOf r) m) _ _
     (λ h. by-cond (Carries r) (optional? t name) _ _
-    (λ _. finished-carried r [] (convert-symbolM input (over-words (setup (converterOf r))) (symbolRow t address size name) (words-of (converterOf r) m)) (usable-long r m h))
+    (λ _. finished-carried r [] (converterOf r) (convert-symbolM input (over-words (setup (converterOf r))) (symbolRow t address size name) (words-of (converterOf r) m)) (usable-long r m h) (id-read r))
     (λ _. refused-carried r m [] 14 (usable-long r m h)))
     (λ _. closed-carried r m [])
 
-pub begin-carried : (r id : List ℕ) (arch f s : ℕ) (m : Memory) → 18 ≤ length r → Bytes id
+pub begin-carried : (r id : List ℕ) (arch f s : ℕ) (m : Memory) → 20 ≤ length r → Bytes id
     → converterOf (beginCall r id arch f s m .words) ≡ beginOf (bytesAt 32 id 0) arch (yes f) (yes s) m .0
 unfolding beginCall beginOf
-begin-carried r id arch f s m h p = rw (le-ltb (length r) 18 h) (stored-back r _ h (record { size = length-bytesAt 32 id 0; bytes = bytes-at 32 id 0 p }))
+begin-carried r id arch f s m h p = rw (le-ltb (length r) 20 h) (stored-back r _ h (record { size = length-bytesAt 32 id 0; bytes = bytes-at 32 id 0 p }))

@@ -18,7 +18,7 @@ use Rattle.model.specs.Frames.{frames-at}
 use Rattle.read_back.specs.Shown.{ShownFile, Shown, shown, with-stand-in, Found}
 use Rattle.memory.specs.Memory.{Memory}
 use Rattle.memory.specs.declared.Converter.{Converter}
-use Rattle.memory.specs.Record.{usable?, beginOf}
+use Rattle.memory.specs.Record.{usable?, beginOf, while-open, capped, clampedLines}
 use Rattle.symbol_call.specs.Calls.{symbolOf}
 use Rattle.writer.specs.Calls.{treeOf}
 use Rattle.line_rows.specs.Lines.{lineColumns}
@@ -26,15 +26,17 @@ use Rattle.line_calls.specs.Calls.{linesOf}
 use Rattle.serialize.specs.File.{Wrote, wrote, written-file, serializeOf}
 use Rattle.demand3.specs.Lists.{Call, tree, lines-tree, symbol, write, outcome, Standing, none-counted, run, by-value, beginning}
 use Rattle.demand3.specs.Demand3.{plain-sections, plain-layout, Reopened, file-written}
+use Rattle.demand3.specs.Clamped.{clamped-calls}
 use Rattle.demand3.proofs.Claim.{demand3}
+use Rattle.demand3.proofs.Clamped.{clamped-counted}
 use Rattle.demand3.proofs.Carried.{outcome-seen, seen, run-carried}
 use Rattle.slices.specs.Slices.{yes}
 use Rattle.c_words.specs.Record.{converterOf, Bytes}
-use Rattle.c_words.specs.Writing.{beginCall, treeCall, linesCall, symbolCall, serializeCall}
+use Rattle.c_words.specs.Writing.{beginCall, treeCall, linesCall, symbolCall, clampedCall, serializeCall}
 use Rattle.c_words.specs.Record.{lenWords}
 use Rattle.c_demand3.specs.Walks.{FileByWords, WalkedByCalls, FoundByCalls}
 use Rattle.c_demand3.specs.Walks as walks
-use Rattle.c_demand3.specs.Lists.{exported, exported-beginning, FileLeft, ExportedDemand3}
+use Rattle.c_demand3.specs.Lists.{exported, exported-beginning, FileLeft, ExportedDemand3, ExportedClamped}
 use Rattle.c_demand3.proofs.Carried.{tree-carried, lines-carried, symbol-carried, begin-carried}
 use Rattle.c_demand3.proofs.Cursors.{counts-below, found-by-calls}
 
@@ -56,16 +58,31 @@ call-carried (symbol t address size name) r m =
     ap (λ (c : Converter). outcome (o .code) c (o .memory)) (symbol-carried r m t address size name)
 call-carried (write output) r m = refl
 
-module _ (r id : List ℕ) (arch f s : ℕ) (m : Memory) (long : 18 ≤ length r) (bytes : Bytes id) where
+module _ (r id : List ℕ) (arch f s : ℕ) (m : Memory) (long : 20 ≤ length r) (bytes : Bytes id) where
   begun-memory : beginCall r id arch f s m .memory ≡ beginOf (bytesAt 32 id 0) arch (yes f) (yes s) m .1
   unfolding beginCall
-  begun-memory = rw (le-ltb (length r) 18 long)
+  begun-memory = rw (le-ltb (length r) 20 long)
 
   begun-carried : standing-of (exported-beginning r id arch f s m) ≡ beginning (bytesAt 32 id 0) arch (yes f) (yes s) m
   begun-carried = ap₂ (λ (c : Converter) (n : Memory). none-counted c n) (begin-carried r id arch f s m long bytes) begun-memory
 
   list-carried : (ks : List Call) → standing-of (run exported ks (exported-beginning r id arch f s m)) ≡ run by-value ks (beginning (bytesAt 32 id 0) arch (yes f) (yes s) m)
   list-carried ks = run-carried converterOf by-value exported call-carried ks (exported-beginning r id arch f s m) ∙ ap (run by-value ks) begun-carried
+
+-- ── The count of clamped line rows ─────────────────────────────────────────────────────────────────────────────────────
+
+-- a record's word says whether it is open
+handed-out : (r : List ℕ) (gs : List Given) → clampedLines (converterOf r) ≡ while-open (converterOf r .«open») (capped (clamped-calls gs))
+    → clampedCall r ≡ while-open (yes (getD r 19 0)) (capped (clamped-calls gs))
+unfolding clampedCall converterOf
+handed-out r gs e = e
+
+pub exported-clamped : ExportedClamped
+exported-clamped r id arch f s m ks long bytes =
+    let x = run exported ks (exported-beginning r id arch f s m) in
+    handed-out (x .carrier) (x .counted)
+    (subst (λ (y : Standing Converter). clampedLines (y .carrier) ≡ while-open (y .carrier .«open») (capped (clamped-calls (y .counted))))
+    (sym (list-carried r id arch f s m long bytes ks)) (clamped-counted (bytesAt 32 id 0) arch (yes f) (yes s) m ks))
 
 -- ── The file ───────────────────────────────────────────────────────────────────────────────────────────────────────────
 

@@ -16,6 +16,7 @@ use Rattle.model.specs.Rows.{Given}
 use Rattle.model.specs.Machine.{advanceM, set-atM, kid-spansM, unless-held, put-end, walkM, loopM, entryM, closingM, rowM, convertM, startM}
 use Rattle.model.proofs.Worked.{plain-setup}
 use Rattle.rows.specs.Columns.{functionInColumns, lineInColumns, partOf, lineAt, linesFrom, treeRow, treeRowsFrom}
+use Rattle.rows.specs.Clamped.{clamped-lines, clamped-rows}
 use Rattle.refusals.specs.Refusals.{each, total, lengths?, count?, depth?, shaped?, shallowRow?, shallow?, inside?, readable?, optional?, functionTexts?, lineTexts?, texts?, end?, ends?, room?, treeRefusal}
 use Rattle.tables.specs.Table.{rowAt, linkAt, headAt, setRow, appendOf, overOf, bucketOf, walk, keyOf, sameRow, hashOf, hitAt, newestOf, lookupOf, insertAt, insertOf, capacityOf}
 use Rattle.tables.specs.Ranges.{getOf, replaceOf, putAt, putOf}
@@ -36,7 +37,7 @@ use Rattle.demand3.specs.Lists.{Standing, write, next, run}
 use Rattle.demand3.proofs.Tests.{numbers, number-in, typed}
 use Rattle.demand3.proofs.SmallCalls.{two-trees, output, calls, lent, line, root, given, Frames, frames-shown, given-premises, covered}
 use Rattle.demand3.proofs.SmallCalls as small
-use Rattle.c_words.specs.Record.{idOf, stateOf, converterOf, wordsOf, kept, lenWords}
+use Rattle.c_words.specs.Record.{idOf, stateOf, clampedOf, converterOf, wordsOf, kept, lenWords}
 use Rattle.c_words.specs.Writing.{beginCall, treeCall, linesCall, LeftFile, serializeCall}
 use Rattle.c_demand3.specs.Lists.{exported, exported-beginning, FileLeft}
 use Rattle.c_demand3.specs.Walks.{FoundByCalls}
@@ -49,7 +50,7 @@ abbrev id : List ℕ
 id = 1 ∷ 2 ∷ []
 
 abbrev start : Standing (List ℕ)
-start = exported-beginning (replicate 19 7) id 5 0 0 lent
+start = exported-beginning (replicate 21 7) id 5 0 0 lent
 
 abbrev stands : Standing (List ℕ)
 stands = run exported two-trees start
@@ -60,16 +61,16 @@ written = serializeCall (stands .carrier) (stands .memory) output (7 ∷ [])
 
 -- ── What is computed ──
 
--- the 19th word stays as it was
+-- the 21st word stays as it was
 pub record Computed : Type 0 where
-  pub begun : start .carrier ≡ 513 ∷ 0 ∷ 0 ∷ 0 ∷ 0 ∷ 0 ∷ 0 ∷ 0 ∷ 5 ∷ 0 ∷ 0 ∷ 0 ∷ 0 ∷ 0 ∷ 0 ∷ 0 ∷ 0 ∷ 1 ∷ 7 ∷ []
+  pub begun : start .carrier ≡ 513 ∷ 0 ∷ 0 ∷ 0 ∷ 0 ∷ 0 ∷ 0 ∷ 0 ∷ 5 ∷ 0 ∷ 0 ∷ 0 ∷ 0 ∷ 0 ∷ 0 ∷ 0 ∷ 0 ∷ 0 ∷ 0 ∷ 1 ∷ 7 ∷ []
   pub answers : numbers exported calls start ≡ 0 ∷ 0 ∷ 0 ∷ []
-  pub record-left : stands .carrier ≡ 513 ∷ 0 ∷ 0 ∷ 0 ∷ 0 ∷ 0 ∷ 0 ∷ 0 ∷ 5 ∷ 0 ∷ 0 ∷ 6 ∷ 3 ∷ 1 ∷ 2 ∷ 0 ∷ 3 ∷ 1 ∷ 7 ∷ []
+  pub record-left : stands .carrier ≡ 513 ∷ 0 ∷ 0 ∷ 0 ∷ 0 ∷ 0 ∷ 0 ∷ 0 ∷ 5 ∷ 0 ∷ 0 ∷ 6 ∷ 3 ∷ 1 ∷ 2 ∷ 0 ∷ 3 ∷ 0 ∷ 0 ∷ 1 ∷ 7 ∷ []
   pub counted : stands .counted ≡ given
   pub length-left : written .len ≡ 206 ∷ []
 
 pub computed : Computed
-unfolding numbers next run beginCall treeCall linesCall serializeCall idOf stateOf converterOf wordsOf kept lenWords bytes.bytesAt bytes.leAt usableIn finished beginOf treeOf linesOf packed unpackRoom? functionInColumns lineInColumns partOf lineAt linesFrom treeRow treeRowsFrom each total lengths? count? depth? shaped? shallowRow? shallow? inside? readable? optional? functionTexts? lineTexts? texts? end? ends? room? treeRefusal utf8 chars charLen UTF8-char fits within before place sort advanceM set-atM kid-spansM unless-held put-end walkM loopM entryM closingM rowM convertM startM isNoSourceLocation rowAt linkAt headAt setRow appendOf overOf bucketOf walk keyOf sameRow hashOf hitAt newestOf lookupOf insertAt insertOf capacityOf getOf replaceOf putAt putOf textCapacityOf encoded-in encoded storedText textSize hashFrom textHash textRow isText textAt newestText findText indexOf fullOf storeOf insertTextAt insertTextOf fitsIn store add-function add-file-row add-call put-range store-six locate-six begin-named serializeOf written-file versionInfoBytes headerBytes bytes.wordBytes bytes.le bytes.tableBytes file-row fileBytes function-row functionBytes call-row locationBytes location-row start-row rangeBytes padding in-order entries table.rowsFrom
+unfolding numbers next run beginCall treeCall linesCall serializeCall idOf stateOf clampedOf converterOf wordsOf kept lenWords bytes.bytesAt bytes.leAt usableIn finished beginOf treeOf linesOf packed unpackRoom? functionInColumns lineInColumns partOf lineAt linesFrom treeRow treeRowsFrom clamped-lines clamped-rows each total lengths? count? depth? shaped? shallowRow? shallow? inside? readable? optional? functionTexts? lineTexts? texts? end? ends? room? treeRefusal utf8 chars charLen UTF8-char fits within before place sort advanceM set-atM kid-spansM unless-held put-end walkM loopM entryM closingM rowM convertM startM isNoSourceLocation rowAt linkAt headAt setRow appendOf overOf bucketOf walk keyOf sameRow hashOf hitAt newestOf lookupOf insertAt insertOf capacityOf getOf replaceOf putAt putOf textCapacityOf encoded-in encoded storedText textSize hashFrom textHash textRow isText textAt newestText findText indexOf fullOf storeOf insertTextAt insertTextOf fitsIn store add-function add-file-row add-call put-range store-six locate-six begin-named serializeOf written-file versionInfoBytes headerBytes bytes.wordBytes bytes.le bytes.tableBytes file-row fileBytes function-row functionBytes call-row locationBytes location-row start-row rangeBytes padding in-order entries table.rowsFrom
 computed = record { begun = refl; answers = refl; record-left = refl; counted = refl; length-left = refl }
 
 -- ── What demand 3 gives ──
@@ -87,7 +88,7 @@ zero-answered =
 pub left : FileLeft (bytes.bytesAt 32 id 0) 5 plain-setup given output (7 ∷ []) written
 left =
     subst (λ (gs : List Given). FileLeft (bytes.bytesAt 32 id 0) 5 plain-setup gs output (7 ∷ []) written) (computed .counted)
-    (exported-demand3 (replicate 19 7) id 5 0 0 lent calls (omega arith) (omega arith, (omega arith, tt)) (omega arith) (typed calls (small.computed .words-typed))
+    (exported-demand3 (replicate 21 7) id 5 0 0 lent calls (omega arith) (omega arith, (omega arith, tt)) (omega arith) (typed calls (small.computed .words-typed))
     two-trees [] output (7 ∷ []) refl zero-answered)
 
 -- the frames of SmallCalls, of this file: by value, and by the exported readers

@@ -17,8 +17,8 @@ use Rattle.c_words.specs.Writing.{callLeft, beginCall}
 use Rattle.c_reading.specs.Reading.{filled, moved, answered, stepsTo, refused, cached, parseCall, openCall, walkOf, lookupCall, nextCall}
 
 -- a beginning: the debug id 01 02, arch 5, names of functions undecorated; the record's words after it
-pub worked-begun : beginCall (replicate 19 7) (1 ∷ 2 ∷ []) 5 3 0 (memory (7 ∷ []) [] [] [] [] (7 ∷ 7 ∷ []))
-    ≡ callLeft 0 (513 ∷ 0 ∷ 0 ∷ 0 ∷ 0 ∷ 0 ∷ 0 ∷ 0 ∷ 5 ∷ 1 ∷ 0 ∷ 0 ∷ 0 ∷ 0 ∷ 0 ∷ 0 ∷ 0 ∷ 1 ∷ 7 ∷ []) (memory (0 ∷ []) [] [] [] [] (0 ∷ 0 ∷ [])) []
+pub worked-begun : beginCall (replicate 21 7) (1 ∷ 2 ∷ []) 5 3 0 (memory (7 ∷ []) [] [] [] [] (7 ∷ 7 ∷ []))
+    ≡ callLeft 0 (513 ∷ 0 ∷ 0 ∷ 0 ∷ 0 ∷ 0 ∷ 0 ∷ 0 ∷ 5 ∷ 1 ∷ 0 ∷ 0 ∷ 0 ∷ 0 ∷ 0 ∷ 0 ∷ 0 ∷ 0 ∷ 0 ∷ 1 ∷ 7 ∷ []) (memory (0 ∷ []) [] [] [] [] (0 ∷ 0 ∷ [])) []
 unfolding beginCall beginOf wordsOf bytesAt leAt
 worked-begun = refl
 

@@ -1,4 +1,4 @@
-// Tree calls over words: the converter's record is eighteen words between calls, and the six tables are lent at each call. The exported functions pass on
+// Tree calls over words: the converter's record is twenty words between calls, and the six tables are lent at each call. The exported functions pass on
 // what these answer.
 ghost use mathlib.Core.Path.{_≡_};
 ghost use Rattle.rows.specs.Columns.{columns};

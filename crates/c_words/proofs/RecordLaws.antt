@@ -1,5 +1,6 @@
 -- The record's words, read and stored.
-use Prim.Native.Nat.{ℕ, _*_}
+use Prim.Native.Nat.{ℕ, _+_, _*_}
+use native.Mathlib.Omega.{arith}
 use mathlib.Core.Bool.{Bool}
 use mathlib.Core.Path.{_≡_, ap, _∙_}
 use mathlib.Core.List.{List}
@@ -9,9 +10,11 @@ use borrow.Author.Tests.{ne-eqb}
 use Rattle.slices.specs.Bytes.{le, leAt, bytesAt, wordBytes}
 use Rattle.memory.specs.declared.State.{State}
 use Rattle.memory.specs.declared.Converter.{Converter}
+use Rattle.memory.specs.Record.{clampedLines}
 use Rattle.c_reading.specs.Stored.{stored}
 use Rattle.slices.specs.Slices.{yes, flagOf}
-use Rattle.c_words.specs.Record.{idOf, stateOf, converterOf, idWords, countWords, switchWords, wordsOf, kept, lenWords}
+use Rattle.c_words.specs.Writing.{clampedCall}
+use Rattle.c_words.specs.Record.{idOf, stateOf, clampedOf, converterOf, idWords, countWords, switchWords, clampedWords, wordsOf, kept, lenWords}
 
 -- ── Read ───────────────────────────────────────────────────────────────────────────────────────────────────────────────
 
@@ -29,21 +32,29 @@ pub state-read : (r : List ℕ) {a b c d e f : ℕ} → a ≡ getD r 11 0 → b 
 unfolding stateOf
 state-read r ea eb ec ed ee ef = rw (ea, eb, ec, ed, ee, ef)
 
-pub converter-read : (r : List ℕ) {i : List ℕ} {s : State} {a u v w : ℕ} {f g o : Bool} → i ≡ idOf r → s ≡ stateOf r → a ≡ getD r 8 0 → u ≡ getD r 9 0 → f ≡ yes u → v ≡ getD r 10 0 → g ≡ yes v
-    → w ≡ getD r 17 0 → o ≡ yes w
-    → record { «debug_id» = i; arch = a; «undecorate_functions» = f; «undecorate_symbols» = g; «open» = o; state = s } ≡ converterOf r
+pub clamped-read : (r : List ℕ) (low high : ℕ) → low ≡ getD r 17 0 → high ≡ getD r 18 0 → high * 4294967296 + low ≡ clampedOf r
+unfolding clampedOf
+clamped-read r low high el eh = omega arith
+
+pub converter-read : (r : List ℕ) {i : List ℕ} {s : State} {a u v w n : ℕ} {f g o : Bool} → i ≡ idOf r → s ≡ stateOf r → n ≡ clampedOf r → a ≡ getD r 8 0 → u ≡ getD r 9 0 → f ≡ yes u
+    → v ≡ getD r 10 0 → g ≡ yes v → w ≡ getD r 19 0 → o ≡ yes w
+    → record { «debug_id» = i; arch = a; «undecorate_functions» = f; «undecorate_symbols» = g; «open» = o; state = s; «clamped_lines» = n } ≡ converterOf r
 unfolding converterOf
-converter-read r ei es ea eu ef ev eg ew eo = rw (ei, es, ea, ef, eg, eo, eu, ev, ew)
+converter-read r ei es en ea eu ef ev eg ew eo = rw (ei, es, en, ea, ef, eg, eo, eu, ev, ew)
+
+pub handed-out : (r : List ℕ) {c : Converter} {n : ℕ} → c ≡ converterOf r → n ≡ clampedLines c → n ≡ clampedCall r
+unfolding clampedCall
+handed-out r e f = f ∙ ap clampedLines e
 
 -- ── Stored ─────────────────────────────────────────────────────────────────────────────────────────────────────────────
 
 pub word-of-id : (t : List ℕ) (k : ℕ) (b : List ℕ) (w : ℕ) {t₁ : List ℕ} → w ≡ leAt 4 b (4 * k) → t₁ ≡ set t k w → t₁ ≡ set t k (leAt 4 b (4 * k))
 word-of-id t k b w e h = h ∙ ap (λ (v : ℕ). set t k v) e
 
-pub record-stored : (t : List ℕ) (c : Converter) {t₁ t₂ t₃ t₄ : List ℕ} {w : ℕ} → t₁ ≡ stored (idWords (c .«debug_id»)) t → t₂ ≡ sets t₁ 8 (switchWords c)
-    → t₃ ≡ sets t₂ 11 (countWords (c .state)) → w ≡ flagOf (c .«open») → t₄ ≡ set t₃ 17 w → t₄ ≡ stored (wordsOf c) t
+pub record-stored : (t : List ℕ) (c : Converter) {t₁ t₂ t₃ t₄ t₅ : List ℕ} {w : ℕ} → t₁ ≡ stored (idWords (c .«debug_id»)) t → t₂ ≡ sets t₁ 8 (switchWords c)
+    → t₃ ≡ sets t₂ 11 (countWords (c .state)) → t₄ ≡ sets t₃ 17 (clampedWords (c .«clamped_lines»)) → w ≡ flagOf (c .«open») → t₅ ≡ set t₄ 19 w → t₅ ≡ stored (wordsOf c) t
 unfolding wordsOf
-record-stored t c e₁ e₂ e₃ ew e₄ = rw (e₄, ew, e₃, e₂, e₁)
+record-stored t c e₁ e₂ e₃ e₄ ew e₅ = rw (e₅, ew, e₄, e₃, e₂, e₁)
 
 -- "only accepted calls and 17 store it"
 pub kept-accepted : (n : ℕ) (c : Converter) (t : List ℕ) {t₁ : List ℕ} → n ≡ 0 → t₁ ≡ stored (wordsOf c) t → t₁ ≡ kept n c t

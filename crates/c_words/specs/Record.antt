@@ -1,6 +1,6 @@
--- The converter's record in eighteen words: 0 to 7 the debug id, four bytes a word, little-endian; 8 arch; 9 and 10 the two switches; 11 to 16 what is
--- in use of the six tables; 17 open.
-use Prim.Native.Nat.{ℕ, _<_}
+-- The converter's record in twenty words: 0 to 7 the debug id, four bytes a word, little-endian; 8 arch; 9 and 10 the two switches; 11 to 16 what is in
+-- use of the six tables; 17 and 18 the count of clamped line rows, low word and high; 19 open.
+use Prim.Native.Nat.{ℕ, _+_, _*_, _/_, _%_, _<_}
 use mathlib.Core.Bool.{cond, _||_}
 use mathlib.Core.Path.{_≡_}
 use mathlib.Core.List.{List, [], _∷_, _++_}
@@ -27,15 +27,19 @@ stateOf r = record {
   ranges = getD r 16 0;
 }
 
--- "A record of fewer than 18 words is a closed converter": its last word is read as 0
+unfoldable pub clampedOf : List ℕ → ℕ
+clampedOf r = getD r 17 0 + 4294967296 * getD r 18 0
+
+-- "A record of fewer than 20 words is a closed converter": its last word is read as 0
 unfoldable pub converterOf : List ℕ → Converter
 converterOf r = record {
   «debug_id» = idOf r;
   arch = getD r 8 0;
   «undecorate_functions» = yes (getD r 9 0);
   «undecorate_symbols» = yes (getD r 10 0);
-  «open» = yes (getD r 17 0);
+  «open» = yes (getD r 19 0);
   state = stateOf r;
+  «clamped_lines» = clampedOf r;
 }
 
 -- ── Stored ─────────────────────────────────────────────────────────────────────────────────────────────────────────────
@@ -49,8 +53,12 @@ countWords s = s .«string_bytes» ∷ s .strings ∷ s .files ∷ s .functions 
 abbrev pub switchWords : Converter → List ℕ
 switchWords c = c .arch ∷ flagOf (c .«undecorate_functions») ∷ flagOf (c .«undecorate_symbols») ∷ []
 
+abbrev pub clampedWords : ℕ → List ℕ
+clampedWords n = n % 4294967296 ∷ n / 4294967296 ∷ []
+
 unfoldable pub wordsOf : Converter → List ℕ
-wordsOf c = idWords (c .«debug_id») ++ (switchWords c ++ (countWords (c .state) ++ (flagOf (c .«open») ∷ [])))
+wordsOf c =
+    idWords (c .«debug_id») ++ (switchWords c ++ (countWords (c .state) ++ (clampedWords (c .«clamped_lines») ++ (flagOf (c .«open») ∷ []))))
 
 -- "On a refusal other than 17 no word of the record changes"
 unfoldable pub kept : ℕ → Converter → List ℕ → List ℕ

@@ -12,7 +12,7 @@ use Rattle.rows.specs.declared.OptionalPart.{OptionalPart}
 use Rattle.memory.specs.Memory.{Memory}
 use Rattle.symbol_call.specs.Calls.{Called, symbolOf}
 use Rattle.writer.specs.Calls.{treeOf}
-use Rattle.memory.specs.Record.{beginOf}
+use Rattle.memory.specs.Record.{beginOf, clampedLines}
 use Rattle.line_calls.specs.Calls.{LinesCalled, linesOf}
 use Rattle.serialize.specs.File.{serializeOf}
 use Rattle.c_reading.specs.Stored.{stored}
@@ -32,11 +32,11 @@ callLeft n r m s = record { code = n; words = r; memory = m; scratch = s }
 abbrev pub leaves : List ℕ → Called → CallLeft
 leaves r o = callLeft (o .code) (kept (o .code) (o .converter) r) (o .memory) (o .scratch)
 
--- "debug_id: its first 32 bytes; missing ones are 0. Begin answers 0, or 19 where the record has fewer than 18 words (then nothing changes)"
+-- "debug_id: its first 32 bytes; missing ones are 0. Begin answers 0, or 19 where the record has fewer than 20 words (then nothing changes)"
 unfoldable pub beginCall : List ℕ → List ℕ → ℕ → ℕ → ℕ → Memory → CallLeft
 beginCall r id arch f s m =
     let b = beginOf (bytesAt 32 id 0) arch (yes f) (yes s) m in
-    cond (ltb (length r) 18) (callLeft 19 r m []) (callLeft 0 (stored (wordsOf (b .0)) r) (b .1) [])
+    cond (ltb (length r) 20) (callLeft 19 r m []) (callLeft 0 (stored (wordsOf (b .0)) r) (b .1) [])
 
 unfoldable pub treeCall : List ℕ → Memory → List ℕ → Columns → CallLeft
 treeCall r m s k = leaves r (treeOf (converterOf r) m s k)
@@ -62,6 +62,10 @@ nameAt named start len = record { present = yes named; part = record { start = s
 
 unfoldable pub symbolCall : List ℕ → Memory → List ℕ → ℕ → ℕ → OptionalPart → CallLeft
 symbolCall r m t address size name = leaves r (symbolOf (converterOf r) m t address size name)
+
+-- "as a 64-bit number it hands out on request. It is 0 after beginning and while closed" (K5)
+unfoldable pub clampedCall : List ℕ → ℕ
+clampedCall r = clampedLines (converterOf r)
 
 -- ── Writing ────────────────────────────────────────────────────────────────────────────────────────────────────────────
 

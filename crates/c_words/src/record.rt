@@ -1,12 +1,24 @@
-// The converter's record as eighteen words: the debug id in eight, four bytes a word, little-endian; arch; the two switches; what is in use of the
-// six tables; whether it is open.
+// The converter's record as twenty words: the debug id in eight, four bytes a word, little-endian; arch; the two switches; what is in use of the
+// six tables; the count of clamped line rows, low word and high; whether it is open.
 ghost use mathlib.Core.Path.{_≡_};
 ghost use Prim.Native.Nat.{_*_};
 ghost use lib.ListN.{getD, set};
 ghost use lib.Seq.{sets};
 ghost use Rattle.slices.specs.Bytes.{le, leAt};
 ghost use Rattle.c_reading.specs.Stored.{stored};
-ghost use Rattle.c_words.specs.Record.{idOf, stateOf, converterOf, idWords, countWords, switchWords, wordsOf, kept};
+ghost use Rattle.c_words.specs.Record.{
+  idOf,
+  stateOf,
+  clampedOf,
+  converterOf,
+  idWords,
+  countWords,
+  switchWords,
+  clampedWords,
+  wordsOf,
+  kept,
+};
+ghost use Rattle.c_words.specs.Writing.{clampedCall};
 use memory::Converter;
 use memory::State;
 use slices::flag;
@@ -55,20 +67,38 @@ fn state(record: &[u32]) -> State
     }
 }
 
-// A record of fewer than eighteen words is closed: its last word is read as 0.
+// The count of clamped line rows.
+fn clamped(record: &[u32]) -> u64
+    ensures { λ r. ⌜ r ≡ clampedOf (now («record» .entry)) ⌝ }
+{
+    let low = word(record, 17) as u64;
+    let high = word(record, 18) as u64;
+    high * 4294967296 + low
+}
+
+// A record of fewer than twenty words is closed: its last word is read as 0.
 pub fn load(record: &[u32]) -> Converter
     ensures { λ r. ⌜ r ≡ converterOf (now («record» .entry)) ⌝ }
 {
     let debug_id = debug_id(record);
     let state = state(record);
+    let clamped_lines = clamped(record);
     Converter {
         debug_id,
         arch: word(record, 8),
         undecorate_functions: is_set(word(record, 9)),
         undecorate_symbols: is_set(word(record, 10)),
-        open: is_set(word(record, 17)),
+        open: is_set(word(record, 19)),
         state,
+        clamped_lines,
     }
+}
+
+// The count that is handed out: that of an open record, and 0 of a closed one, whatever its words say.
+pub fn clamped_lines(record: &[u32]) -> u64
+    ensures { λ r. ⌜ r ≡ clampedCall (now («record» .entry)) ⌝ }
+{
+    memory::clamped_lines(load(record))
 }
 
 // Storing it
@@ -114,6 +144,13 @@ fn put_switches(record: &mut [u32], c: Converter)
     put(record, 10, flag(c.undecorate_symbols));
 }
 
+fn put_clamped(record: &mut [u32], n: u64)
+    ensures { λ _. ⌜ now («record» .exit) ≡ sets (now («record» .entry)) 17 (clampedWords n) ⌝ }
+{
+    put(record, 17, (n % 4294967296) as u32);
+    put(record, 18, (n / 4294967296) as u32);
+}
+
 pub fn store(record: &mut [u32], c: Converter)
     ensures { λ _. ⌜ now («record» .exit) ≡ stored (wordsOf c) (now («record» .entry)) ⌝ }
 {
@@ -122,7 +159,8 @@ pub fn store(record: &mut [u32], c: Converter)
     put_id(record, &id);
     put_switches(record, c);
     put_counts(record, state);
-    put(record, 17, flag(c.open));
+    put_clamped(record, c.clamped_lines);
+    put(record, 19, flag(c.open));
 }
 
 // Accepted calls and 17 store it; no other refusal does.

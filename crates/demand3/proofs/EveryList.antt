@@ -31,9 +31,9 @@ use Rattle.steps.specs.Steps.{over-words}
 use Rattle.memory.specs.declared.Converter.{Converter}
 use Rattle.steps.proofs.Lengths.{Lens}
 use Rattle.symbol_call.specs.Calls.{Called, called, setup, finished, symbolOf}
-use Rattle.writer.specs.Calls.{rows-converted, treeOf}
+use Rattle.writer.specs.Calls.{rows-converted, tree-counted, treeOf}
 use Rattle.slices.specs.Slices.{zeros}
-use Rattle.memory.specs.Record.{usableIn, with-state, words-of, usable?, beginOf, unused}
+use Rattle.memory.specs.Record.{usableIn, words-of, usable?, begun, beginOf}
 use Rattle.steps.specs.Symbols.{symbolRow}
 use Rattle.line_rows.specs.Lines.{lineColumns}
 use Rattle.line_calls.specs.Calls.{linesOf}
@@ -44,9 +44,9 @@ use Rattle.demand3.proofs.OneCall.{Left, call-left, tree-is, symbol-is,
 
 -- ── The invariant: n are the lent lengths, b is the record as it was begun ──
 
--- the record but for what is in use
+-- the record as it was begun: without what is in use and what was counted
 abbrev pub identity : Converter → Converter
-identity c = with-state c true unused
+identity c = begun (c .«debug_id») (c .arch) (c .«undecorate_functions») (c .«undecorate_symbols»)
 
 pub record Open (n : Lens) (b : Converter) (r : Standing Converter) : Type 0 where
   pub began : identity (r .carrier) ≡ b
@@ -123,16 +123,17 @@ module _ (n : Lens) (b : Converter) (r : Standing Converter) (g : Given) (s : Li
       go : (gs : List Given) → ((f : Given) → f ∈ gs → GivenFits f) → (f : Given) → f ∈ (gs ++ (g ∷ [])) → GivenFits f
       go gs k f i = ⊎-elim (λ j. k f j) (λ j. ∈-elim GivenFits fit (λ y z. elim z [ ]) f j) (∈-append gs i)
 
-  pub done : Done n b r g s (finished (r .carrier) s u)
+  -- whatever the record counts
+  pub done : (c : Converter) → identity c ≡ identity (r .carrier) → Done n b r g s (finished c s u)
   unfolding finished
-  done = go (plain-fits? (capacities n) (converted X (r .counted ++ (g ∷ [])))) refl
+  done c i = go (plain-fits? (capacities n) (converted X (r .counted ++ (g ∷ [])))) refl
     where
-      go : (f : Bool) → plain-fits? (capacities n) (converted X (r .counted ++ (g ∷ []))) ≡ f → Done n b r g s (finished (r .carrier) s u)
+      go : (f : Bool) → plain-fits? (capacities n) (converted X (r .counted ++ (g ∷ []))) ≡ f → Done n b r g s (finished c s u)
       go true e =
           rw (left .same ∙ e)
           (record {
             code = rw e;
-            stands = inl (record { began = h .began; opened = refl; enc = left .enc e; fitting = fits-more });
+            stands = inl (record { began = i ∙ h .began; opened = refl; enc = left .enc e; fitting = fits-more });
             scratch = refl;
           })
       go false e = rw (left .same ∙ e) (record { code = rw e; stands = inr (record { closed = refl; zero = ap zero-memory (left .lent) }); scratch = refl })
@@ -156,7 +157,7 @@ other-refusals k s = go (shaped? k) (shallow? k) (texts? k) (ends? k) (room? k s
     go true true true true true e = absurd (omega arith)
 
 tree-usable : (c : Converter) (m : Memory) (s : List ℕ) (k : Columns) → usable? c m ≡ true
-    → treeOf c m s k ≡ cond (eqb (treeRefusal k (length s)) 0) (finished c s (rows-converted c m k)) (called (treeRefusal k (length s)) c m s)
+    → treeOf c m s k ≡ cond (eqb (treeRefusal k (length s)) 0) (finished (tree-counted c k) s (rows-converted c m k)) (called (treeRefusal k (length s)) c m s)
 unfolding treeOf
 tree-usable c m s k e = rw e
 
@@ -181,9 +182,10 @@ module _ (n : Lens) (b : Converter) (r : Standing Converter) (k : Columns) (s : 
   pub tree-accepted : Typed (tree k s) → refusal ≡ 0 → Done n b r (givenTree k) s (treeOf (r .carrier) (r .memory) s k)
   tree-accepted t z =
       let a : Accepted k (length s) = accepted k (length s) z in
-      let e : treeOf (r .carrier) (r .memory) s k ≡ finished (r .carrier) s (convert-opM input (over-words (setup b)) (op (givenTree k)) (words-of (r .carrier) (r .memory))) =
-      tree-usable (r .carrier) (r .memory) s k (open-usable n b r h) ∙ rw (eq-eqb refusal 0 z) (ap (finished (r .carrier) s) (rows-are z)) in
-      subst (Done n b r (givenTree k) s) (sym e) (done n b r (givenTree k) s h (given-fits k (a .texts) (a .shape) t))
+      let c : Converter = tree-counted (r .carrier) k in
+      let e : treeOf (r .carrier) (r .memory) s k ≡ finished c s (convert-opM input (over-words (setup b)) (op (givenTree k)) (words-of (r .carrier) (r .memory))) =
+      tree-usable (r .carrier) (r .memory) s k (open-usable n b r h) ∙ rw (eq-eqb refusal 0 z) (ap (finished c s) (rows-are z)) in
+      subst (Done n b r (givenTree k) s) (sym e) (done n b r (givenTree k) s h (given-fits k (a .texts) (a .shape) t) c refl)
 
   -- the number of a tree: 13, 25, 14, 15, 16 as they are due; else 17 if the plain tables after it would not fit; else 0
   pub tree-number : Typed (tree k s) → treeOf (r .carrier) (r .memory) s k .code ≡ cond (eqb refusal 0) (due (capacities n) (setup b) (r .counted) (givenTree k)) refusal
@@ -272,7 +274,7 @@ module _ (n : Lens) (b : Converter) (r : Standing Converter) (t : List ℕ) (add
       let i : outcome ≡ finished (r .carrier) [] (convert-opM input (over-words (setup b)) (op g) w) =
       symbol-usable (r .carrier) (r .memory) t address size name (open-usable n b r h)
       ∙ rw z (ap (λ (X : Setup). finished (r .carrier) [] (convert-symbolM input (over-words X) (symbolRow t address size name) w)) e ∙ ap (finished (r .carrier) []) (symbol-is (setup b) (symbolRow t address size name) w)) in
-      subst (Done n b r g []) (sym i) (done n b r g [] h (symbol-fits t address size name z))
+      subst (Done n b r g []) (sym i) (done n b r g [] h (symbol-fits t address size name z) (r .carrier) refl)
 
   -- the number of a symbol: 14 as it is due; else 17 if the plain tables after it would not fit; else 0
   pub symbol-number : outcome .code ≡ cond (optional? t name) (due (capacities n) (setup b) (r .counted) g) 14

@@ -8,6 +8,7 @@ pub mod EveryList
 pub mod WrittenFile
 pub mod Claim
 pub mod Carried
+pub mod Clamped
 pub mod Marked
 pub mod Tests
 pub mod Sized

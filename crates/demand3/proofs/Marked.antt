@@ -30,8 +30,8 @@ pub record Marked : Type 0 where
   pub M1 : frames 0x1003 ≡ record { location = 2; function = 1; line = 0x32; file = 1 } ∷ record { location = 0; function = 0; line = 0xA; file = 0 } ∷ []
   pub M2 : frames 0x1010 ≡ []
   pub M3 : frames 0x0FFF ≡ []
-  pub M4 : (size : ℕ) → boundariesOf MAX false size ≡ record { start = MAX; end = MAX }
-  pub M5 : boundariesOf (MAX - 5) true 5 .end ≡ MAX
+  pub M4 : (size : ℕ) → boundariesOf MAX false size ≡ record { start = MAX; end = MAX; cut = true }
+  pub M5 : boundariesOf (MAX - 5) true 5 ≡ record { start = MAX - 5; end = MAX; cut = false }
   pub M6 : undecorated (95 ∷ foo ++ (64 ∷ 52 ∷ [])) ≡ foo  -- `_foo@4`
   pub M7 : undecorated (foo ++ (64 ∷ 64 ∷ 43 ∷ 56 ∷ [])) ≡ foo  -- `foo@@+8`
   pub M8 : undecorated (95 ∷ foo ++ (64 ∷ too-great)) ≡ foo ++ (64 ∷ too-great)  -- `_foo@4294967296`

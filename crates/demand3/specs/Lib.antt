@@ -1,2 +1,3 @@
 pub mod Lists
 pub mod Demand3
+pub mod Clamped

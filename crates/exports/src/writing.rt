@@ -1,9 +1,9 @@
-// The converter and the writer. Between calls the converter is a record of eighteen words; the six tables are lent at each call.
+// The converter and the writer. Between calls the converter is a record of twenty words; the six tables are lent at each call.
 ghost use mathlib.Core.Path.{_≡_};
 ghost use mathlib.Core.List.{[]};
 ghost use Rattle.rows.specs.Columns.{columns};
 ghost use Rattle.memory.specs.Memory.{memory};
-ghost use Rattle.c_words.specs.Writing.{callLeft, beginCall, treeCall, nameAt, symbolCall, leftFile, serializeCall};
+ghost use Rattle.c_words.specs.Writing.{callLeft, beginCall, treeCall, nameAt, symbolCall, clampedCall, leftFile, serializeCall};
 use c_words::file::put_len;
 use c_words::record::load;
 use c_words::record::store_answer;
@@ -11,7 +11,7 @@ use rows::OptionalPart;
 use rows::TextPart;
 use slices::is_set;
 
-// A new converter. 0, or 19 where the record has fewer than eighteen words.
+// A new converter. 0, or 19 where the record has fewer than twenty words.
 #[no_mangle]
 pub extern "C" fn symcache_begin(
     record: &mut [u32],
@@ -143,6 +143,14 @@ pub extern "C" fn symcache_process_symbolic_symbol(
     let c = answer.converter;
     store_answer(record, answer.code, c);
     answer.code
+}
+
+// How many line rows of the accepted trees had addresses that were cut back to u32::MAX; 0 while closed.
+#[no_mangle]
+pub extern "C" fn symcache_clamped_lines(record: &[u32]) -> u64
+    ensures { λ r. ⌜ r ≡ clampedCall (now («record» .entry)) ⌝ }
+{
+    c_words::record::clamped_lines(record)
 }
 
 // The file: 0, or 19, 18.

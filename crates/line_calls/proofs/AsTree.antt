@@ -15,7 +15,7 @@ use Rattle.refusals.proofs.Accepted.{some-row}
 use Rattle.memory.specs.Memory.{Memory}
 use Rattle.memory.specs.declared.Converter.{Converter}
 use Rattle.symbol_call.specs.Calls.{Called, called, finished}
-use Rattle.writer.specs.Calls.{rows-converted, treeOf}
+use Rattle.writer.specs.Calls.{rows-converted, tree-counted, treeOf}
 use Rattle.slices.specs.Slices.{zeros}
 use Rattle.memory.specs.Record.{usable?}
 use Rattle.line_rows.specs.Numbers.{unpackRoom?}
@@ -70,7 +70,7 @@ module _ (c : Converter) (m : Memory) (s u v : List ℕ) (k : Columns) where
   unfolding linesOf treeOf
   lines-tree = go (usable? c m) (eqb (treeRefusal k (length s)) 0) (unpackRoom? k u v) refl refl refl
     where
-      nothing-had : unpackRoom? k u v ≡ false → usable? c m ≡ true → treeOf c m scratch-had k ≡ cond (eqb (treeRefusal k 0) 0) (finished c [] (rows-converted c m k)) (called (treeRefusal k 0) c m [])
+      nothing-had : unpackRoom? k u v ≡ false → usable? c m ≡ true → treeOf c m scratch-had k ≡ cond (eqb (treeRefusal k 0) 0) (finished (tree-counted c k) [] (rows-converted c m k)) (called (treeRefusal k 0) c m [])
       nothing-had f p = rw (f, p)
 
       go : (a b d : Bool) → usable? c m ≡ a → eqb (treeRefusal k (length s)) 0 ≡ b → unpackRoom? k u v ≡ d → kept (linesOf c m s u v k .called) ≡ kept (treeOf c m scratch-had k)

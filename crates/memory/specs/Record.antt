@@ -1,7 +1,7 @@
 -- THE CONVERTER'S RECORD: what it says of the lent tables, a new one, and one after a call. Document 01 "Converter" and "Who causes which number".
-use mathlib.Core.Bool.{Bool, true, _&&_}
+use mathlib.Core.Bool.{Bool, true, cond, _&&_}
 use mathlib.Core.List.{List}
-use Prim.Native.Nat.{ℕ}
+use Prim.Native.Nat.{ℕ, _+_, min}
 use lib.Dec.{leb}
 use Rattle.tables.specs.Table.{capacityOf}
 use Rattle.strings.specs.Strings.{textCapacityOf}
@@ -106,13 +106,25 @@ ranges-become w n t = words (with-ranges (w .st) n) (w .mm .text) (w .mm .string
 abbrev pub unused : State
 unused = record { «string_bytes» = 0; strings = 0; files = 0; functions = 0; «call_locations» = 0; ranges = 0 }
 
--- what it was begun with, nothing in use, and open
+-- what it was begun with, nothing in use, no line rows counted, and open
 abbrev pub begun : List ℕ → ℕ → Bool → Bool → Converter
-begun id arch f s = record { «debug_id» = id; arch = arch; «undecorate_functions» = f; «undecorate_symbols» = s; «open» = true; state = unused }
+begun id arch f s = record {
+  «debug_id» = id;
+  arch = arch;
+  «undecorate_functions» = f;
+  «undecorate_symbols» = s;
+  «open» = true;
+  state = unused;
+  «clamped_lines» = 0;
+}
 
 -- "Beginning takes the debug id, the arch number and the two switches, and zeroes the lent tables"
 unfoldable pub beginOf : List ℕ → ℕ → Bool → Bool → Memory → Converter × Memory
 beginOf id arch f s m = (begun id arch f s, zeroed m)
+
+-- a count "is 0 after beginning and while closed" (K5)
+abbrev pub while-open : Bool → ℕ → ℕ
+while-open o n = cond o n 0
 
 abbrev pub with-state : Converter → Bool → State → Converter
 with-state c o s = record {
@@ -122,7 +134,30 @@ with-state c o s = record {
   «undecorate_symbols» = c .«undecorate_symbols»;
   «open» = o;
   state = s;
+  «clamped_lines» = while-open o (c .«clamped_lines»);
 }
+
+-- ── The count of clamped line rows: document 02, K5 ────────────────────────────────────────────────────────────────────
+
+-- "a 64-bit number", which "stays at 2^64 − 1 once there"
+abbrev pub capped : ℕ → ℕ
+capped n = min n 0xffff_ffff_ffff_ffff
+
+-- so many more line rows counted
+abbrev pub with-clamped : Converter → ℕ → Converter
+with-clamped c n = record {
+  «debug_id» = c .«debug_id»;
+  arch = c .arch;
+  «undecorate_functions» = c .«undecorate_functions»;
+  «undecorate_symbols» = c .«undecorate_symbols»;
+  «open» = c .«open»;
+  state = c .state;
+  «clamped_lines» = capped (c .«clamped_lines» + n);
+}
+
+-- what "it hands out on request"
+unfoldable pub clampedLines : Converter → ℕ
+clampedLines c = while-open (c .«open») (c .«clamped_lines»)
 
 -- the counts with the tables
 abbrev pub words-of : Converter → Memory → Words

@@ -2,11 +2,23 @@
 // Which tables there are stands here: `State`, `Lengths`, `lent`, `zero_tables`, and `Memory` of specs/.
 ghost use mathlib.Core.Path.{_≡_};
 ghost use mathlib.Core.Bool.{_&&_};
+ghost use Prim.Native.Nat.{_+_};
 ghost use lib.Dec.{leb};
 ghost use Rattle.tables.specs.Table.{capacityOf};
 ghost use Rattle.strings.specs.Strings.{textCapacityOf};
 ghost use Rattle.memory.specs.Memory.{memory, lent, zeroed};
-ghost use Rattle.memory.specs.Record.{fitsIn, usableIn, unused, begun, with-state, beginOf};
+ghost use Rattle.memory.specs.Record.{
+  fitsIn,
+  usableIn,
+  unused,
+  begun,
+  while-open,
+  with-state,
+  capped,
+  with-clamped,
+  clampedLines,
+  beginOf,
+};
 use slices::zero;
 use slices::zero_bytes;
 
@@ -20,7 +32,8 @@ pub struct State {
     pub ranges: u32,
 }
 
-// The converter's record: what it was begun with, whether it is open, and how much of the lent tables is in use.
+// The converter's record: what it was begun with, whether it is open, how much of the lent tables is in use, and how many line rows of accepted trees
+// had addresses that were cut back.
 pub struct Converter {
     pub debug_id: [u8; 32],
     pub arch: u32,
@@ -28,6 +41,7 @@ pub struct Converter {
     pub undecorate_symbols: bool,
     pub open: bool,
     pub state: State,
+    pub clamped_lines: u64,
 }
 
 // The lengths of the lent tables: of the texts in bytes, of the others in words.
@@ -163,7 +177,18 @@ fn opened(
         undecorate_symbols,
         open: true,
         state: nothing_used(),
+        clamped_lines: 0,
     }
+}
+
+// A count is 0 while the converter is closed.
+fn while_open(open: bool, count: u64) -> u64
+    ensures { λ r. ⌜ r ≡ while-open «open» count ⌝ }
+{
+    if open {
+        return count;
+    }
+    0
 }
 
 // The record after a call.
@@ -178,7 +203,42 @@ pub fn with_state(c: Converter, open: bool, state: State) -> Converter
         undecorate_symbols: c.undecorate_symbols,
         open,
         state,
+        clamped_lines: while_open(open, c.clamped_lines),
     }
+}
+
+// The sum, which stays at 2^64 - 1.
+fn saturated(a: u64, b: u64) -> u64
+    ensures { λ r. ⌜ r ≡ capped (a + b) ⌝ }
+{
+    if u64::MAX - a < b {
+        return u64::MAX;
+    }
+    a + b
+}
+
+// The record with so many more line rows counted as clamped.
+pub fn with_clamped(c: Converter, lines: u64) -> Converter
+    ensures { λ r. ⌜ r ≡ with-clamped c lines ⌝ }
+{
+    let id = c.debug_id;
+    let state = c.state;
+    Converter {
+        debug_id: id,
+        arch: c.arch,
+        undecorate_functions: c.undecorate_functions,
+        undecorate_symbols: c.undecorate_symbols,
+        open: c.open,
+        state,
+        clamped_lines: saturated(c.clamped_lines, lines),
+    }
+}
+
+// How many line rows of the accepted trees had addresses that were cut back to u32::MAX.
+pub fn clamped_lines(c: Converter) -> u64
+    ensures { λ r. ⌜ r ≡ clampedLines c ⌝ }
+{
+    while_open(c.open, c.clamped_lines)
 }
 
 // The tables

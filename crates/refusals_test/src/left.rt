@@ -170,11 +170,15 @@ pub(crate) fn unused(open: bool) -> Converter {
             call_locations: 0,
             ranges: 0,
         },
+        clamped_lines: 0,
     }
 }
 
 fn same_record(a: Converter, b: Converter) -> bool {
-    same_begun(a, b) && a.open == b.open && same_state(a.state, b.state)
+    same_begun(a, b)
+        && a.open == b.open
+        && same_state(a.state, b.state)
+        && a.clamped_lines == b.clamped_lines
 }
 
 // A beginning opens the converter; one that finds a table full closes it, with nothing in use.

@@ -1,13 +1,17 @@
 -- What the definitions compute to under the tests that the code makes: a row by value, a part of the text, a line's addresses.
-use Prim.Native.Nat.{ℕ, _+_, _-_, _/_, _≤_, _<_, min}
-use mathlib.Core.Path.{_≡_, sym}
-use mathlib.Core.Bool.{Bool, true, false, cond, not, true≢false}
+use Prim.Native.Nat.{ℕ, _+_, _-_, _*_, _/_, _≤_, _<_, min}
+use mathlib.Core.Path.{_≡_, sym, ap, _∙_}
+use mathlib.Core.Bool.{Bool, true, false, cond, not, _||_, true≢false}
 use mathlib.Core.List.{List, []}
 use native.Mathlib.Omega.{arith}
-use lib.ListN.{length, take, drop}
+use lib.Dec.{ltb}
+use lib.ListN.{length, getD, take, drop}
 use borrow.Author.Tests.{lt-ltb, le-ltb, le-leb, lt-leb}
 use Rattle.model.specs.Rows.{MAX}
-use Rattle.rows.specs.Columns.{functionFields, functionInColumns, lineFields, lineInColumns, boundariesOf, partOf}
+use Rattle.rows.specs.declared.LineRow.{LineRow as LineStruct}
+use Rattle.rows.specs.declared.Boundaries.{Boundaries}
+use Rattle.rows.specs.Columns.{flagAt, functionFields, functionInColumns, lineFields, lineInColumns, boundariesOf, partOf}
+use Rattle.rows.specs.Clamped.{cutAt}
 
 module _ (f64 f32 : List ℕ) (i : ℕ) where
   pub function-in : i < length f64 / 2 → i < length f32 / 8 → functionFields f64 f32 i ≡ functionInColumns f64 f32 i
@@ -44,22 +48,44 @@ module _ (t : List ℕ) (start len : ℕ) where
   unfolding partOf
   part-out h = rw (lt-leb _ _ h)
 
+-- of a line at a, of that size where it has one; m is the size or 1
 module _ (a : ℕ) (h : Bool) (s : ℕ) where
-  boundaries-are : {from to : ℕ} → from ≡ min a MAX → to ≡ min (min a MAX + cond h s 1) MAX → record { start = from; end = to } ≡ boundariesOf a h s
+  boundaries-are : {from to : ℕ} {cut : Bool} → from ≡ min a MAX → to ≡ min (min a MAX + cond h s 1) MAX → cut ≡ ltb MAX a || ltb MAX (min a MAX + cond h s 1)
+      → record { start = from; end = to; cut = cut } ≡ boundariesOf a h s
   unfolding boundariesOf
-  boundaries-are e f = λ i. record { start = e i; end = f i }
+  boundaries-are e f g = λ i. record { start = e i; end = f i; cut = g i }
 
-  pub boundaries-clamped : MAX ≤ a → record { start = MAX; end = MAX } ≡ boundariesOf a h s
-  boundaries-clamped l = boundaries-are (omega arith) (omega arith)
+  pub boundaries-clamped : MAX < a → record { start = MAX; end = MAX; cut = true } ≡ boundariesOf a h s
+  boundaries-clamped l = boundaries-are (omega arith) (omega arith) (rw (lt-ltb MAX a l))
 
-  pub boundaries-saturated : a < MAX → h ≡ true → MAX - a < s → record { start = a; end = MAX } ≡ boundariesOf a h s
-  boundaries-saturated l e g = boundaries-are (omega arith) (rw e (omega arith))
+  pub boundaries-saturated : a ≤ MAX → {m : ℕ} → m ≡ cond h s 1 → MAX - a < m → record { start = a; end = MAX; cut = true } ≡ boundariesOf a h s
+  boundaries-saturated l e g =
+      let far : MAX < min a MAX + cond h s 1 = omega arith in
+      boundaries-are (omega arith) (omega arith) (rw (le-ltb MAX a l, lt-ltb MAX (min a MAX + cond h s 1) far))
 
-  pub boundaries-sized : a < MAX → h ≡ true → s ≤ MAX - a → record { start = a; end = a + s } ≡ boundariesOf a h s
-  boundaries-sized l e g = boundaries-are (omega arith) (rw e (omega arith))
+  pub boundaries-within : a ≤ MAX → {m : ℕ} → m ≡ cond h s 1 → m ≤ MAX - a → record { start = a; end = a + m; cut = false } ≡ boundariesOf a h s
+  boundaries-within l e g =
+      let near : min a MAX + cond h s 1 ≤ MAX = omega arith in
+      boundaries-are (omega arith) (omega arith) (rw (le-ltb MAX a l, le-ltb MAX (min a MAX + cond h s 1) near))
 
-  pub boundaries-single : a < MAX → h ≡ false → record { start = a; end = a + 1 } ≡ boundariesOf a h s
-  boundaries-single l e = boundaries-are (omega arith) (rw e (omega arith))
+-- ── Line rows that were cut back ──
+
+module _ (l64 l32 : List ℕ) (j : ℕ) where
+  pub cut-in : j < length l64 / 3 → j < length l32 / 14 → {b : Boundaries}
+      → b ≡ boundariesOf (getD l64 (j * 3) 0) (flagAt l32 (j * 14)) (getD l64 (j * 3 + 1) 0) → b .cut ≡ cutAt l64 l32 j
+  unfolding cutAt
+  cut-in g h e = ap (λ (b : Boundaries). b .cut) e ∙ ap (λ (l : LineStruct). boundariesOf (l .address) (l .«has_size») (l .size) .cut) (line-in l64 l32 j g h)
+
+  -- the row of zeros is not
+  none-cut : lineFields [] [] 0 ≡ lineInColumns l64 l32 j → false ≡ cutAt l64 l32 j
+  unfolding cutAt boundariesOf
+  none-cut e = ap (λ (l : LineStruct). boundariesOf (l .address) (l .«has_size») (l .size) .cut) e
+
+  pub cut-out64 : length l64 / 3 ≤ j → false ≡ cutAt l64 l32 j
+  cut-out64 h = none-cut (line-out64 l64 l32 j h)
+
+  pub cut-out32 : j < length l64 / 3 → length l32 / 14 ≤ j → false ≡ cutAt l64 l32 j
+  cut-out32 g h = none-cut (line-out32 l64 l32 j g h)
 
 -- ── Tests one after the other ──
 

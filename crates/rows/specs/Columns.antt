@@ -1,7 +1,7 @@
 -- The columns that a tree call is given, after document 01's "Forms that Rattle cannot carry": "a tree arrives as function rows in preorder, each with depth
 -- and its count of line rows. First over plain number slices"; "Texts are parts of one lent text". What a row's words are, and which rows of the model
 -- they stand for.
-use mathlib.Core.Bool.{Bool, cond, not, _&&_}
+use mathlib.Core.Bool.{Bool, cond, not, _&&_, _||_}
 use mathlib.Core.Option.{Option, none, some}
 use mathlib.Core.List.{List, [], _∷_}
 use Prim.Native.Nat.{ℕ, zero, suc, _+_, _-_, _*_, _/_, min}
@@ -77,9 +77,13 @@ functionStruct k i = functionInColumns (k .functions64) (k .functions32) i
 abbrev pub lineStruct : Columns → ℕ → LineStruct
 lineStruct k j = lineInColumns (k .lines64) (k .lines32) j
 
--- `line_boundaries`: "start clamps to MAX; absent size counts as 1; end saturates at MAX"
+-- `line_boundaries`: "start clamps to MAX; absent size counts as 1; end saturates at MAX"; and "whether either was cut back: the address was above MAX,
+-- or start plus size (1 where absent) was" (K5)
 unfoldable pub boundariesOf : ℕ → Bool → ℕ → Boundaries
-boundariesOf address has-size size = record { start = min address MAX; end = min (min address MAX + cond has-size size 1) MAX }
+boundariesOf address has-size size =
+    let start = min address MAX in
+    let end = start + cond has-size size 1 in
+    record { start = start; end = min end MAX; cut = ltb MAX address || ltb MAX end }
 
 -- ── The rows of the model ──
 

@@ -1,6 +1,8 @@
 // What a tree call is given: function rows and line rows as columns of numbers over one lent text.
 ghost use mathlib.Core.Path.{_≡_};
+ghost use mathlib.Core.Bool.{cond};
 ghost use Rattle.rows.specs.Columns.{functionInColumns, lineInColumns, partOf, boundariesOf};
+ghost use Rattle.rows.specs.Clamped.{cutAt, clampedColumns};
 
 // A part of the lent text.
 #[repr(C)]
@@ -40,10 +42,11 @@ pub struct LineRow {
     pub revision: OptionalPart,
 }
 
-// The addresses from `start` up to but not `end`.
+// The addresses from `start` up to but not `end`, and whether either was cut back to u32::MAX.
 pub struct Boundaries {
     pub start: u32,
     pub end: u32,
+    pub cut: bool,
 }
 
 // Function row i; zeros where there is none.
@@ -163,28 +166,72 @@ pub fn part<'a>(text: &'a [u8], p: TextPart) -> &'a [u8]
     &text[..0]
 }
 
+// A line with no size covers one address.
+fn size_or_one(has_size: bool, size: u64) -> u64
+    ensures { λ r. ⌜ r ≡ cond «has_size» size 1 ⌝ }
+{
+    if has_size {
+        return size;
+    }
+    1
+}
+
 // A line's addresses: the start clamps and the end saturates at u32::MAX; a line with no size covers one address.
 pub fn line_boundaries(address: u64, has_size: bool, size: u64) -> Boundaries
     ensures { λ r. ⌜ r ≡ boundariesOf address «has_size» size ⌝ }
 {
     let max = u32::MAX as u64;
-    if max <= address {
+    if max < address {
         let start = u32::MAX;
-        return Boundaries { start, end: start };
-    }
-    let start = address as u32;
-    if !has_size {
         return Boundaries {
             start,
-            end: start + 1,
+            end: start,
+            cut: true,
         };
     }
+    let start = address as u32;
+    let size = size_or_one(has_size, size);
     if max - address < size {
         return Boundaries {
             start,
             end: u32::MAX,
+            cut: true,
         };
     }
     let end = start + size as u32;
-    Boundaries { start, end }
+    Boundaries {
+        start,
+        end,
+        cut: false,
+    }
+}
+
+// Whether the addresses of line row j were cut back; of a row that is not there they were not.
+fn is_cut(lines64: &[u64], lines32: &[u32], j: usize) -> bool
+    ensures { λ r. ⌜ r ≡ cutAt (now (lines64 .entry)) (now (lines32 .entry)) j ⌝ }
+{
+    if j < lines64.len() / 3 {
+        if j < lines32.len() / 14 {
+            let w = j * 3;
+            let has_size = lines32[j * 14] != 0;
+            return line_boundaries(lines64[w], has_size, lines64[w + 1]).cut;
+        }
+    }
+    false
+}
+
+// How many line rows have addresses that were cut back: every row once, whatever becomes of it.
+pub fn clamped_lines(lines64: &[u64], lines32: &[u32]) -> u64
+    ensures { λ r. ⌜ r ≡ clampedColumns (now (lines64 .entry)) (now (lines32 .entry)) ⌝ }
+{
+    let n = lines64.len() / 3;
+    let mut count: u64 = 0;
+    let mut j = 0;
+    while j < n {
+        if is_cut(lines64, lines32, j) {
+            count += 1;
+        }
+        j += 1;
+    }
+    count
 }

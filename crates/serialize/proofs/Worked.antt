@@ -43,6 +43,7 @@ converter = record {
   «undecorate_symbols» = false;
   «open» = true;
   state = record { «string_bytes» = 25; strings = 0; files = 2; functions = 2; «call_locations» = 1; ranges = 5 };
+  «clamped_lines» = 0;
 }
 
 pub file : List ℕ

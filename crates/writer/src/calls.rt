@@ -8,6 +8,8 @@ use crate::tree::process_rows;
 use memory::Converter;
 use memory::is_usable;
 use memory::lent;
+use memory::with_clamped;
+use rows::clamped_lines;
 use slices::zero;
 use symbol_call::Answer;
 use symbol_call::finish;
@@ -83,8 +85,9 @@ pub fn process_symbolic_function(
         text,
     );
     zero(scratch);
+    let counted = with_clamped(converter, clamped_lines(lines64, lines32));
     finish(
-        converter,
+        counted,
         state,
         string_bytes,
         strings,

@@ -5,7 +5,7 @@ use std::time::Instant;
 use oracle::answers::{Columns, FUNCTION32, FUNCTION64, LINE32, LINE64};
 use oracle::claims::ranges_in_domain;
 use oracle::original::State;
-use oracle::{Begin, Call, Kept, MAX_DEPTH, Row, Session, Sym, arch, begin_script, call_script, language};
+use oracle::{Begin, Call, Kept, Line, MAX_DEPTH, Row, Session, Sym, arch, begin_script, call_script, language};
 use symcache::ffi::{self, c, CACHE_WORDS, FUNCTIONS32_WORDS, FUNCTIONS64_WORDS, LINES32_WORDS, LINES64_WORDS, RECORD_WORDS};
 
 use crate::memory::{Lent, Memory, TABLES};
@@ -77,8 +77,10 @@ pub struct Case {
     pub capacity: [Room; 6],
     /// Words of a lent table that make no row.
     pub spare: [usize; 5],
-    /// Words of the record after the 18th.
+    /// Words of the record after the 20th.
     pub record: usize,
+    /// What the record is made to have counted right after a beginning: chance would not reach 2^64 - 1.
+    pub counted: u64,
     /// A call lies outside the domain for equality: numbers alone are compared.
     pub numbers_only: bool,
 }
@@ -176,6 +178,14 @@ fn scratch_words(c: &Columns) -> usize {
     4 * (c.functions32.len() / FUNCTION32 + c.lines32.len() / LINE32)
 }
 
+/// The lines of the rows that document 02's K5 counts.
+fn clamped_lines(rows: &[Row]) -> u64 {
+    let max = u128::from(u32::MAX);
+    let end = |line: &Line| u128::from(line.address) + u128::from(line.size.unwrap_or(1));
+    let lines = rows.iter().flat_map(|row| &row.lines);
+    lines.filter(|line| u128::from(line.address) > max || end(line) > max).count() as u64
+}
+
 /// Whether the original's `Language` has the rows' numbers, and its sort of inlinee ranges a single outcome.
 pub fn rows_in_domain(rows: &[Row]) -> bool {
     rows.iter().all(|r| language(r.language).is_some()) && ranges_in_domain(rows)
@@ -188,6 +198,10 @@ pub struct Outcome {
     pub file: Vec<u8>,
     /// Answers by number.
     pub numbers: [u64; 26],
+    /// Clamped lines of accepted trees.
+    pub clamped: u64,
+    /// Whether the library's count of them stayed at 2^64 - 1.
+    pub saturated: bool,
 }
 
 impl Case {
@@ -200,7 +214,7 @@ impl Case {
                 Call::Write => Op::Write,
             })
         }));
-        Case { items, capacity: [Room::More(0); 6], spare: [0; 5], record: 0, numbers_only: false }
+        Case { items, capacity: [Room::More(0); 6], spare: [0; 5], record: 0, counted: 0, numbers_only: false }
     }
 
     /// Whether every call that the original is given lies in the domain as far as it must.
@@ -282,6 +296,7 @@ impl Case {
         let mut begun = Begin::default();
         let mut open = false;
         let mut state = NOTHING;
+        let mut counted: u64 = 0;
         for (i, (item, e)) in self.items.iter().zip(&expected).enumerate() {
             let fits = uses(&e.state).iter().zip(&capacity).all(|(used, room)| used <= room);
             let number = match &item.op {
@@ -295,21 +310,40 @@ impl Case {
                     begun = item.op.begin().unwrap();
                     open = true;
                     state = NOTHING;
-                    record_words(&begun, &state, true)
+                    counted = 0;
+                    record_words(&begun, &state, counted, true)
                 }
                 17 => {
                     open = false;
                     state = NOTHING;
-                    record_words(&begun, &state, false)
+                    counted = 0;
+                    record_words(&begun, &state, counted, false)
                 }
                 0 => {
                     state = e.state;
-                    record_words(&begun, &state, true)
+                    if let Op::Tree(c) = &item.op {
+                        let clamped = clamped_lines(&c.rows());
+                        outcome.clamped += clamped;
+                        counted = counted.checked_add(clamped).unwrap_or_else(|| {
+                            outcome.saturated = true;
+                            u64::MAX
+                        });
+                    }
+                    record_words(&begun, &state, counted, true)
                 }
                 _ => [0; RECORD_WORDS],
             };
             self.call(memory, item, &capacity, &uses(&state), number, &wanted, &e.file)
                 .map_err(|what| format!("call {}, {}: {what}", i + 1, item.kind()))?;
+            let handed_out = ffi::clamped_lines(memory.record.get());
+            if handed_out != counted {
+                return Err(format!("call {}, {}: {counted} clamped lines, ours {handed_out}", i + 1, item.kind()));
+            }
+            if number == 0 && matches!(item.op, Op::Begin { .. }) {
+                counted = self.counted;
+                let words = &mut memory.record.get_mut()[c::SYMCACHE_RECORD_CLAMPED_LINES..];
+                (words[0], words[1]) = (counted as u32, (counted >> 32) as u32);
+            }
             outcome.numbers[number as usize] += 1;
             if number == 0 && item.op == Op::Write {
                 outcome.file.clone_from(&e.file);
@@ -416,12 +450,19 @@ impl Case {
             if let Op::Tree(c) = &item.op {
                 memory.scratch.set(scratch_words(c), 0x7C7C_7C7C, 0x5B5B_5B5B);
                 number = c.refusal().unwrap_or(0);
+                if number == 0 {
+                    outcome.clamped += clamped_lines(&c.rows());
+                }
             }
             memory.out.set(times << 18, 0xE9, 0x5B);
             memory.len.set(1, 0, 77);
             let answer = item.op.give(memory.lend(RECORD_WORDS, None));
             if answer != number {
                 return Err(format!("call {}, {}: number {number} expected, ours {answer}", i + 1, item.kind()));
+            }
+            let handed_out = ffi::clamped_lines(memory.record.get());
+            if handed_out != outcome.clamped {
+                return Err(format!("call {}, {}: {} clamped lines, ours {handed_out}", i + 1, item.kind(), outcome.clamped));
             }
             if matches!(item.op, Op::Tree(_)) && number == 0 && !memory.scratch.is_zero() {
                 return Err("scratch that should be zero".into());
@@ -440,7 +481,7 @@ impl Case {
     }
 }
 
-fn record_words(begun: &Begin, state: &State, open: bool) -> [u32; RECORD_WORDS] {
+fn record_words(begun: &Begin, state: &State, counted: u64, open: bool) -> [u32; RECORD_WORDS] {
     let mut out = [0; RECORD_WORDS];
     for (word, four) in out.iter_mut().zip(begun.debug_id.chunks(4)) {
         *word = u32::from_le_bytes(four.try_into().unwrap());
@@ -451,6 +492,8 @@ fn record_words(begun: &Begin, state: &State, open: bool) -> [u32; RECORD_WORDS]
     for (word, used) in out[11..17].iter_mut().zip(uses(state)) {
         *word = used as u32;
     }
+    out[c::SYMCACHE_RECORD_CLAMPED_LINES] = counted as u32;
+    out[c::SYMCACHE_RECORD_CLAMPED_LINES + 1] = (counted >> 32) as u32;
     out[c::SYMCACHE_RECORD_OPEN] = u32::from(open);
     out
 }
@@ -594,8 +637,8 @@ impl Case {
                 return Some(c);
             }
         }
-        if self.spare != [0; 5] || self.record != 0 {
-            if let Some(c) = tried(Case { spare: [0; 5], record: 0, ..self.clone() }) {
+        if self.spare != [0; 5] || self.record != 0 || self.counted != 0 {
+            if let Some(c) = tried(Case { spare: [0; 5], record: 0, counted: 0, ..self.clone() }) {
                 return Some(c);
             }
         }

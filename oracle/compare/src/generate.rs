@@ -198,7 +198,9 @@ pub fn case(r: &mut Random) -> Case {
         }
     }
     let spare = std::array::from_fn(|_| if r.one_in(3) { r.below(8) as usize } else { 0 });
-    Case { items, capacity, spare, record: r.below(8) as usize / 6, numbers_only: false }
+    let chance = r.below(8) as usize;
+    let counted = [u64::MAX - 2, u64::from(u32::MAX) - 1, 0, 0, 0, 0, 0, 0][chance];
+    Case { items, capacity, spare, record: chance / 6, counted, numbers_only: false }
 }
 
 fn begun(r: &mut Random, begin: &Begin) -> Op {

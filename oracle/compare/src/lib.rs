@@ -61,6 +61,31 @@ impl FullWalks {
     }
 }
 
+/// Clamped lines of accepted trees, counted alike, and the lists whose count stayed at 2^64 - 1.
+#[derive(Clone, Copy, Default)]
+pub struct ClampedLines {
+    lines: u64,
+    saturated: u64,
+}
+
+impl ClampedLines {
+    /// So many lines of a list; whether its count stayed there.
+    pub fn add(&mut self, lines: u64, saturated: bool) {
+        self.lines += lines;
+        self.saturated += u64::from(saturated);
+    }
+
+    /// Prints them; whether a run of so many random lists has both, as it must from 1,000 lists on.
+    pub fn shown(&self, lists: u64) -> bool {
+        println!("clamped lines, counted alike: {}; lists whose count stayed at 2^64 - 1: {}", self.lines, self.saturated);
+        let enough = self.lines > 0 && self.saturated > 0 || lists < 1000;
+        if !enough {
+            println!("no clamped line, or no count at 2^64 - 1: a run of 1,000 lists or more must have both");
+        }
+        enough
+    }
+}
+
 /// The bytes of a file twice: on a multiple of 8 for the original, and anywhere for the library.
 #[derive(Default)]
 pub struct TwoFiles {

@@ -11,7 +11,7 @@ use compare::case::{Case, Item, Op, Room, TRAITS};
 use compare::generate;
 use compare::memory::Memory;
 use compare::reader::{Compared, addresses};
-use compare::{EmptyNames, FullWalks, TwoFiles};
+use compare::{ClampedLines, EmptyNames, FullWalks, TwoFiles};
 use oracle::answers::Columns;
 use oracle::claims::take_apart;
 use oracle::lists::{chain, small};
@@ -45,6 +45,7 @@ struct Run {
     /// Of files that lists wrote.
     empty_names: EmptyNames,
     full_walks: FullWalks,
+    clamped_lines: ClampedLines,
 }
 
 impl Run {
@@ -58,6 +59,7 @@ impl Run {
                 for (sum, n) in self.numbers.iter_mut().zip(outcome.numbers) {
                     *sum += n;
                 }
+                self.clamped_lines.add(outcome.clamped, outcome.saturated);
                 outcome.file
             }
             Err(what) => {
@@ -173,7 +175,9 @@ fn run(lists: u64, seed: u64) -> bool {
     println!("calls by number: {}", shown(&run.numbers));
     println!("files by number: {}", shown(&run.read));
     println!("{} lookups, {} frames, {:.0} s", run.lookups, run.frames, begun.elapsed().as_secs_f64());
-    let enough = run.empty_names.shown(run.lists) & run.full_walks.shown(run.lists, run.numbers[25]);
+    let enough = run.empty_names.shown(run.lists)
+        & run.full_walks.shown(run.lists, run.numbers[25])
+        & run.clamped_lines.shown(run.lists);
     println!("{} lists, {} files, {} differences", run.lists, run.files, run.differences);
     run.differences == 0 && enough
 }

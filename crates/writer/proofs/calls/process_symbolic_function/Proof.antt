@@ -25,11 +25,14 @@ near-finish c = c .before .before .before .before .before .before .before .befor
 abbrev at-finish : tie.After-slice-known21 → tie.After-finish
 at-finish c = (near-finish c) .before .before .before .before
 
-abbrev near-zero : tie.After-finish → tie.After-scratch2
-near-zero c = c .before .before .before .before .before .before .before .before
+abbrev at-with-clamped : tie.After-finish → tie.After-with-clamped
+at-with-clamped c = c .before .before .before .before .before .before .before
+
+abbrev at-clamped-lines : tie.After-finish → tie.After-clamped-lines
+at-clamped-lines c = (at-with-clamped c) .before
 
 abbrev at-zero : tie.After-finish → tie.After-zero
-at-zero c = (near-zero c) .before
+at-zero c = (at-clamped-lines c) .before .before .before
 
 abbrev near-process-rows : tie.After-zero → tie.After-slice-known11
 near-process-rows c = c .before .before .before .before .before .before .before .before
@@ -94,6 +97,8 @@ returns-3 c =
     ((at-lent (at-is-usable (at-refusal (at-process-rows (at-zero (at-finish c)))))) .lent .ensures) ((at-is-usable (at-refusal (at-process-rows (at-zero (at-finish c))))) .is-usable .ensures) (not-false _ (((at-refusal (at-process-rows (at-zero (at-finish c)))) .before) .if1 .left)) ((at-refusal (at-process-rows (at-zero (at-finish c)))) .refusal .ensures) (((at-process-rows (at-zero (at-finish c))) .before .before .before .before .before .before .before .before) .if2 .left)
     {w = words (p .result) (p .last .1 .1 .0) (p .last .1 .1 .1 .0) (p .last .1 .1 .1 .1 .0) (p .last .1 .1 .1 .1 .1 .0) (p .last .1 .1 .1 .1 .1 .1 .0) (p .last .1 .1 .1 .1 .1 .1 .1 .0)} (p .ensures (a .converter .«undecorate_symbols»))
     (p .last .1 .1 .1 .1 .1 .1 .1 .1 .0) (p .kept .1 .1 .1 .1 .1 .1 .1 .1 .0) {s₂ = z .last .0} (z .ensures)
+    {lines = (at-clamped-lines (at-finish c)) .clamped-lines .result} ((at-clamped-lines (at-finish c)) .clamped-lines .ensures)
+    {c₁ = (at-with-clamped (at-finish c)) .with-clamped .result} ((at-with-clamped (at-finish c)) .with-clamped .ensures)
     {n = f .result .code} {c₂ = f .result .converter} {m₂ = memory (f .last .1 .1 .0) (f .last .1 .1 .1 .0) (f .last .1 .1 .1 .1 .0) (f .last .1 .1 .1 .1 .1 .0) (f .last .1 .1 .1 .1 .1 .1 .0) (f .last .1 .1 .1 .1 .1 .1 .1 .0)} (f .ensures (a .scratch .now))
 
 pub process-symbolic-function-spec : {M : Type 1} → statement M
@@ -117,6 +122,8 @@ process-symbolic-function-spec =
     (λ c. search needs)
     (λ c. search needs)
     returns-2
+    (λ c κs. search needs)
+    (λ c κs. search needs)
     (λ c κs. search needs)
     (λ c κs. search needs)
     (λ c κs. search needs)
