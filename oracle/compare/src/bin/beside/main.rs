@@ -1,4 +1,5 @@
-//! The original and the proved library side by side: same input, same driver, one process. `beside [TREES]`, `beside deep`.
+//! The original and the proved library side by side: same input, same driver, one process. `beside [TREES]`, `beside deep`; `beside once KIND` converts
+//! by the library alone, for `tools/instructions`.
 //!
 //! Conversion and writing are timed at ten times TREES (trees of 16 line rows), as one file and as ten files of TREES, in address order and
 //! shuffled; lookups on the large file. The tenths are the trees of the whole, so that both read the same input: what differs is how much the
@@ -129,13 +130,21 @@ fn convert(what: &str, rows: &[Vec<Row>]) -> Made {
     Made { ratio: whole.over(ratio).1, growth, file: whole.ours }
 }
 
-/// Trees of 65,536 function rows at depths up to 41, four in a file; ours over theirs, converting and writing together.
+/// Trees of 65,536 function rows at depths up to 41, four for a file.
+fn deep_trees(kind: Deep) -> Vec<Vec<Row>> {
+    (0..4).map(|i| deep_tree(i, kind)).collect()
+}
+
+fn deep_capacities(trees: &[Vec<Row>]) -> Capacities {
+    let n = trees.iter().map(Vec::len).sum();
+    Capacities { text: 80 * n, strings: n, files: 2_000, functions: n, call_locations: n, ranges: 4 * n }
+}
+
+/// Ours over theirs on such trees, converting and writing together.
 fn deep(what: &str, kind: Deep) -> f64 {
-    let rows: Vec<Vec<Row>> = (0..4).map(|i| deep_tree(i, kind)).collect();
+    let rows = deep_trees(kind);
     let packed: Vec<Packed> = rows.iter().map(|t| Packed::new(t)).collect();
-    let n = rows.iter().map(Vec::len).sum();
-    let room = Capacities { text: 80 * n, strings: n, files: 2_000, functions: n, call_locations: n, ranges: 4 * n };
-    let mut whole = Input::new(rows.len(), &rows, &packed, room);
+    let mut whole = Input::new(rows.len(), &rows, &packed, deep_capacities(&rows));
     for _ in 0..RUNS {
         whole.run();
     }
@@ -146,6 +155,33 @@ fn deep(what: &str, kind: Deep) -> f64 {
 /// The worse of the two kinds.
 fn deep_ratio() -> f64 {
     deep("depth 41, chains side by side", Deep::Chains).max(deep("depth 41, a chain of 42 with wide subtrees", Deep::Wide))
+}
+
+/// Trees of one kind, converted once by the library.
+fn once(kind: &str) {
+    let shallow = |kind| {
+        let mut r = Random::new(3);
+        let rows: Vec<Vec<Row>> = (0..4_000).map(|i| tree(&mut r, i, kind)).collect();
+        (capacities(rows.len()), rows)
+    };
+    let deep = |kind| {
+        let rows = deep_trees(kind);
+        (deep_capacities(&rows), rows)
+    };
+    let (room, rows) = match kind {
+        "plain" => shallow(Kind::Plain),
+        "alike" => shallow(Kind::Alike),
+        "spread" => shallow(Kind::Spread),
+        "chains" => deep(Deep::Chains),
+        "wide" => deep(Deep::Wide),
+        _ => panic!("plain, alike, spread, chains or wide"),
+    };
+    let packed: Vec<Packed> = rows.iter().map(|t| Packed::new(t)).collect();
+    let mut library = Library::new(room);
+    library.begin();
+    for tree in &packed {
+        assert_eq!(library.tree(tree), 0);
+    }
 }
 
 /// Ours over theirs (the median of the runs) on one list of addresses: the first location, whole walks, whole walks with all texts; and of the library's search
@@ -207,9 +243,10 @@ fn bytes_of(file: symbolic_symcache::File) -> usize {
 }
 
 fn main() {
-    if std::env::args().nth(1).as_deref() == Some("deep") {
-        println!("deep-ratio {:.2}", deep_ratio());
-        return;
+    match std::env::args().nth(1).as_deref() {
+        Some("deep") => return println!("deep-ratio {:.2}", deep_ratio()),
+        Some("once") => return once(&std::env::args().nth(2).unwrap_or_default()),
+        _ => (),
     }
     let trees: usize = std::env::args().nth(1).map_or(10_000, |a| a.parse().expect("a number"));
     assert!(trees > 0 && trees * 190 <= 16_777_216, "ten times TREES would need more ranges than a table may have (16,777,216)");
