@@ -61,7 +61,8 @@ enum function {
  * Each function: the slices that it may write, those that it only reads, and those that it has no
  * reason to look at, at their end or at their front. Writing takes the texts from their bytes and
  * needs no index of them, nor, of the other tables, the words that index them, which are their last.
- * The count of clamped lines needs only the last three words of the record. The search and the walk need only the words 4 to 7 of the cache.
+ * The count of clamped lines needs only the last three words of the record, the search and the walk
+ * only the words 4 to 7 of the cache.
  */
 static const struct {
     const char *name;

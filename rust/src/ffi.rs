@@ -523,14 +523,20 @@ mod tests {
         assert_eq!(record, wanted);
     }
 
+    /// A converter that has just begun, where record and tables held `word`s before.
+    fn begun(word: u8) -> ([u32; RECORD_WORDS], Memory) {
+        let mut memory = Memory {
+            texts: vec![word; 100],
+            words: std::array::from_fn(|_| vec![word.into(); 80]),
+        };
+        let mut record = [word.into(); RECORD_WORDS];
+        assert_eq!(begin(&mut record, &[], 0, 0, 0, memory.lent()), 0);
+        (record, memory)
+    }
+
     #[test]
     fn the_count_of_clamped_lines() {
-        let mut memory = Memory {
-            texts: vec![7; 100],
-            words: std::array::from_fn(|_| vec![7; 80]),
-        };
-        let mut record = [7; RECORD_WORDS];
-        begin(&mut record, &[], 0, 0, 0, memory.lent());
+        let (mut record, mut memory) = begun(7);
         assert_eq!(clamped_lines(&record), 0);
 
         // A skipped root with lines at (MAX, 0), (MAX, absent), (MAX - 5, 5), (MAX - 5, 6), (MAX + 1, 0).
@@ -591,12 +597,7 @@ mod tests {
 
     #[test]
     fn rows_and_scratch_of_exactly_their_words() {
-        let mut memory = Memory {
-            texts: vec![0; 100],
-            words: std::array::from_fn(|_| vec![0; 80]),
-        };
-        let mut record = [0; RECORD_WORDS];
-        begin(&mut record, &[], 0, 0, 0, memory.lent());
+        let (mut record, mut memory) = begun(0);
         let functions64 = [16; FUNCTIONS64_WORDS];
         let mut functions32 = [0; FUNCTIONS32_WORDS];
         functions32[c::SYMCACHE_FUNCTION_LINES] = 1;
