@@ -1,5 +1,7 @@
 // A new converter over words: its record is twenty words between calls, and the six tables are lent at each call. The exported function passes on what
 // this answers.
+#![tactic(auto)]
+
 ghost use Rattle.std.specs.Prelude.{◌≡◌, []};
 ghost use Rattle.slices.specs.Bytes.{bytes_at};
 ghost use Rattle.memory.specs.Memory.{memory};

@@ -1,5 +1,7 @@
 // The lookup over words: an address found by the words of a cache, a walk between whose steps there are the words of a cursor. The exported functions of
 // these names pass on what these answer.
+#![tactic(auto)]
+
 ghost use Rattle.std.specs.Prelude.{◌≡◌, get_or};
 ghost use Rattle.lookup.specs.Answers.{lookup_answer, step_answer};
 ghost use Rattle.c_reading.specs.Stored.{stored};

@@ -1,4 +1,6 @@
 // The reader over words: a file read to the words of a cache. The exported functions of these names pass on what these answer.
+#![tactic(auto)]
+
 ghost use Rattle.std.specs.Prelude.{◌≡◌, [], ◌∷◌};
 ghost use Rattle.std.proofs.lemmas.List.Edits.{sets};
 ghost use Rattle.symcache.specs.Answers.{refusal_of, parse_answer};

@@ -1,4 +1,6 @@
 // Rows of a file as words. The definitions of the C calls of the reader stand in specs/: Reading.
+#![tactic(auto)]
+
 ghost use Rattle.std.specs.Prelude.{◌≡◌};
 ghost use Rattle.std.proofs.lemmas.List.Edits.{sets};
 ghost use Rattle.raw.specs.Rows.{file_words_lem, function_words_lem};

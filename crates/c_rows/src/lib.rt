@@ -1,4 +1,6 @@
 // Rows and the two iterators of the reader over words. The exported functions of these names pass on what these answer.
+#![tactic(auto)]
+
 ghost use Rattle.std.specs.Prelude.{◌≡◌};
 ghost use Rattle.lookup.specs.Answers.{file_answer, function_answer, functions_answer, files_answer};
 ghost use Rattle.c_reading.specs.Reading.{filled, moved, answered, steps_to, function_answer_words, file_answer_words};

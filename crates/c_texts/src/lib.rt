@@ -1,4 +1,6 @@
 // Texts and names of the reader over words. The exported functions of these names pass on what these answer.
+#![tactic(auto)]
+
 ghost use Rattle.std.specs.Prelude.{◌≡◌};
 ghost use Rattle.file_texts.specs.Strings.{string_answer};
 ghost use Rattle.c_reading.specs.Reading.{filled, answered, part_words, string_call, got_name, name_call};

@@ -1,5 +1,7 @@
 // Tree calls over words: the converter's record is twenty words between calls, and the six tables are lent at each call. The exported functions pass on
 // what these answer.
+#![tactic(auto)]
+
 ghost use Rattle.std.specs.Prelude.{◌≡◌};
 ghost use Rattle.rows.specs.Columns.{columns};
 ghost use Rattle.memory.specs.Memory.{memory};

@@ -1,5 +1,7 @@
 // Reads every cut of the small worked file of document 01, from 0 bytes on to all of it. A line is printed for each: how many bytes, the number of `parse`,
 // for 10 the bytes of text expected and found, for 0 the counts of files, functions, source locations, ranges and bytes of text.
+#![tactic(auto)]
+
 use libc::STDOUT_FILENO;
 use symcache::{ErrorKind, Parsed, SymCache};
 

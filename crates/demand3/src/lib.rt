@@ -1,1 +1,2 @@
 // No functions: demand 3 over words and bytes.
+#![tactic(auto)]

@@ -1,4 +1,6 @@
 // Texts of a file: `get_string` of v9/mod.rs, and the names of functions.
+#![tactic(auto)]
+
 ghost use Rattle.std.specs.Prelude.{◌≡◌};
 ghost use Rattle.text.specs.Texts.{read_text};
 ghost use Rattle.file_texts.specs.Strings.{string_answer, got_string, string_of, text_or, name_of};
@@ -7,7 +9,7 @@ use symcache::{ErrorKind, Parsed};
 use text::strings::Text;
 
 // Where a text lies in the file.
-#[derive(Drop)]
+#[derive(Clone, Copy)]
 pub enum GotString {
     At { start: usize, len: usize },
     Absent,

@@ -1,11 +1,13 @@
 // Document 01, "Lister": the lines of an input, in pieces of any length, and the address that each line has.
+#![tactic(auto)]
+
 ghost use Rattle.std.specs.Prelude.{◌≡◌, ◌+◌, drop, if◌then◌else◌, ◌==◌, nat_lt};
 ghost use Rattle.input_lines.specs.Line.{digit_of, line_start, feed_of, finish_of};
 ghost use Rattle.input_lines.specs.Input.{input_start, told, after_line, whole_line, line_at_lem, fed, read_on, at_end};
 
 // What is kept of the line that is being read: its bytes, counted up to 17, the number that its digits write,
 // and whether a byte was no digit.
-#[derive(Drop)]
+#[derive(Clone, Copy)]
 pub struct LineState {
     pub digits: u32,
     pub value: u64,
@@ -13,7 +15,7 @@ pub struct LineState {
 }
 
 // What a whole line says.
-#[derive(Drop)]
+#[derive(Clone, Copy)]
 pub enum LineRead {
     Address(u64),
     Bad,
@@ -99,14 +101,14 @@ impl LineState {
 }
 
 // An input that is being read: the line at hand, and its number from 1 modulo 2^32.
-#[derive(Drop)]
+#[derive(Clone, Copy)]
 pub struct Input {
     pub line: LineState,
     pub number: u32,
 }
 
 // What reading on gives: the address of a whole line, the number of a bad one, or that the line goes on.
-#[derive(Drop)]
+#[derive(Clone, Copy)]
 pub enum Got {
     Address(u64),
     Bad(u32),
@@ -114,7 +116,7 @@ pub enum Got {
 }
 
 // The input after reading on in a piece, the place in the piece from which on to read, and what was read.
-#[derive(Drop)]
+#[derive(Clone, Copy)]
 pub struct ReadOn {
     pub input: Input,
     pub next: usize,
@@ -122,7 +124,7 @@ pub struct ReadOn {
 }
 
 // The input after its end, and its last line.
-#[derive(Drop)]
+#[derive(Clone, Copy)]
 pub struct AtEnd {
     pub input: Input,
     pub got: Got,

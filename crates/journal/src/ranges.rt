@@ -18,7 +18,7 @@ const ADDED: u32 = 1;
 
 const CHANGED: u32 = 2;
 
-#[derive(Drop)]
+#[derive(Clone, Copy)]
 pub struct Noted {
     pub change: Change,
     // How many entries the journal has now.

@@ -1,5 +1,7 @@
 // A tree call whose line rows are one lent list: their texts, the words that they are unpacked to, and the number that the call is refused with before
 // a word is unpacked. What the whole call leaves is said in crate line_calls.
+#![tactic(auto)]
+
 ghost use Rattle.std.specs.Prelude.{◌≡◌};
 ghost use Rattle.line_rows.specs.Lines.{words64, words32, lines_texts?, put_row, unpacked_to};
 ghost use Rattle.line_rows.specs.Numbers.{number_of};

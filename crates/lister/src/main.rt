@@ -1,12 +1,14 @@
 // Document 01, "Lister": reads cache.sym, and lists what standard input asks for. What is printed is crate listing's; this program opens, reads, hands
 // pieces over and writes.
+#![tactic(auto)]
+
 ghost use Rattle.std.specs.Prelude.{◌≤◌, length};
 
 use libc::{STDIN_FILENO, STDOUT_FILENO};
 use listing::{Begun, Listing};
 
 // A listing, whether there may be more input, and whether output was lost.
-#[derive(Drop)]
+#[derive(Clone, Copy)]
 struct Turn {
     listing: Listing,
     more: bool,
@@ -14,7 +16,7 @@ struct Turn {
 }
 
 // A listing, the place in a piece from which on to list, and whether output was lost.
-#[derive(Drop)]
+#[derive(Clone, Copy)]
 struct Place {
     listing: Listing,
     from: usize,

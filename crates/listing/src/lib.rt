@@ -1,4 +1,6 @@
 // Document 01, "Lister": the listing of a file, from pieces of the input to pieces of the output.
+#![tactic(auto)]
+
 ghost use Rattle.std.specs.Prelude.{◌≡◌, ◌+◌, leb};
 ghost use Rattle.printed_lines.specs.Printed.{wrote_line, put_line};
 ghost use Rattle.listing.specs.declared.Waiting.TheVariants as waiting;
@@ -10,7 +12,7 @@ use lookup::{Frame, SourceLocations, Step};
 use symcache::{Parsed, SymCache};
 
 // What is waiting to be printed: nothing; a bad line, with its number; the frames of an address from here on, or that it has none.
-#[derive(Drop)]
+#[derive(Clone, Copy)]
 pub enum Waiting {
     Nothing,
     Bad(u32),
@@ -18,7 +20,7 @@ pub enum Waiting {
 }
 
 // A listing under way: where the file's tables lie, the input at hand, and what is waiting.
-#[derive(Drop)]
+#[derive(Clone, Copy)]
 pub struct Listing {
     pub cache: SymCache,
     pub input: Input,
@@ -26,14 +28,14 @@ pub struct Listing {
 }
 
 // What a beginning gives: a listing, or the number that the file is refused with.
-#[derive(Drop)]
+#[derive(Clone, Copy)]
 pub enum Begun {
     Open(Listing),
     Refused(u32),
 }
 
 // What a call gives: the listing after it, how many bytes of the input it used, and how many of the output it wrote.
-#[derive(Drop)]
+#[derive(Clone, Copy)]
 pub struct Listed {
     pub listing: Listing,
     pub used: usize,
@@ -41,7 +43,7 @@ pub struct Listed {
 }
 
 // What is still waiting, and the place in the output after what was printed.
-#[derive(Drop)]
+#[derive(Clone, Copy)]
 struct Printed {
     waiting: Waiting,
     at: usize,

@@ -1,5 +1,7 @@
 // Lists stored cases by crate listing, with input and output cut at every place, and compares what is printed with what the case expects. A line for each
 // case: how many runs, and how many of them printed something else. stdout.txt says how the cases were made.
+#![tactic(auto)]
+
 ghost use Rattle.std.specs.Prelude.{◌+◌, ◌≤◌, length};
 
 use input_lines::Input;
@@ -7,7 +9,7 @@ use libc::STDOUT_FILENO;
 use listing::{Begun, Listing};
 
 // A listing under way, how many of the expected bytes were printed, and whether all that was printed was expected.
-#[derive(Drop)]
+#[derive(Clone, Copy)]
 struct Run {
     listing: Listing,
     at: usize,
@@ -15,14 +17,14 @@ struct Run {
 }
 
 // The same after a call, and how many bytes of the piece it used.
-#[derive(Drop)]
+#[derive(Clone, Copy)]
 struct Called {
     run: Run,
     used: usize,
 }
 
 // How many runs were made, and how many of them printed something else.
-#[derive(Drop)]
+#[derive(Clone, Copy)]
 struct Tally {
     runs: u32,
     differ: u32,

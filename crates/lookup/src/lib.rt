@@ -1,4 +1,6 @@
 // Looking addresses up: v9/lookup.rs.
+#![tactic(auto)]
+
 ghost use Rattle.std.specs.Prelude.{◌≡◌, ◌+◌, ◌*◌, ◌-◌, ◌<◌, ◌^◌, cond, length};
 ghost use Rattle.raw.specs.Rows.{max32};
 ghost use Rattle.symcache.specs.Answers.{gives};
@@ -12,7 +14,7 @@ use raw::{File, Function, SourceLocation};
 use symcache::{ErrorKind, Parsed, SymCache};
 
 // A walk from a source location to the one into which it was inlined, and so on: where it began, where it is, and how many steps it made.
-#[derive(Drop)]
+#[derive(Clone, Copy)]
 pub struct SourceLocations {
     pub first: u32,
     pub current: u32,
@@ -20,21 +22,21 @@ pub struct SourceLocations {
 }
 
 // What looking an address up gives.
-#[derive(Drop)]
+#[derive(Clone, Copy)]
 pub enum LookedUp {
     Walk(SourceLocations),
     Refused(ErrorKind),
 }
 
 // The file of a frame: references to six texts, or none.
-#[derive(Drop)]
+#[derive(Clone, Copy)]
 pub enum FrameFile {
     None,
     File(File),
 }
 
 // A frame: what a source location says, with its function's entry and language.
-#[derive(Drop)]
+#[derive(Clone, Copy)]
 pub struct Frame {
     pub location_idx: u32,
     pub function_idx: u32,
@@ -45,21 +47,21 @@ pub struct Frame {
     pub file: FrameFile,
 }
 
-#[derive(Drop)]
+#[derive(Clone, Copy)]
 pub enum Step {
     Frame { frame: Frame, next: SourceLocations },
     End,
     Refused(ErrorKind),
 }
 
-#[derive(Drop)]
+#[derive(Clone, Copy)]
 pub enum GotFile {
     File(File),
     Nothing,
     Refused(ErrorKind),
 }
 
-#[derive(Drop)]
+#[derive(Clone, Copy)]
 pub enum GotFunction {
     Function(Function),
     Nothing,
@@ -67,12 +69,12 @@ pub enum GotFunction {
 }
 
 // The functions of a file that have an entry, in the order of the file.
-#[derive(Drop)]
+#[derive(Clone, Copy)]
 pub struct Functions {
     pub function_idx: u32,
 }
 
-#[derive(Drop)]
+#[derive(Clone, Copy)]
 pub enum FunctionStep {
     Function {
         index: u32,
@@ -84,12 +86,12 @@ pub enum FunctionStep {
 }
 
 // The files of a file, in its order.
-#[derive(Drop)]
+#[derive(Clone, Copy)]
 pub struct Files {
     pub file_idx: u32,
 }
 
-#[derive(Drop)]
+#[derive(Clone, Copy)]
 pub enum FileStep {
     File { index: u32, file: File, next: Files },
     End,

@@ -1,5 +1,7 @@
 // What the converter keeps between calls: its record, which goes in and comes back by value, and the lent tables.
 // Which tables there are stands here: `State`, `Lengths`, `lent`, `zero_tables`, and `Memory` of specs/.
+#![tactic(auto)]
+
 ghost use Rattle.std.specs.Prelude.{◌≡◌, ◌&&◌, ◌+◌, leb};
 ghost use Rattle.tables.specs.Table.{capacity_of};
 ghost use Rattle.strings.specs.Strings.{text_capacity_of};
@@ -20,7 +22,7 @@ ghost use Rattle.memory.specs.Record.{
 use slices::{zero, zero_bytes};
 
 // How much of each lent table is in use.
-#[derive(Drop)]
+#[derive(Clone, Copy)]
 pub struct State {
     pub string_bytes: u32,
     pub strings: u32,
@@ -32,7 +34,7 @@ pub struct State {
 
 // The converter's record: what it was begun with, whether it is open, how much of the lent tables is in use, and how many line rows of accepted trees
 // had addresses that were cut back.
-#[derive(Drop)]
+#[derive(Clone, Copy)]
 pub struct Converter {
     pub debug_id: [u8; 32],
     pub arch: u32,
@@ -44,7 +46,7 @@ pub struct Converter {
 }
 
 // The lengths of the lent tables: of the texts in bytes, of the others in words.
-#[derive(Drop)]
+#[derive(Clone, Copy)]
 pub struct Lengths {
     pub string_bytes: usize,
     pub strings: usize,

@@ -2,12 +2,14 @@
 //
 // The Rust works on a `str`. Every character that it tests for is ASCII, so on UTF-8 its tests are tests on bytes. Here they are
 // made on any byte sequence.
+#![tactic(auto)]
+
 ghost use Rattle.std.specs.Prelude.{◌≡◌, length};
 ghost use Rattle.names.specs.Names.{starts_with, special, contains, rfind, digit, number, parses, cut, prefixed, undecorated};
 ghost use Rattle.names.specs.Found.{found};
 
 // A place in a slice, or none.
-#[derive(Drop)]
+#[derive(Clone, Copy)]
 enum Found {
     At(usize),
     Nothing,

@@ -1,4 +1,6 @@
 // Prints what `undecorate_win_symbol` gives for each line of standard input.
+#![tactic(auto)]
+
 use libc::{STDIN_FILENO, STDOUT_FILENO};
 
 fn show(name: &[u8]) {

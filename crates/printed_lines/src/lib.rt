@@ -1,4 +1,6 @@
 // Document 01, "Lister": the lines that it prints.
+#![tactic(auto)]
+
 ghost use Rattle.std.specs.Prelude.{◌≡◌, ◌+◌, ◌<◌, ◌≤◌, length};
 ghost use Rattle.std.proofs.lemmas.List.Edits.{sets};
 ghost use Rattle.printed_lines.specs.Printed.{hex_digit, hex_field, spaced, frame_line_lem, no_frame_line, bad_line, refused_line, wrote_line, put_line};

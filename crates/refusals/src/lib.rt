@@ -1,4 +1,6 @@
 // The numbers 13 to 16 and 25 of a tree call, from its rows alone.
+#![tactic(auto)]
+
 ghost use Rattle.std.specs.Prelude.{◌≡◌, List, ℕ, ◌≤◌};
 ghost use Rattle.rows.specs.Columns.{columns, function_in_columns, line_in_columns};
 ghost use Rattle.refusals.specs.Refusals.{

@@ -7,7 +7,7 @@ use memory::Converter;
 use rows::{OptionalPart, TextPart};
 
 // The lent tables.
-#[derive(Drop)]
+#[derive(Clone, Copy)]
 pub(crate) struct Tables {
     pub string_bytes: [u8; 96],
     pub strings: [u32; 96],
@@ -18,7 +18,7 @@ pub(crate) struct Tables {
 }
 
 // What a call answered, the record and the tables after it, and whether all else that was lent is left as it should be.
-#[derive(Drop)]
+#[derive(Clone, Copy)]
 pub(crate) struct Done {
     pub code: u32,
     pub converter: Converter,
@@ -108,7 +108,7 @@ fn next_depth(words: &[u64; 384], row: usize) -> u64 {
 }
 
 // How many words were set, and whether each was there already.
-#[derive(Drop)]
+#[derive(Clone, Copy)]
 struct Set {
     n: usize,
     same: bool,

@@ -19,7 +19,7 @@ pub(crate) const WRITE: usize = 7;
 
 // `begun` is how much of each slice is lent to the calls before the one under test, `lent` how much to that one. `words` are what a call is given,
 // 64 for each slice from 8 on; the last of them is 1 for a case that is `nested`. `slice`, `mode` and `index` say what the next number of the line stands for.
-#[derive(Drop)]
+#[derive(Clone, Copy)]
 pub(crate) struct Case {
     pub call: usize,
     pub first: bool,

@@ -5,6 +5,8 @@
 // makes one call, with what the line changes. After 17 the printed line goes on with the numbers of a tree, a symbol and a write, and of a write after
 // a new beginning and the worked tree.
 // Not here: a table of more than 16,777,216 rows, a text of more than 268,435,456 bytes (too much for a program's memory).
+#![tactic(auto)]
+
 mod calls;
 mod case;
 mod left;

@@ -1,4 +1,6 @@
 // What the programs share that replay stored cases: reading a data file, numbers in its bytes, and the checksum of a case (oracle/FORMAT.md).
+#![tactic(auto)]
+
 ghost use Rattle.std.specs.Prelude.{◌≡◌, ◌+◌, ◌*◌, ◌%◌};
 ghost use Rattle.io.specs.Counts.{IsPrefixLen};
 ghost use Rattle.slices.specs.Bytes.{le_at};
@@ -20,7 +22,7 @@ pub fn read_file(path: &[u8], to: &mut [u8]) -> usize
 }
 
 // Whether there was a record, and how many bytes of it were read.
-#[derive(Drop)]
+#[derive(Clone, Copy)]
 pub struct Got {
     pub some: bool,
     pub len: usize,

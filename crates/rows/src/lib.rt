@@ -1,11 +1,13 @@
 // What a tree call is given: function rows and line rows as columns of numbers over one lent text.
+#![tactic(auto)]
+
 ghost use Rattle.std.specs.Prelude.{◌≡◌, cond};
 ghost use Rattle.rows.specs.Columns.{function_in_columns, line_in_columns, part_of, boundaries_of};
 ghost use Rattle.rows.specs.Clamped.{cut_at, clamped_columns_lem};
 
 // A part of the lent text.
 #[repr(C)]
-#[derive(Drop)]
+#[derive(Clone, Copy)]
 pub struct TextPart {
     pub start: u32,
     pub len: u32,
@@ -13,13 +15,13 @@ pub struct TextPart {
 
 // A text that may be absent.
 #[repr(C)]
-#[derive(Drop)]
+#[derive(Clone, Copy)]
 pub struct OptionalPart {
     pub present: bool,
     pub part: TextPart,
 }
 
-#[derive(Drop)]
+#[derive(Clone, Copy)]
 pub struct FunctionRow {
     pub depth: u32,
     pub address: u64,
@@ -32,7 +34,7 @@ pub struct FunctionRow {
 }
 
 #[repr(C)]
-#[derive(Drop)]
+#[derive(Clone, Copy)]
 pub struct LineRow {
     pub address: u64,
     pub has_size: bool,
@@ -46,7 +48,7 @@ pub struct LineRow {
 }
 
 // The addresses from `start` up to but not `end`, and whether either was cut back to u32::MAX.
-#[derive(Drop)]
+#[derive(Clone, Copy)]
 pub struct Boundaries {
     pub start: u32,
     pub end: u32,

@@ -1,5 +1,7 @@
 // The search for an address among the starts of a file's ranges, read in place: the binary search of v9/lookup.rs.
 // Where the tables are said to lie is not trusted.
+#![tactic(auto)]
+
 ghost use Rattle.std.specs.Prelude.{◌≡◌, ◌+◌, ◌*◌, ◌≤◌, ◌<◌, cond, leb, length};
 ghost use Rattle.search.specs.Search.{start_at, ascending, ordered, count_in_lem, half_in, quarters_in, search_in, usable, found_in, Count, Index, Halved};
 
@@ -106,7 +108,7 @@ fn half_of(s: &[u8], ranges: usize, base: usize, half: usize, addr: u32) -> usiz
 }
 
 // The starts that are left of a search: `size` of them from index `base` on.
-#[derive(Drop)]
+#[derive(Clone, Copy)]
 struct Left {
     base: usize,
     size: usize,

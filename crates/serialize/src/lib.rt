@@ -1,4 +1,6 @@
 // The written file: writer.rs, `serialize`, from the lent tables into a lent output.
+#![tactic(auto)]
+
 ghost use Rattle.std.specs.Prelude.{◌≡◌, ℕ, ◌+◌, ◌*◌, ◌≤◌, ◌<◌, List, ◌++◌, length, take};
 ghost use Rattle.std.proofs.lemmas.List.Edits.{sets};
 ghost use Rattle.slices.specs.Bytes.{table_bytes};
@@ -34,7 +36,7 @@ const RANGE_SIZE: usize = 4;
 const ENTRY_SIZE: usize = 8;
 
 // What writing answers: document 01's number, 0 for success, and the file's length.
-#[derive(Drop)]
+#[derive(Clone, Copy)]
 pub struct Written {
     pub code: u32,
     pub len: usize,
@@ -118,7 +120,7 @@ fn write_sections(
 }
 
 // Where the sections begin, and the file's length. The files follow the head.
-#[derive(Drop)]
+#[derive(Clone, Copy)]
 struct Layout {
     functions: usize,
     call_locations: usize,

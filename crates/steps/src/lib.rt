@@ -1,5 +1,7 @@
 // The steps of the converter (writer.rs, `SymCacheConverter`) on the lent tables. What is in use of each goes in and comes back by value.
 // A step's contract gives the tables that it does not touch any content: they stay as they are.
+#![tactic(auto)]
+
 ghost use Rattle.std.specs.Prelude.{◌≡◌, cond, List, ℕ};
 ghost use Rattle.names.specs.Names.{undecorated};
 ghost use Rattle.text.specs.Utf8.{utf8};
@@ -21,7 +23,7 @@ use tables::ranges::Found;
 pub mod symbols;
 
 // What a step answers, and the state after it.
-#[derive(Drop)]
+#[derive(Clone, Copy)]
 pub struct Indexed {
     pub index: u32,
     pub state: State,
@@ -258,7 +260,7 @@ pub fn comp_dir_part(text: &[u8], p: TextPart) -> TextPart
 }
 
 // The offsets of a line's texts, in the order of a file row.
-#[derive(Drop)]
+#[derive(Clone, Copy)]
 pub struct Six {
     pub row: Row,
     pub state: State,
@@ -303,7 +305,7 @@ pub fn insert_texts(
 }
 
 // A line's location, and the state after it.
-#[derive(Drop)]
+#[derive(Clone, Copy)]
 pub struct Located {
     pub location: SourceLocation,
     pub state: State,

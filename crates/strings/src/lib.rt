@@ -1,5 +1,7 @@
 // The string table: each text once, its length as LEB128 and then its bytes, one after the other in the string section.
 // A table indexes the texts, with a row for each.
+#![tactic(auto)]
+
 ghost use Rattle.std.specs.Prelude.{◌≡◌, ◌&&◌, ◌+◌, ◌<◌, ◌≤◌, leb, ltb, length, take, drop};
 ghost use Rattle.std.proofs.lemmas.List.Edits.{sets};
 ghost use Rattle.text.specs.Leb128.{encoded};
@@ -14,7 +16,7 @@ use text::leb128::{leb128_len, write_leb128};
 // A string section has room for so many bytes at most.
 const MAX_BYTES: u32 = 268435456;
 
-#[derive(Drop)]
+#[derive(Clone, Copy)]
 pub struct Stored {
     // Where the prefix of the text begins.
     pub offset: u32,

@@ -1,4 +1,6 @@
 // A symbol call, and how every call ends.
+#![tactic(auto)]
+
 ghost use Rattle.std.specs.Prelude.{◌≡◌, List, [], ℕ};
 ghost use Rattle.slices.specs.Slices.{zeros};
 ghost use Rattle.memory.specs.Memory.{memory};
@@ -9,7 +11,7 @@ use rows::OptionalPart;
 use steps::symbols::process_symbol;
 
 // What a call answers: document 01's number (0 for success), and the record.
-#[derive(Drop)]
+#[derive(Clone, Copy)]
 pub struct Answer {
     pub code: u32,
     pub converter: Converter,

@@ -1,4 +1,6 @@
 // A SymCache v9 file, read in place: v9/mod.rs. The bytes are lent anew at each call; between calls there are offsets and counts, by value.
+#![tactic(auto)]
+
 ghost use Rattle.std.specs.Prelude.{◌≡◌, ◌+◌, ◌-◌, ◌≤◌, ◌<◌, ◌^◌};
 ghost use Rattle.symcache.specs.Answers.{refusal_of, parse_answer};
 ghost use Rattle.symcache.specs.Reader.{aligned, layout_of, tested, Low, parsed, opened};
@@ -6,7 +8,7 @@ ghost use Rattle.symcache.specs.Reader.{aligned, layout_of, tested, Low, parsed,
 use raw::Header;
 
 // Why a file is refused.
-#[derive(Drop)]
+#[derive(Clone, Copy)]
 pub enum ErrorKind {
     // Under 8 bytes.
     TooShort,
@@ -57,7 +59,7 @@ impl ErrorKind {
 }
 
 // Where the tables of a file lie, and how many rows each has.
-#[derive(Drop)]
+#[derive(Clone, Copy)]
 pub struct SymCache {
     pub files: usize,
     pub num_files: u32,
@@ -72,7 +74,7 @@ pub struct SymCache {
 }
 
 // What reading a file gives.
-#[derive(Drop)]
+#[derive(Clone, Copy)]
 pub enum Parsed {
     Cache(SymCache),
     Refused(ErrorKind),

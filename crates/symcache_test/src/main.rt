@@ -1,4 +1,6 @@
 // Replays what the original answered on written, damaged and random files: oracle/FORMAT.md, "Reader". A line is printed for each case, its checksum.
+#![tactic(auto)]
+
 use file_texts::GotString;
 use libc::STDOUT_FILENO;
 use lookup::{

@@ -19,7 +19,7 @@ use crate::Row;
 use raw::{File, Function, SourceLocation};
 
 // A text of the string section in its index: where its prefix begins, where its bytes begin, how many there are, and its hash.
-#[derive(Drop)]
+#[derive(Clone, Copy)]
 pub struct IndexedText {
     pub offset: u32,
     pub start: u32,

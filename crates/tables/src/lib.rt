@@ -4,6 +4,8 @@
 // row stand the heads of the buckets, as many as rows. A head is the number + 1 of the newest row in its bucket, and a row's link that of the next older
 // one; 0 is none. A new row goes to the head of its chain and nothing else moves, so the newest rows can be taken back in reverse order.
 // The caller keeps the count of rows. Any content and any count is taken. A row that there is no room for makes the count capacity + 1, and there it stays.
+#![tactic(auto)]
+
 ghost use Rattle.std.specs.Prelude.{◌≡◌, ◌<◌, length};
 ghost use Rattle.std.proofs.lemmas.List.Edits.{sets};
 ghost use Rattle.tables.specs.Table.{max_rows, capacity_of, words_at, row_words, row_of, row_at, set_row, link_at, head_at, head_of, append_of, over_of, push_of};
@@ -31,7 +33,7 @@ pub const FIRST: u32 = 1;
 const WHOLE: u32 = 6;
 
 // The six words of a row.
-#[derive(Drop)]
+#[derive(Clone, Copy)]
 pub struct Row {
     pub a: u32,
     pub b: u32,
@@ -53,7 +55,7 @@ impl Row {
 }
 
 // The number of an item, and how many items there are now.
-#[derive(Drop)]
+#[derive(Clone, Copy)]
 pub struct Inserted {
     pub index: u32,
     pub count: u32,

@@ -8,21 +8,21 @@ use crate::kinds::{location_of_row, row_of_range, row_of_start};
 use raw::SourceLocation;
 
 // What a start holds.
-#[derive(Drop)]
+#[derive(Clone, Copy)]
 pub enum Found {
     Absent,
     At(SourceLocation),
 }
 
 // What a start held before it was put.
-#[derive(Drop)]
+#[derive(Clone, Copy)]
 pub enum Was {
     Vacant,
     Same,
     Changed,
 }
 
-#[derive(Drop)]
+#[derive(Clone, Copy)]
 pub struct Change {
     // The number of the row with the start.
     pub index: u32,

@@ -4,7 +4,7 @@ ghost use Rattle.std.proofs.lemmas.List.Edits.{sets};
 ghost use Rattle.text.specs.Leb128.{encoded, decoded, wrote_leb, written};
 
 // What reading a number at an offset finds.
-#[derive(Drop)]
+#[derive(Clone, Copy)]
 pub enum Leb {
     Absent,
     Number { value: u64, len: usize },

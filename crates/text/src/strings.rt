@@ -6,7 +6,7 @@ use super::leb128::{Leb, read_leb128};
 use super::utf8::is_utf8;
 
 // What reading a text at an offset finds: the part of the section that it takes.
-#[derive(Drop)]
+#[derive(Clone, Copy)]
 pub enum Text {
     Absent,
     At { start: usize, len: usize },

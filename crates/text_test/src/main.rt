@@ -2,13 +2,15 @@
 // Standard input has a vector a line, as lower-case hexadecimal bytes; what follows a # is a comment. A line is printed for each: the bytes; u and whether
 // they are UTF-8; n, the LEB128 number that they begin with and its length, = and its shortest form; t, where the text at offset 0 starts, its length
 // and its bytes. A - stands for absent.
+#![tactic(auto)]
+
 use libc::{STDIN_FILENO, STDOUT_FILENO};
 use text::leb128::{Leb, read_leb128, write_leb128};
 use text::strings::{Text, read_text, text_part};
 use text::utf8::is_utf8;
 
 // The line that is being read: how many bytes it has, and the digit that waits for its second (16 where none does).
-#[derive(Drop)]
+#[derive(Clone, Copy)]
 struct Line {
     used: usize,
     high: u8,

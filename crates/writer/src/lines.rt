@@ -15,14 +15,14 @@ use slices::{put, word};
 use steps::{comp_dir_part, insert_call_location, insert_range, locate_line};
 
 // The call locations of a function: the number of the first one, and the others as pairs of address and number.
-#[derive(Drop)]
+#[derive(Clone, Copy)]
 pub(crate) struct CallLocations {
     pub first: u32,
     pub others: Pairs,
 }
 
 // Where the walk over them stands: the number of the current one, and which of the others is next.
-#[derive(Drop)]
+#[derive(Clone, Copy)]
 pub(crate) struct CallLocationIter {
     pub current_call_location: u32,
     pub next_call_location: usize,
@@ -81,7 +81,7 @@ fn insert_self_range(
 }
 
 // What the loop over the lines leaves: the first `callee_call_locations` of the inlinee ranges became call locations for the inlinees.
-#[derive(Drop)]
+#[derive(Clone, Copy)]
 pub(crate) struct Lines {
     pub state: State,
     pub callee_call_locations: usize,

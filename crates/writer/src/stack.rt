@@ -12,14 +12,14 @@ ghost use Rattle.writer.specs.Walk.{GatherReady};
 use slices::{put, word};
 
 // Pairs of words: `len` of them, from word `at` on.
-#[derive(Drop)]
+#[derive(Clone, Copy)]
 pub(crate) struct Pairs {
     pub at: usize,
     pub len: usize,
 }
 
 // The call locations of a depth: pairs from `start` on, `len` of them.
-#[derive(Drop)]
+#[derive(Clone, Copy)]
 pub(crate) struct Calls {
     pub start: usize,
     pub len: usize,

@@ -117,7 +117,7 @@ fn close_function(state: State, ranges: &mut [u32], q: FunctionRow, function_idx
 }
 
 // The call locations of the functions at a depth.
-#[derive(Drop)]
+#[derive(Clone, Copy)]
 struct Own {
     // The pairs in use end here.
     top: usize,
@@ -202,7 +202,7 @@ fn sorted_ranges(
 }
 
 // A function row, its number, and its first line row.
-#[derive(Drop)]
+#[derive(Clone, Copy)]
 struct InProgressFunction {
     function: FunctionRow,
     i: usize,

@@ -1,4 +1,6 @@
 // Replays lists of calls whose written files the original made: oracle/FORMAT.md, "Converter". A line is printed for each list, the checksum of its words.
+#![tactic(auto)]
+
 use libc::STDOUT_FILENO;
 use memory::Converter;
 use replay::{add, add_bytes, low, number, place, word};
@@ -68,7 +70,7 @@ fn read_numbers(t: &mut [u64], n: usize, s: &[u8], at: usize) {
 // Steps
 
 // The converter, and the checksum of the list so far.
-#[derive(Drop)]
+#[derive(Clone, Copy)]
 struct Replay {
     converter: Converter,
     sum: u32,
