@@ -1,0 +1,11 @@
+use Rattle.std.proofs.Common.{rules}
+use Rattle.input_lines.specs.Input.{told}
+use Rattle.input_lines.proofs.tell.Goals as goal
+
+pub returns-in-Address : goal.returns-in-Address
+unfolding told
+returns-in-Address c = rw c.read-1.given.1
+
+pub returns-in-Bad : goal.returns-in-Bad
+unfolding told
+returns-in-Bad c = rw c.enum_told-1.given.1

@@ -1,0 +1,12 @@
+-- `function_in` meets its contract.
+use borrow.Author.Tests.{lt-ltb, le-ltb}
+use Rattle.symcache.specs.Reader.{function_in_lem}
+use Rattle.lookup.proofs.function_in.Goals as goal
+
+pub returns-then-i-c : goal.returns-then-i-c
+unfolding function_in_lem
+returns-then-i-c c = rw (lt-ltb c.args.i c.args.c.num_functions c.if-i-c.true, c.function_at.ensures)
+
+pub returns : goal.returns
+unfolding function_in_lem
+returns c = rw (le-ltb c.args.i c.args.c.num_functions c.if-i-c.false)

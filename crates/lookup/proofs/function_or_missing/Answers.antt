@@ -1,0 +1,13 @@
+-- `function_or_missing` meets its contract.
+use borrow.Author.Tests.{lt-ltb, le-ltb}
+use mathlib.Core.Path.{refl}
+use Rattle.symcache.specs.Reader.{function_in_lem}
+use Rattle.lookup.proofs.function_or_missing.Goals as goal
+
+pub returns-then-i-c : goal.returns-then-i-c
+unfolding function_in_lem
+returns-then-i-c c = rw (lt-ltb c.args.i c.args.c.num_functions c.if-i-c.true, c.function_at.ensures) (refl, refl)
+
+pub returns : goal.returns
+unfolding function_in_lem
+returns c = rw (le-ltb c.args.i c.args.c.num_functions c.if-i-c.false) (refl, refl)

@@ -1,0 +1,20 @@
+-- `get_file` meets its contract: what `parse` refuses, and then the row.
+use native.Mathlib.Omega.{arith}
+use mathlib.Core.Path.{ap, sym, ◌∙◌}
+use Rattle.symcache.specs.Answers.{parse_answer}
+use Rattle.symcache.specs.Reader.{parsed}
+use Rattle.lookup.specs.Lookup.{got_file}
+use Rattle.symcache.proofs.ReaderLaws.{parsed-within}
+use Rattle.lookup.proofs.LookupLaws.{then-gives, then-refuses}
+use Rattle.lookup.proofs.get_file.Goals as goal
+
+pub file_in-requires : goal.file_in-requires
+file_in-requires c = let w = (parsed-within c.args.s.now c.parsed-1.given.0.0 (sym c.parse-parsed.ensures ∙ ap parse_answer c.parsed-1.given.1)).1.files in omega arith
+
+pub returns-in-Cache : goal.returns-in-Cache
+unfolding got_file
+returns-in-Cache c = then-gives (parsed c.args.s.now) c.parsed-1.given.0.0 _ _ (sym c.parse-parsed.ensures ∙ ap parse_answer c.parsed-1.given.1) c.file_in.ensures
+
+pub returns-in-Refused : goal.returns-in-Refused
+unfolding got_file
+returns-in-Refused c = then-refuses (parsed c.args.s.now) _ _ (sym c.parse-parsed.ensures ∙ ap parse_answer c.parsed-in-Refused-1.given.1)

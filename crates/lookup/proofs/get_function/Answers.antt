@@ -1,0 +1,20 @@
+-- `get_function` meets its contract: what `parse` refuses, and then the row.
+use native.Mathlib.Omega.{arith}
+use mathlib.Core.Path.{ap, sym, ◌∙◌}
+use Rattle.symcache.specs.Answers.{parse_answer}
+use Rattle.symcache.specs.Reader.{parsed}
+use Rattle.lookup.specs.Lookup.{got_function}
+use Rattle.symcache.proofs.ReaderLaws.{parsed-within}
+use Rattle.lookup.proofs.LookupLaws.{then-gives, then-refuses}
+use Rattle.lookup.proofs.get_function.Goals as goal
+
+pub function_in-requires : goal.function_in-requires
+function_in-requires c = let w = (parsed-within c.args.s.now c.parsed-1.given.0.0 (sym c.parse-parsed.ensures ∙ ap parse_answer c.parsed-1.given.1)).1.functions in omega arith
+
+pub returns-in-Cache : goal.returns-in-Cache
+unfolding got_function
+returns-in-Cache c = then-gives (parsed c.args.s.now) c.parsed-1.given.0.0 _ _ (sym c.parse-parsed.ensures ∙ ap parse_answer c.parsed-1.given.1) c.function_in.ensures
+
+pub returns-in-Refused : goal.returns-in-Refused
+unfolding got_function
+returns-in-Refused c = then-refuses (parsed c.args.s.now) _ _ (sym c.parse-parsed.ensures ∙ ap parse_answer c.parsed-in-Refused-1.given.1)

@@ -1,0 +1,15 @@
+-- The invariant of `rfind`: the places at i and above hold no pattern.
+use Prim.Native.Nat.{◌≤◌, ◌-◌}
+use mathlib.Core.Path.{◌≡◌, refl, sym, ap, ◌∙◌}
+use native.Mathlib.Omega.{arith}
+use lib.ListN.{length}
+use Rattle.names.specs.Names.{rfind}
+use Rattle.names.specs.Found.{found}
+use Rattle.names.proofs.Laws.{rest, rfind-none, rfind-here, rfind_lower}
+use Rattle.names.proofs.rfind.Given as goal
+
+abbrev pub invariant-loop-i : goal.invariant-loop-i
+invariant-loop-i l = (l.i ≤ length l.s) × (rfind l.pat l.s l.i ≡ rfind l.pat l.s (length l.s))
+
+abbrev pub decreases-loop-i : goal.decreases-loop-i
+decreases-loop-i l = l.i

@@ -1,0 +1,7 @@
+-- `load_u16` meets its contract.
+use Rattle.slices.proofs.Bytes.{le_at-two}
+use native.Mathlib.Omega.{arith}
+use Rattle.raw.proofs.load_u16.Goals as goal
+
+pub returns : goal.returns
+returns c = omega (arith, le_at-two c.args.s.now c.args.at)

@@ -1,0 +1,16 @@
+-- `store_words` meets its contract. The invariant: the first i numbers are stored.
+use Prim.Native.Nat.{ℕ, ◌-◌, ◌<◌, ◌≤◌}
+use native.Mathlib.Omega.{arith}
+use mathlib.Core.Path.{◌≡◌, refl, ap, ◌∙◌}
+use mathlib.Core.List.{List}
+use lib.ListN.{length, take}
+use lib.Seq.{sets, length-sets}
+use Rattle.slices.specs.Bytes.{word_bytes}
+use Rattle.raw.proofs.Rows.{word-stored}
+use Rattle.raw.proofs.store_words.Given as goal
+
+abbrev pub invariant-loop-i : goal.invariant-loop-i
+invariant-loop-i l = (l.i ≤ l.count) × (l.s ≡ sets l.initial.s l.at (word_bytes (take l.i l.words)))
+
+abbrev pub decreases-loop-i : goal.decreases-loop-i
+decreases-loop-i l = l.count - l.i

@@ -1,0 +1,32 @@
+use Prim.Native.Nat.{◌≤◌, ◌+◌, ◌*◌, ◌-◌}
+use mathlib.Core.Path.{◌≡◌, refl, ap, ◌∙◌}
+use native.Mathlib.Omega.{arith}
+use lib.ListN.{length}
+use lib.Seq.{sets, length-sets}
+use Rattle.slices.specs.Bytes.{table_bytes}
+use Rattle.raw.specs.Rows.{function_bytes}
+use Rattle.raw.specs.declared.Function.{Function}
+use Rattle.tables.specs.Table.{rows_from, rows_of}
+use Rattle.serialize.specs.Sections.{function_row}
+use Rattle.serialize.proofs.Rows.{length-function_row, rows-turn}
+use Rattle.serialize.proofs.write_functions.Goals as goal
+
+pub loop-i-init : goal.loop-i-init
+unfolding table_bytes rows_from
+loop-i-init c = (omega arith, refl)
+
+pub loop-i-preserved : goal.loop-i-preserved
+unfolding function_row
+loop-i-preserved c =
+    let a = c.args in
+    let to = a.at + c.loop-i.i * 16 in
+    let stored = c.write_function.ensures ∙ ap (λ (y : Function). sets c.loop-i.out to (function_bytes y)) c.function_of_row-function.ensures in
+    (omega arith, rows-turn function_row 16 length-function_row a.out.now c.loop-i.out _ a.at to a.functions.now c.loop-i.i c.row_at.result c.row_at.ensures (omega arith) c.loop-i.invariant.1 stored)
+
+pub shape_of-out : goal.shape_of-out
+shape_of-out c = ap length c.loop-i.invariant.1 ∙ simp length-sets
+
+pub returns : goal.returns
+returns c =
+    let e : c.loop-i.i ≡ c.args.count = omega arith in
+    rw e at c.loop-i.invariant.1

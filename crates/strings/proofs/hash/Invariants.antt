@@ -1,0 +1,15 @@
+-- The loop's invariant: what the bytes that are left make of x is what all of them make of the length.
+use Prim.Native.Nat.{ℕ, ◌+◌, ◌-◌, ◌%◌, ◌<◌, ◌≤◌}
+use mathlib.Core.Path.{◌≡◌, refl, ◌∙◌}
+use mathlib.Core.List.{List}
+use native.Mathlib.Omega.{arith}
+use lib.ListN.{length, get_or, take, drop, length-drop}
+use Rattle.strings.proofs.Fours.{four-left, rest-is}
+use Rattle.strings.specs.Strings.{mixed, four, hash_from, text_hash}
+use Rattle.strings.proofs.hash.Given as goal
+
+abbrev pub invariant-loop-i : goal.invariant-loop-i
+invariant-loop-i l = (l.i ≤ length l.t) × (hash_from (length l.t) l.t ≡ hash_from l.x (drop l.i l.t))
+
+abbrev pub decreases-loop-i : goal.decreases-loop-i
+decreases-loop-i l = length l.t - l.i

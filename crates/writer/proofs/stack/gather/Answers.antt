@@ -1,0 +1,58 @@
+use Prim.Native.Nat.{◌+◌, ◌-◌, ◌/◌, ◌≤◌}
+use mathlib.Core.Logic.{⊎_elim}
+use mathlib.Core.List.{[]}
+use native.Mathlib.Omega.{arith}
+use lib.ListN.{length}
+use Rattle.rows.specs.Columns.{Columns, columns}
+use Rattle.writer.proofs.ScratchLaws.{Gathers, gathers_begin, gathers_stop, gathers_end, gathers_pass, gathers_push, gathers_room, lines_fit}
+use Rattle.writer.proofs.stack.gather.Goals as goal
+
+pub loop-r-init : goal.loop-r-init
+loop-r-init c =
+    let a = c.args in
+    gathers_begin ((columns c.args.functions64.now c.args.functions32.now c.args.lines64.now c.args.lines32.now [])) a.depth a.at a.i a.first a.s.now c.requires.inside c.requires.first_is
+
+pub returns-then-d-depth : goal.returns-then-d-depth
+returns-then-d-depth c =
+    let a = c.args in
+    gathers_stop ((columns c.args.functions64.now c.args.functions32.now c.args.lines64.now c.args.lines32.now [])) a.depth a.at a.i a.first a.s.now c.loop-r.s c.loop-r.r c.loop-r.line c.loop-r.n c.loop-r.invariant _ c.function_row-q.ensures c.loop-r-test.true c.if-d-depth.true
+
+pub push_lines-requires : goal.push_lines-requires
+push_lines-requires c =
+    let a = c.args in
+    let r =
+    gathers_room ((columns c.args.functions64.now c.args.functions32.now c.args.lines64.now c.args.lines32.now [])) a.depth a.at a.i a.first a.s.now c.loop-r.s c.loop-r.r c.loop-r.line c.loop-r.n c.loop-r.invariant c.function_row-q.result c.function_row-q.ensures c.loop-r-test.true
+    c.if-d-depth-2.true in
+    (omega (arith, r, c.loop-r.invariant.len, c.pre.room), (lines_fit ((columns c.args.functions64.now c.args.functions32.now c.args.lines64.now c.args.lines32.now [])) c.loop-r.r c.loop-r.line c.function_row-q.result c.function_row-q.ensures c.loop-r.invariant.line_is (c.pre.within c.loop-r.r c.loop-r-test.true)))
+
+pub loop-r-preserved : goal.loop-r-preserved
+loop-r-preserved c =
+    let a = c.args in
+    let h = c.loop-r-test.true in
+    ⊎_elim
+    (λ w. rw (w.5, w.6)
+    (gathers_push ((columns c.args.functions64.now c.args.functions32.now c.args.lines64.now c.args.lines32.now [])) a.depth a.at a.i a.first a.s.now c.loop-r.s c.loop-r.r c.loop-r.line c.loop-r.n c.loop-r.invariant c.function_row-q.result c.function_row-q.ensures h w.0.taken _
+    (w.2.ensures a.functions64.now a.functions32.now []) w.2.kept.0))
+    (λ w. rw (w.1, w.2)
+    (gathers_pass ((columns c.args.functions64.now c.args.functions32.now c.args.lines64.now c.args.lines32.now [])) a.depth a.at a.i a.first a.s.now c.loop-r.s c.loop-r.r c.loop-r.line c.loop-r.n c.loop-r.invariant c.function_row-q.result c.function_row-q.ensures h c.if-d-depth.false w.0.left))
+    c.if-d-depth-2.branch
+
+pub returns : goal.returns
+returns c =
+    let a = c.args in
+    gathers_end ((columns c.args.functions64.now c.args.functions32.now c.args.lines64.now c.args.lines32.now [])) a.depth a.at a.i a.first a.s.now c.loop-r.s c.loop-r.r c.loop-r.line c.loop-r.n c.loop-r.invariant c.loop-r-test.false
+
+pub shape_of-s-then-d-depth : goal.shape_of-s-then-d-depth
+shape_of-s-then-d-depth c = c.loop-r.invariant.len
+
+pub overflow_mul-n : goal.overflow_mul-n
+overflow_mul-n c = omega (arith, c.loop-r.invariant.going.count, c.requires.room)
+
+pub overflow_add-at : goal.overflow_add-at
+overflow_add-at c = omega (arith, c.loop-r.invariant.going.count, c.requires.room)
+
+pub overflow_add-n : goal.overflow_add-n
+overflow_add-n c = omega (arith, c.loop-r.invariant.going.count, c.requires.room)
+
+pub shape_of-s : goal.shape_of-s
+shape_of-s c = c.loop-r.invariant.len

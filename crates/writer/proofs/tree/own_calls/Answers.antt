@@ -1,0 +1,20 @@
+-- `own_calls` meets its contract: depth 0 has its one value, any other depth its pairs.
+use mathlib.Core.Path.{◌≡◌}
+use Prim.Native.Nat.{◌+◌}
+use native.Mathlib.Omega.{arith}
+use Rattle.scratch.specs.Scratch.{top_of}
+use Rattle.writer.proofs.TreeLaws.{own_root, own-top, own-none, own-some}
+use Rattle.writer.proofs.tree.own_calls.Goals as goal
+
+pub returns-then-depth-eq0 : goal.returns-then-depth-eq0
+returns-then-depth-eq0 c = let a = c.args in own_root a.s.now a.base a.depth c.if-depth-eq0.true
+
+pub returns-then-len-eq0 : goal.returns-then-len-eq0
+returns-then-len-eq0 c =
+    let a = c.args in
+    own-none a.s.now a.base a.depth c.calls_at-c.result.start c.calls_at-c.result.len c.if-depth-eq0.false c.calls_at-c.ensures.0 c.calls_at-c.ensures.1 c.if-len-eq0.true
+
+pub returns : goal.returns
+returns c =
+    let a = c.args in
+    own-some a.s.now a.base a.depth c.calls_at-c.result.start c.calls_at-c.result.len c.if-depth-eq0.false c.calls_at-c.ensures.0 c.calls_at-c.ensures.1 c.word-first.result c.if-len-eq0.false c.word-first.ensures

@@ -1,0 +1,30 @@
+-- `process_rows` meets its contract: reading ahead leaves in scratch what nothing looks at, and the rows still to come leave what all rows leave (`Rowing`),
+-- for either switch of the symbols.
+use Prim.Native.Nat.{ℕ, ◌+◌, ◌-◌, ◌/◌, ◌≤◌}
+use mathlib.Core.Path.{◌≡◌, refl, ◌∙◌}
+use mathlib.Core.Bool.{Bool, true}
+use mathlib.Core.List.{List}
+use native.Mathlib.Omega.{arith}
+use lib.ListN.{length}
+use Rattle.rows.specs.Columns.{Columns, columns}
+use Rattle.refusals.specs.Refusals.{tree_refusal}
+use Rattle.refusals.proofs.Accepted.{Accepted, accepted}
+use Rattle.memory.specs.Memory.{Words, words}
+use Rattle.steps.specs.Steps.{over_words}
+use Rattle.scratch.proofs.Tree.{Rowing, starts, ends}
+use Rattle.steps.specs.Symbols.{switches}
+use Rattle.writer.proofs.TreeLaws.{row-ready, first-low, row-after}
+use Rattle.writer.proofs.tree.process_rows.Given as goal
+
+abbrev pub invariant-loop-i : goal.invariant-loop-i
+invariant-loop-i l =
+    (length l.string_bytes ≡ length l.initial.string_bytes)
+    × (length l.strings ≡ length l.initial.strings)
+    × (length l.files ≡ length l.initial.files)
+    × (length l.functions ≡ length l.initial.functions)
+    × (length l.call_locations ≡ length l.initial.call_locations)
+    × (length l.ranges ≡ length l.initial.ranges)
+    × ((Y : Bool) → Rowing (over_words (switches l.undecorate Y)) (columns l.functions64 l.functions32 l.lines64 l.lines32 l.text) (length l.initial.s) (words l.initial.now l.initial.string_bytes l.initial.strings l.initial.files l.initial.functions l.initial.call_locations l.initial.ranges) l.s l.i l.first_line (words l.now l.string_bytes l.strings l.files l.functions l.call_locations l.ranges))
+
+abbrev pub decreases-loop-i : goal.decreases-loop-i
+decreases-loop-i l = l.rows - l.i
