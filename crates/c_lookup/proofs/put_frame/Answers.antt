@@ -5,9 +5,9 @@ use Rattle.c_lookup.proofs.put_frame.Goals as goal
 pub returns-in-None : goal.returns-in-None
 returns-in-None c =
     let a = c.args in
-    frame-alone a.frame.now a.f a.f.file c.enum_told-1.given.1 c.put_head.ensures
+    frame-alone a.frame.now a.f a.f.file c.in-None.is c.put_head.ensures
 
 pub returns-in-File : goal.returns-in-File
 returns-in-File c =
     let a = c.args in
-    frame_filed a.frame.now a.f a.f.file c.file-1.given.0.0 c.file-1.given.1 c.put_head-in-File.ensures c.put_file.ensures
+    frame_filed a.frame.now a.f a.f.file c.in-File.g c.in-File.is c.put_head-in-File.ensures c.put_file.ensures

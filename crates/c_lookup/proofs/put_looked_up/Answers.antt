@@ -9,9 +9,9 @@ use Rattle.c_lookup.proofs.put_looked_up.Goals as goal
 pub returns-in-Walk : goal.returns-in-Walk
 returns-in-Walk c =
     let a = c.args in
-    given walk_words (lookup_answer a.found) c.found-1.given.0.0 a.cursor.now (ap lookup_answer c.found-1.given.1) c.put_walk.ensures
+    given walk_words (lookup_answer a.found) c.in-Walk.walk a.cursor.now (ap lookup_answer c.in-Walk.is) c.put_walk.ensures
 
 pub returns-in-Refused : goal.returns-in-Refused
 returns-in-Refused c =
     let a = c.args in
-    declined walk_words (lookup_answer a.found) (refusal_of c.found-in-Refused-1.given.0.0) c.number.result a.cursor.now (ap lookup_answer c.found-in-Refused-1.given.1) c.number.ensures
+    declined walk_words (lookup_answer a.found) (refusal_of c.in-Refused.kind) c.number.result a.cursor.now (ap lookup_answer c.in-Refused.is) c.number.ensures

@@ -14,14 +14,14 @@ use Rattle.c_rows.proofs.put_file_step.Goals as goal
 pub returns-in-File : goal.returns-in-File
 returns-in-File c =
     let a = c.args in
-    moves file_next next_file_words (files_answer a.step) (record { index = c.step-1.given.0.0; file = c.step-1.given.0.1.0; next = c.step-1.given.0.1.1.0 }) a.cursor.now a.row.now (ap files_answer c.step-1.given.1) c.put.ensures (c.put_file.ensures ∙ ap (λ (t : List ℕ). sets t 2 (file_words_lem c.step-1.given.0.1.0)) (c.put-in-File-2.ensures ∙ ap (λ (t : List ℕ). set t 1 c.step-1.given.0.0) c.put-in-File.ensures))
+    moves file_next next_file_words (files_answer a.step) (record { index = c.in-File.index; file = c.in-File.file; next = c.in-File.next }) a.cursor.now a.row.now (ap files_answer c.in-File.is) c.put.ensures (c.put_file.ensures ∙ ap (λ (t : List ℕ). sets t 2 (file_words_lem c.in-File.file)) (c.put-in-File-2.ensures ∙ ap (λ (t : List ℕ). set t 1 c.in-File.index) c.put-in-File.ensures))
 
 pub returns-in-End : goal.returns-in-End
 returns-in-End c =
     let a = c.args in
-    ends file_next next_file_words (files_answer a.step) a.cursor.now a.row.now (ap files_answer c.enum_told-1.given.1) c.put-in-End.ensures
+    ends file_next next_file_words (files_answer a.step) a.cursor.now a.row.now (ap files_answer c.in-End.is) c.put-in-End.ensures
 
 pub returns-in-Refused : goal.returns-in-Refused
 returns-in-Refused c =
     let a = c.args in
-    stays file_next next_file_words (files_answer a.step) (refusal_of c.step-in-Refused-1.given.0.0) c.number.result a.cursor.now a.row.now (ap files_answer c.step-in-Refused-1.given.1) c.number.ensures
+    stays file_next next_file_words (files_answer a.step) (refusal_of c.in-Refused.kind) c.number.result a.cursor.now a.row.now (ap files_answer c.in-Refused.is) c.number.ensures

@@ -14,14 +14,14 @@ use Rattle.c_rows.proofs.put_function_step.Goals as goal
 pub returns-in-Function : goal.returns-in-Function
 returns-in-Function c =
     let a = c.args in
-    moves function_next next_function_words (functions_answer a.step) (record { index = c.step-1.given.0.0; function = c.step-1.given.0.1.0; next = c.step-1.given.0.1.1.0 }) a.cursor.now a.row.now (ap functions_answer c.step-1.given.1) c.put.ensures (c.put_function.ensures ∙ ap (λ (t : List ℕ). sets t 2 (function_words_lem c.step-1.given.0.1.0)) (c.put-in-Function-2.ensures ∙ ap (λ (t : List ℕ). set t 1 c.step-1.given.0.0) c.put-in-Function.ensures))
+    moves function_next next_function_words (functions_answer a.step) (record { index = c.in-Function.index; function = c.in-Function.function; next = c.in-Function.next }) a.cursor.now a.row.now (ap functions_answer c.in-Function.is) c.put.ensures (c.put_function.ensures ∙ ap (λ (t : List ℕ). sets t 2 (function_words_lem c.in-Function.function)) (c.put-in-Function-2.ensures ∙ ap (λ (t : List ℕ). set t 1 c.in-Function.index) c.put-in-Function.ensures))
 
 pub returns-in-End : goal.returns-in-End
 returns-in-End c =
     let a = c.args in
-    ends function_next next_function_words (functions_answer a.step) a.cursor.now a.row.now (ap functions_answer c.enum_told-1.given.1) c.put-in-End.ensures
+    ends function_next next_function_words (functions_answer a.step) a.cursor.now a.row.now (ap functions_answer c.in-End.is) c.put-in-End.ensures
 
 pub returns-in-Refused : goal.returns-in-Refused
 returns-in-Refused c =
     let a = c.args in
-    stays function_next next_function_words (functions_answer a.step) (refusal_of c.step-in-Refused-1.given.0.0) c.number.result a.cursor.now a.row.now (ap functions_answer c.step-in-Refused-1.given.1) c.number.ensures
+    stays function_next next_function_words (functions_answer a.step) (refusal_of c.in-Refused.kind) c.number.result a.cursor.now a.row.now (ap functions_answer c.in-Refused.is) c.number.ensures

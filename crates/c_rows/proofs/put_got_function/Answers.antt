@@ -14,14 +14,14 @@ use Rattle.c_rows.proofs.put_got_function.Goals as goal
 pub returns-in-Function : goal.returns-in-Function
 returns-in-Function c =
     let a = c.args in
-    given function_answer_words (function_answer a.function) (some c.function-1.given.0.0) a.row.now (ap function_answer c.function-1.given.1) (c.put_function.ensures ∙ ap (λ (t : List ℕ). sets t 1 (function_words_lem c.function-1.given.0.0)) c.put.ensures)
+    given function_answer_words (function_answer a.function) (some c.in-Function.f) a.row.now (ap function_answer c.in-Function.is) (c.put_function.ensures ∙ ap (λ (t : List ℕ). sets t 1 (function_words_lem c.in-Function.f)) c.put.ensures)
 
 pub returns-in-Nothing : goal.returns-in-Nothing
 returns-in-Nothing c =
     let a = c.args in
-    given function_answer_words (function_answer a.function) none a.row.now (ap function_answer c.enum_told-1.given.1) c.put-in-Nothing.ensures
+    given function_answer_words (function_answer a.function) none a.row.now (ap function_answer c.in-Nothing.is) c.put-in-Nothing.ensures
 
 pub returns-in-Refused : goal.returns-in-Refused
 returns-in-Refused c =
     let a = c.args in
-    declined function_answer_words (function_answer a.function) (refusal_of c.function-in-Refused-1.given.0.0) c.number.result a.row.now (ap function_answer c.function-in-Refused-1.given.1) c.number.ensures
+    declined function_answer_words (function_answer a.function) (refusal_of c.in-Refused.kind) c.number.result a.row.now (ap function_answer c.in-Refused.is) c.number.ensures

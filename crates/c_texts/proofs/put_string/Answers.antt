@@ -11,14 +11,14 @@ use Rattle.c_texts.proofs.put_string.Goals as goal
 pub returns-in-At : goal.returns-in-At
 returns-in-At c =
     let a = c.args in
-    given part_words (string_answer a.string) (some (record { c = c.string-1.given.0.0; len = c.string-1.given.0.1.0 })) a.part.now (ap string_answer c.string-1.given.1) (puts a.part.now 0 (part_words (some (record { c = c.string-1.given.0.0; len = c.string-1.given.0.1.0 }))) (put 1 refl c.put64.ensures (put 2 refl c.put64-in-At.ensures (put 3 refl c.put64-in-At-2.ensures done))))
+    given part_words (string_answer a.string) (some (record { c = c.in-At.start; len = c.in-At.len })) a.part.now (ap string_answer c.in-At.is) (puts a.part.now 0 (part_words (some (record { c = c.in-At.start; len = c.in-At.len }))) (put 1 refl c.put64.ensures (put 2 refl c.put64-in-At.ensures (put 3 refl c.put64-in-At-2.ensures done))))
 
 pub returns-in-Absent : goal.returns-in-Absent
 returns-in-Absent c =
     let a = c.args in
-    given part_words (string_answer a.string) none a.part.now (ap string_answer c.enum_told-1.given.1) c.put64-in-Absent.ensures
+    given part_words (string_answer a.string) none a.part.now (ap string_answer c.in-Absent.is) c.put64-in-Absent.ensures
 
 pub returns-in-Refused : goal.returns-in-Refused
 returns-in-Refused c =
     let a = c.args in
-    declined part_words (string_answer a.string) (refusal_of c.string-in-Refused-1.given.0.0) c.number.result a.part.now (ap string_answer c.string-in-Refused-1.given.1) c.number.ensures
+    declined part_words (string_answer a.string) (refusal_of c.in-Refused.kind) c.number.result a.part.now (ap string_answer c.in-Refused.is) c.number.ensures

@@ -10,28 +10,26 @@ use Rattle.file_texts.proofs.StringLaws.{string_inside, string_there, string_abs
 use Rattle.file_texts.proofs.read_string.Goals as goal
 
 pub overflow_add-to : goal.overflow_add-to
-overflow_add-to c = let w = (((parsed-within c.args.s.now c.parsed-1.given.0.0 ((sym c.parse-parsed.ensures ∙ ap parse_answer c.parsed-1.given.1))).1)).strings in omega arith
+overflow_add-to c = let w = (((parsed-within c.args.s.now c.in-Cache.c ((sym c.parse-parsed.ensures ∙ ap parse_answer c.in-Cache.is))).1)).strings in omega arith
 
 pub slice_bounds-read_text-end : goal.slice_bounds-read_text-end
-slice_bounds-read_text-end c = (((parsed-within c.args.s.now c.parsed-1.given.0.0 ((sym c.parse-parsed.ensures ∙ ap parse_answer c.parsed-1.given.1))).1)).strings
+slice_bounds-read_text-end c = (((parsed-within c.args.s.now c.in-Cache.c ((sym c.parse-parsed.ensures ∙ ap parse_answer c.in-Cache.is))).1)).strings
 
 pub overflow_add-result : goal.overflow_add-result
 overflow_add-result c =
-    let g = c.read-1.given in
     let a = c.args in
-    let i = string_inside a.s.now c.parsed-1.given.0.0 ((sym c.parse-parsed.ensures ∙ ap parse_answer c.parsed-1.given.1)) a.offset g.0.0 g.0.1.0 (sym c.read_text-read.ensures ∙ g.1) in
+    let i = string_inside a.s.now c.in-Cache.c ((sym c.parse-parsed.ensures ∙ ap parse_answer c.in-Cache.is)) a.offset c.in-At.start c.in-At.len (sym c.read_text-read.ensures ∙ c.in-At.is) in
     omega arith
 
 pub returns-in-At : goal.returns-in-At
 returns-in-At c =
-    let g = c.read-1.given in
     let a = c.args in
-    string_there a.s.now c.parsed-1.given.0.0 ((sym c.parse-parsed.ensures ∙ ap parse_answer c.parsed-1.given.1)) a.offset g.0.0 g.0.1.0 (sym c.read_text-read.ensures ∙ g.1)
+    string_there a.s.now c.in-Cache.c ((sym c.parse-parsed.ensures ∙ ap parse_answer c.in-Cache.is)) a.offset c.in-At.start c.in-At.len (sym c.read_text-read.ensures ∙ c.in-At.is)
 
 pub returns-in-Absent : goal.returns-in-Absent
 returns-in-Absent c =
     let a = c.args in
-    string_absent a.s.now c.parsed-1.given.0.0 ((sym c.parse-parsed.ensures ∙ ap parse_answer c.parsed-1.given.1)) a.offset (sym c.read_text-read.ensures ∙ c.enum_told-1.given.1)
+    string_absent a.s.now c.in-Cache.c ((sym c.parse-parsed.ensures ∙ ap parse_answer c.in-Cache.is)) a.offset (sym c.read_text-read.ensures ∙ c.in-Absent.is)
 
 pub returns-in-Refused : goal.returns-in-Refused
-returns-in-Refused c = string_refused c.args.s.now _ (sym c.parse-parsed.ensures ∙ ap parse_answer c.parsed-in-Refused-1.given.1) c.args.offset
+returns-in-Refused c = string_refused c.args.s.now _ (sym c.parse-parsed.ensures ∙ ap parse_answer c.in-Refused.is) c.args.offset

@@ -4,8 +4,8 @@ use Rattle.input_lines.proofs.tell.Goals as goal
 
 pub returns-in-Address : goal.returns-in-Address
 unfolding told
-returns-in-Address c = rw c.read-1.given.1
+returns-in-Address c = rw c.in-Address.is
 
 pub returns-in-Bad : goal.returns-in-Bad
 unfolding told
-returns-in-Bad c = rw c.enum_told-1.given.1
+returns-in-Bad c = rw c.in-Bad.is

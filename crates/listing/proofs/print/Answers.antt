@@ -10,26 +10,25 @@ use Rattle.listing.proofs.print.Goals as goal
 pub returns-in-Nothing : goal.returns-in-Nothing
 returns-in-Nothing c =
     let a = c.args in
-    rw c.enum_told-1.given.1 (nothing-printed a.file.now a.out.now a.at)
+    rw c.in-Nothing.is (nothing-printed a.file.now a.out.now a.at)
 
 pub shape_of-out-in-Bad : goal.shape_of-out-in-Bad
 shape_of-out-in-Bad c =
     let a = c.args in
-    let number = c.waiting-1.given.0.0 in
-    ap (λ (o : PrintedOut). length o.out) (c.print_bad.ensures ∙ bad-is a.file.now number a.out.now a.at) ∙ print_length a.file.now (waiting.Bad c.waiting-1.given.0.0) a.out.now a.at
+    let number = c.in-Bad.number in
+    ap (λ (o : PrintedOut). length o.out) (c.print_bad.ensures ∙ bad-is a.file.now number a.out.now a.at) ∙ print_length a.file.now (waiting.Bad c.in-Bad.number) a.out.now a.at
 
 pub returns-in-Bad : goal.returns-in-Bad
 returns-in-Bad c =
     let a = c.args in
-    c.print_bad.ensures ∙ bad-is a.file.now c.waiting-1.given.0.0 a.out.now a.at ∙ ap (λ (w : Waiting). print_of a.file.now w a.out.now a.at) (sym c.waiting-1.given.1)
+    c.print_bad.ensures ∙ bad-is a.file.now c.in-Bad.number a.out.now a.at ∙ ap (λ (w : Waiting). print_of a.file.now w a.out.now a.at) (sym c.in-Bad.is)
 
 pub shape_of-out-in-Frames : goal.shape_of-out-in-Frames
 shape_of-out-in-Frames c =
     let a = c.args in
-    let w = c.waiting-in-Frames-1.given.0 in
-    ap (λ (o : PrintedOut). length o.out) c.print_frames.ensures ∙ print_length a.file.now (waiting.Frames w.0 w.1.0) a.out.now a.at
+    ap (λ (o : PrintedOut). length o.out) c.print_frames.ensures ∙ print_length a.file.now (waiting.Frames c.in-Frames.address c.in-Frames.walk) a.out.now a.at
 
 pub returns-in-Frames : goal.returns-in-Frames
 returns-in-Frames c =
     let a = c.args in
-    c.print_frames.ensures ∙ ap (λ (w : Waiting). print_of a.file.now w a.out.now a.at) (sym c.waiting-in-Frames-1.given.1)
+    c.print_frames.ensures ∙ ap (λ (w : Waiting). print_of a.file.now w a.out.now a.at) (sym c.in-Frames.is)

@@ -16,14 +16,14 @@ use Rattle.listing.proofs.print_frames.Goals as goal
 pub loop-step-smaller : goal.loop-step-smaller
 loop-step-smaller c =
     let r = leb-true (c.loop-step.at + 62) (length c.loop-step.out) ((sym c.has_room.ensures ∙ c.loop-step-test.true)) in
-    let (n, e) = (frame-put c.args.address c.loop-step.walk.steps ((record { frame = c.step-1.given.0.0; next = c.step-1.given.0.1.0 })).frame c.loop-step.out c.loop-step.at ((sym c.has_room.ensures ∙ c.loop-step-test.true)) c.print_frame-at.ensures) in
+    let (n, e) = (frame-put c.args.address c.loop-step.walk.steps ((record { frame = c.in-Frame.frame; next = c.in-Frame.next })).frame c.loop-step.out c.loop-step.at ((sym c.has_room.ensures ∙ c.loop-step-test.true)) c.print_frame-at.ensures) in
     omega arith
 
 pub loop-step-preserved : goal.loop-step-preserved
 loop-step-preserved c =
     let a = c.args in (
-      ((frame-put c.args.address c.loop-step.walk.steps ((record { frame = c.step-1.given.0.0; next = c.step-1.given.0.1.0 })).frame c.loop-step.out c.loop-step.at ((sym c.has_room.ensures ∙ c.loop-step-test.true)) c.print_frame-at.ensures)).1 ∙ c.loop-step.invariant.0,
-      frame-printed a.file.now a.address c.loop-step.walk ((record { frame = c.step-1.given.0.0; next = c.step-1.given.0.1.0 })) c.loop-step.out c.loop-step.at ((sym c.next-step.ensures ∙ ap step_answer c.step-1.given.1)) ((sym c.has_room.ensures ∙ c.loop-step-test.true)) c.print_frame-at.ensures
+      ((frame-put c.args.address c.loop-step.walk.steps ((record { frame = c.in-Frame.frame; next = c.in-Frame.next })).frame c.loop-step.out c.loop-step.at ((sym c.has_room.ensures ∙ c.loop-step-test.true)) c.print_frame-at.ensures)).1 ∙ c.loop-step.invariant.0,
+      frame-printed a.file.now a.address c.loop-step.walk ((record { frame = c.in-Frame.frame; next = c.in-Frame.next })) c.loop-step.out c.loop-step.at ((sym c.next-step.ensures ∙ ap step_answer c.in-Frame.is)) ((sym c.has_room.ensures ∙ c.loop-step-test.true)) c.print_frame-at.ensures
           ∙ c.loop-step.invariant.1,
     )
 
@@ -38,7 +38,7 @@ returns-in-End c =
     let a = c.args in
     c.no_more_frames.ensures
     ∙ end-printed a.file.now a.address c.loop-step.walk c.loop-step.out c.loop-step.at
-    (ap frame_in (sym c.next-step.ensures ∙ ap step_answer c.enum_told-1.given.1))
+    (ap frame_in (sym c.next-step.ensures ∙ ap step_answer c.in-End.is))
     (sym c.has_room.ensures ∙ c.loop-step-test.true)
     ∙ c.loop-step.invariant.1
 
@@ -53,7 +53,7 @@ returns-in-Refused c =
     let a = c.args in
     c.no_more_frames-in-Refused.ensures
     ∙ end-printed a.file.now a.address c.loop-step.walk c.loop-step.out c.loop-step.at
-    (ap frame_in (sym c.next-step.ensures ∙ ap step_answer c.enum_told-in-Refused-1.given.1))
+    (ap frame_in (sym c.next-step.ensures ∙ ap step_answer c.in-Refused.is))
     (sym c.has_room.ensures ∙ c.loop-step-test.true)
     ∙ c.loop-step.invariant.1
 

@@ -3,12 +3,12 @@ use Rattle.listing.proofs.waits.Goals as goal
 
 pub returns-in-Nothing : goal.returns-in-Nothing
 unfolding waits?
-returns-in-Nothing c = rw c.enum_told-1.given.1
+returns-in-Nothing c = rw c.in-Nothing.is
 
 pub returns-in-Bad : goal.returns-in-Bad
 unfolding waits?
-returns-in-Bad c = rw c.enum_told-in-Bad-1.given.1
+returns-in-Bad c = rw c.in-Bad.is
 
 pub returns-in-Frames : goal.returns-in-Frames
 unfolding waits?
-returns-in-Frames c = rw c.enum_told-in-Frames-1.given.1
+returns-in-Frames c = rw c.in-Frames.is

@@ -9,12 +9,12 @@ use Rattle.lookup.proofs.LookupLaws.{then-gives, then-refuses}
 use Rattle.lookup.proofs.get_function.Goals as goal
 
 pub function_in-requires : goal.function_in-requires
-function_in-requires c = let w = (parsed-within c.args.s.now c.parsed-1.given.0.0 (sym c.parse-parsed.ensures ∙ ap parse_answer c.parsed-1.given.1)).1.functions in omega arith
+function_in-requires c = let w = (parsed-within c.args.s.now c.in-Cache.c (sym c.parse-parsed.ensures ∙ ap parse_answer c.in-Cache.is)).1.functions in omega arith
 
 pub returns-in-Cache : goal.returns-in-Cache
 unfolding got_function
-returns-in-Cache c = then-gives (parsed c.args.s.now) c.parsed-1.given.0.0 _ _ (sym c.parse-parsed.ensures ∙ ap parse_answer c.parsed-1.given.1) c.function_in.ensures
+returns-in-Cache c = then-gives (parsed c.args.s.now) c.in-Cache.c _ _ (sym c.parse-parsed.ensures ∙ ap parse_answer c.in-Cache.is) c.function_in.ensures
 
 pub returns-in-Refused : goal.returns-in-Refused
 unfolding got_function
-returns-in-Refused c = then-refuses (parsed c.args.s.now) _ _ (sym c.parse-parsed.ensures ∙ ap parse_answer c.parsed-in-Refused-1.given.1)
+returns-in-Refused c = then-refuses (parsed c.args.s.now) _ _ (sym c.parse-parsed.ensures ∙ ap parse_answer c.in-Refused.is)

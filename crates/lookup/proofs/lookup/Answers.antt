@@ -10,10 +10,10 @@ use Rattle.lookup.proofs.lookup.Goals as goal
 pub returns-in-Cache : goal.returns-in-Cache
 returns-in-Cache c =
     let a = c.args in
-    let cache = c.opened-1.given.0.0 in
-    let accepted = sym c.«open».ensures ∙ ap parse_answer c.opened-1.given.1 in
+    let cache = c.in-Cache.c in
+    let accepted = sym c.«open».ensures ∙ ap parse_answer c.in-Cache.is in
     ap gives c.walk.ensures ∙ (by_meaning a.s.now cache accepted a.addr).walk
 
 pub returns-in-Refused : goal.returns-in-Refused
 unfolding looked_up_lem
-returns-in-Refused c = then-refuses (opened c.args.s.now) _ _ (sym c.«open».ensures ∙ ap parse_answer c.opened-in-Refused-1.given.1)
+returns-in-Refused c = then-refuses (opened c.args.s.now) _ _ (sym c.«open».ensures ∙ ap parse_answer c.in-Refused.is)

@@ -9,29 +9,29 @@ use Rattle.names.proofs.Sizes.{found_some, found_none, rfind-within, cut-none, c
 use Rattle.names.proofs.cut.Goals as goal
 
 pub returns-in_default : goal.returns-in_default
-returns-in_default c = sym (ap found (cut-none _ _ (found_none _ (sym c.enum_told-1.given.1 ∙ c.rfind.ensures))))
+returns-in_default c = sym (ap found (cut-none _ _ (found_none _ (sym c.in_default.is ∙ c.rfind.ensures))))
 
 pub overflow_add-n : goal.overflow_add-n
 overflow_add-n c =
-    let w : c.n-1.given.0.0 + length c.args.pat.now ≤ length c.args.s.now = rfind-within _ _ _ (found_some _ _ (sym c.n-1.given.1 ∙ c.rfind.ensures)) in
+    let w : c.in-At.n + length c.args.pat.now ≤ length c.args.s.now = rfind-within _ _ _ (found_some _ _ (sym c.in-At.is ∙ c.rfind.ensures)) in
     omega arith
 
 pub slice_bounds-parses-count : goal.slice_bounds-parses-count
-slice_bounds-parses-count c = rfind-within _ _ _ (found_some _ _ (sym c.n-1.given.1 ∙ c.rfind.ensures))
+slice_bounds-parses-count c = rfind-within _ _ _ (found_some _ _ (sym c.in-At.is ∙ c.rfind.ensures))
 
 pub slice_bounds-parses-start : goal.slice_bounds-parses-start
-slice_bounds-parses-start c = rfind-within _ _ _ (found_some _ _ (sym c.n-1.given.1 ∙ c.rfind.ensures))
+slice_bounds-parses-start c = rfind-within _ _ _ (found_some _ _ (sym c.in-At.is ∙ c.rfind.ensures))
 
 pub returns-then-parses : goal.returns-then-parses
 returns-then-parses c =
     let a = c.args in
-    let n = c.n-1.given.0.0 in
+    let n = c.in-At.n in
     let e = rw (rest (n + length a.pat.now) a.s.now) at (sym c.parses.ensures ∙ c.if-parses.true) in
-    sym (ap found (cut-some a.pat.now a.s.now n (found_some _ _ (sym c.n-1.given.1 ∙ c.rfind.ensures)) e))
+    sym (ap found (cut-some a.pat.now a.s.now n (found_some _ _ (sym c.in-At.is ∙ c.rfind.ensures)) e))
 
 pub returns : goal.returns
 returns c =
     let a = c.args in
-    let n = c.n-1.given.0.0 in
+    let n = c.in-At.n in
     let e = rw (rest (n + length a.pat.now) a.s.now) at (sym c.parses.ensures ∙ c.if-parses.false) in
-    sym (ap found (cut-other a.pat.now a.s.now n (found_some _ _ (sym c.n-1.given.1 ∙ c.rfind.ensures)) e))
+    sym (ap found (cut-other a.pat.now a.s.now n (found_some _ _ (sym c.in-At.is ∙ c.rfind.ensures)) e))

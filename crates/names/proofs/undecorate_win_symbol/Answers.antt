@@ -34,17 +34,17 @@ slice_bounds-result-end-in-At-cut c =
 pub returns-in-At-cut : goal.returns-in-At-cut
 returns-in-At-cut c =
     let s = c.args.name.now in
-    rw (rest 1 s) (sym (stdcall _ (sym c.starts_with.ensures ∙ c.if-starts_with.false) (sym c.contains.ensures ∙ c.if-contains.false) (found_none _ (sym c.enum_told-1.given.1 ∙ c.cut.ensures)) (sym c.prefixed.ensures ∙ c.if-prefixed.true) _ (found_some _ _ (sym c.n2.given.1 ∙ rw (rest 1 s) at c.cut2.ensures))))
+    rw (rest 1 s) (sym (stdcall _ (sym c.starts_with.ensures ∙ c.if-starts_with.false) (sym c.contains.ensures ∙ c.if-contains.false) (found_none _ (sym c.in_default.is ∙ c.cut.ensures)) (sym c.prefixed.ensures ∙ c.if-prefixed.true) _ (found_some _ _ (sym c.n2.given.1 ∙ rw (rest 1 s) at c.cut2.ensures))))
 
 pub returns-then-starts_with-2 : goal.returns-then-starts_with-2
 returns-then-starts_with-2 c =
     let s = c.args.name.now in
-    rw (rest 1 s) (sym (cdecl _ (sym c.starts_with.ensures ∙ c.if-starts_with.false) (sym c.contains.ensures ∙ c.if-contains.false) (found_none _ (sym c.enum_told-1.given.1 ∙ c.cut.ensures)) (sym c.prefixed.ensures ∙ c.if-prefixed.true) (found_none _ (sym c.enum_told-in_default-cut-1.given.1 ∙ rw (rest 1 s) at c.cut-then-prefixed.ensures)) (sym c.starts_with-then-prefixed.ensures ∙ c.if-starts_with-2.true)))
+    rw (rest 1 s) (sym (cdecl _ (sym c.starts_with.ensures ∙ c.if-starts_with.false) (sym c.contains.ensures ∙ c.if-contains.false) (found_none _ (sym c.in_default.is ∙ c.cut.ensures)) (sym c.prefixed.ensures ∙ c.if-prefixed.true) (found_none _ (sym c.in_default-cut.is ∙ rw (rest 1 s) at c.cut-then-prefixed.ensures)) (sym c.starts_with-then-prefixed.ensures ∙ c.if-starts_with-2.true)))
 
 pub returns-then-prefixed : goal.returns-then-prefixed
 returns-then-prefixed c =
     let s = c.args.name.now in
-    sym (fastcall_kept _ (sym c.starts_with.ensures ∙ c.if-starts_with.false) (sym c.contains.ensures ∙ c.if-contains.false) (found_none _ (sym c.enum_told-1.given.1 ∙ c.cut.ensures)) (sym c.prefixed.ensures ∙ c.if-prefixed.true) (found_none _ (sym c.enum_told-in_default-cut-1.given.1 ∙ rw (rest 1 s) at c.cut-then-prefixed.ensures)) (sym c.starts_with-then-prefixed.ensures ∙ c.if-starts_with-2.false))
+    sym (fastcall_kept _ (sym c.starts_with.ensures ∙ c.if-starts_with.false) (sym c.contains.ensures ∙ c.if-contains.false) (found_none _ (sym c.in_default.is ∙ c.cut.ensures)) (sym c.prefixed.ensures ∙ c.if-prefixed.true) (found_none _ (sym c.in_default-cut.is ∙ rw (rest 1 s) at c.cut-then-prefixed.ensures)) (sym c.starts_with-then-prefixed.ensures ∙ c.if-starts_with-2.false))
 
 pub returns : goal.returns
-returns c = sym (plain _ (sym c.starts_with.ensures ∙ c.if-starts_with.false) (sym c.contains.ensures ∙ c.if-contains.false) (found_none _ (sym c.enum_told-1.given.1 ∙ c.cut.ensures)) (sym c.prefixed.ensures ∙ c.if-prefixed.false))
+returns c = sym (plain _ (sym c.starts_with.ensures ∙ c.if-starts_with.false) (sym c.contains.ensures ∙ c.if-contains.false) (found_none _ (sym c.in_default.is ∙ c.cut.ensures)) (sym c.prefixed.ensures ∙ c.if-prefixed.false))

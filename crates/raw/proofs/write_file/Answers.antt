@@ -4,4 +4,4 @@ use Rattle.raw.proofs.write_file.Goals as goal
 
 pub returns : goal.returns
 unfolding file_bytes_lem
-returns c = c.store_words_lem.ensures
+returns c = c.store_words.ensures

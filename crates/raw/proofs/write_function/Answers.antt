@@ -4,4 +4,4 @@ use Rattle.raw.proofs.write_function.Goals as goal
 
 pub returns : goal.returns
 unfolding function_bytes
-returns c = c.store_words_lem.ensures
+returns c = c.store_words.ensures

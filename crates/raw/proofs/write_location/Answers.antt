@@ -4,4 +4,4 @@ use Rattle.raw.proofs.write_location.Goals as goal
 
 pub returns : goal.returns
 unfolding location_bytes
-returns c = c.store_words_lem.ensures
+returns c = c.store_words.ensures

@@ -4,4 +4,4 @@ use Rattle.raw.proofs.write_version_info.Goals as goal
 
 pub returns : goal.returns
 unfolding version_info_bytes
-returns c = c.store_words_lem.ensures
+returns c = c.store_words.ensures

@@ -4,7 +4,7 @@ use Rattle.steps.specs.Steps.{vacant}
 use Rattle.steps.proofs.is_vacant.Goals as goal
 
 pub returns-in-Absent : goal.returns-in-Absent
-returns-in-Absent c = ap vacant (sym c.enum_told-1.given.1 ∙ c.get-found.ensures)
+returns-in-Absent c = ap vacant (sym c.in-Absent.is ∙ c.get-found.ensures)
 
 pub returns-in-At : goal.returns-in-At
-returns-in-At c = ap vacant (sym c.enum_told-in-At-1.given.1 ∙ c.get-found.ensures)
+returns-in-At c = ap vacant (sym c.in-At.is ∙ c.get-found.ensures)

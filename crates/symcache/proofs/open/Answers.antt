@@ -7,10 +7,10 @@ use Rattle.symcache.proofs.ReaderLaws.{read-ordered, opened-accepted, opened-uno
 use Rattle.symcache.proofs.open.Goals as goal
 
 pub returns-then-is_ascending : goal.returns-then-is_ascending
-returns-then-is_ascending c = opened-accepted c.args.s.now c.parsed-1.given.0.0 ((sym c.parse-parsed.ensures ∙ ap parse_answer c.parsed-1.given.1)) (sym (read-ordered c.args.s.now c.parsed-1.given.0.0 ((sym c.parse-parsed.ensures ∙ ap parse_answer c.parsed-1.given.1))) ∙ (sym c.is_ascending.ensures ∙ c.if-is_ascending.true))
+returns-then-is_ascending c = opened-accepted c.args.s.now c.in-Cache.c ((sym c.parse-parsed.ensures ∙ ap parse_answer c.in-Cache.is)) (sym (read-ordered c.args.s.now c.in-Cache.c ((sym c.parse-parsed.ensures ∙ ap parse_answer c.in-Cache.is))) ∙ (sym c.is_ascending.ensures ∙ c.if-is_ascending.true))
 
 pub returns-else-is_ascending : goal.returns-else-is_ascending
-returns-else-is_ascending c = opened-unordered c.args.s.now c.parsed-1.given.0.0 ((sym c.parse-parsed.ensures ∙ ap parse_answer c.parsed-1.given.1)) (sym (read-ordered c.args.s.now c.parsed-1.given.0.0 ((sym c.parse-parsed.ensures ∙ ap parse_answer c.parsed-1.given.1))) ∙ (sym c.is_ascending.ensures ∙ c.if-is_ascending.false))
+returns-else-is_ascending c = opened-unordered c.args.s.now c.in-Cache.c ((sym c.parse-parsed.ensures ∙ ap parse_answer c.in-Cache.is)) (sym (read-ordered c.args.s.now c.in-Cache.c ((sym c.parse-parsed.ensures ∙ ap parse_answer c.in-Cache.is))) ∙ (sym c.is_ascending.ensures ∙ c.if-is_ascending.false))
 
 pub returns-in-Refused : goal.returns-in-Refused
-returns-in-Refused c = opened-refused c.args.s.now _ (sym c.parse-parsed.ensures ∙ ap parse_answer c.parsed-in-Refused-1.given.1)
+returns-in-Refused c = opened-refused c.args.s.now _ (sym c.parse-parsed.ensures ∙ ap parse_answer c.in-Refused.is)

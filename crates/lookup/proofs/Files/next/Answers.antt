@@ -9,12 +9,12 @@ use Rattle.lookup.proofs.LookupLaws.{then-gives, then-refuses}
 use Rattle.lookup.proofs.Files.next.Goals as goal
 
 pub next_file-requires : goal.next_file-requires
-next_file-requires c = let w = (parsed-within c.args.s.now c.parsed-1.given.0.0 (sym c.parse-parsed.ensures ∙ ap parse_answer c.parsed-1.given.1)).1.files in omega arith
+next_file-requires c = let w = (parsed-within c.args.s.now c.in-Cache.c (sym c.parse-parsed.ensures ∙ ap parse_answer c.in-Cache.is)).1.files in omega arith
 
 pub returns-in-Cache : goal.returns-in-Cache
 unfolding files_next
-returns-in-Cache c = then-gives (parsed c.args.s.now) c.parsed-1.given.0.0 _ _ (sym c.parse-parsed.ensures ∙ ap parse_answer c.parsed-1.given.1) c.next_file.ensures
+returns-in-Cache c = then-gives (parsed c.args.s.now) c.in-Cache.c _ _ (sym c.parse-parsed.ensures ∙ ap parse_answer c.in-Cache.is) c.next_file.ensures
 
 pub returns-in-Refused : goal.returns-in-Refused
 unfolding files_next
-returns-in-Refused c = then-refuses (parsed c.args.s.now) _ _ (sym c.parse-parsed.ensures ∙ ap parse_answer c.parsed-in-Refused-1.given.1)
+returns-in-Refused c = then-refuses (parsed c.args.s.now) _ _ (sym c.parse-parsed.ensures ∙ ap parse_answer c.in-Refused.is)

@@ -8,12 +8,12 @@ use Rattle.lookup.proofs.LookupLaws.{then-gives, then-refuses}
 use Rattle.lookup.proofs.SourceLocations.next.Goals as goal
 
 pub step_in-requires : goal.step_in-requires
-step_in-requires c = let w = (parsed-within c.args.s.now c.parsed-1.given.0.0 (sym c.parse-parsed.ensures ∙ ap parse_answer c.parsed-1.given.1)).1 in w
+step_in-requires c = let w = (parsed-within c.args.s.now c.in-Cache.c (sym c.parse-parsed.ensures ∙ ap parse_answer c.in-Cache.is)).1 in w
 
 pub returns-in-Cache : goal.returns-in-Cache
 unfolding stepped
-returns-in-Cache c = then-gives (parsed c.args.s.now) c.parsed-1.given.0.0 _ _ (sym c.parse-parsed.ensures ∙ ap parse_answer c.parsed-1.given.1) c.step_in.ensures
+returns-in-Cache c = then-gives (parsed c.args.s.now) c.in-Cache.c _ _ (sym c.parse-parsed.ensures ∙ ap parse_answer c.in-Cache.is) c.step_in.ensures
 
 pub returns-in-Refused : goal.returns-in-Refused
 unfolding stepped
-returns-in-Refused c = then-refuses (parsed c.args.s.now) _ _ (sym c.parse-parsed.ensures ∙ ap parse_answer c.parsed-in-Refused-1.given.1)
+returns-in-Refused c = then-refuses (parsed c.args.s.now) _ _ (sym c.parse-parsed.ensures ∙ ap parse_answer c.in-Refused.is)
