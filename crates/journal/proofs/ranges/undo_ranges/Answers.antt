@@ -22,4 +22,4 @@ pub shape_of-journal : goal.shape_of-journal
 shape_of-journal c = c.loop-m.invariant.1
 
 pub returns : goal.returns
-returns c = let a = c.args insym (ranges-done a.to c.loop-m.t c.loop-m.journal c.loop-m.m c.loop-m-test.false) ∙ c.loop-m.invariant.2
+returns c = let a = c.args in sym (ranges-done a.to c.loop-m.t c.loop-m.journal c.loop-m.m c.loop-m-test.false) ∙ c.loop-m.invariant.2
