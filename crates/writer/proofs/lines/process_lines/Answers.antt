@@ -23,7 +23,7 @@ loop-next_line-init c =
       refl,
       refl,
       refl,
-      keeps_start a.function.lines a.own.others.at a.own.others.len a.inlinee_ranges.at a.inlinee_ranges.len a.s.now c.pre.room c.pre.apart,
+      keeps_start a.function.lines a.own.others.at a.own.others.len a.inlinee_ranges.at a.inlinee_ranges.len a.s.now c.requires.room c.requires.apart,
       λ X f64 f32 g i e. goes-start ((let a = c.args in
     fixed ((columns f64 f32 c.args.lines64.now c.args.lines32.now c.args.text.now)) i a.first_line a.function_idx a.function.lines a.own.others a.own.first a.inlinee_ranges.at a.inlinee_ranges.len a.s.now X
     (words a.state a.string_bytes.now a.strings.now a.files.now g a.call_locations.now a.ranges.now))),
