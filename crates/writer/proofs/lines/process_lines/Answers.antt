@@ -183,27 +183,27 @@ loop-next_line-smaller-then-address-current_address c = omega (arith, c.loop-nex
 pub overflow_mul-k : goal.overflow_mul-k
 overflow_mul-k c =
     omega (arith, (let i = c.loop-current_address.invariant.2 (switches true true) [] in
-    omega (arith, i.room, c.if-inline_len-next_inline.false, c.loop-next_line.invariant.5.len, c.good.1.1.1.1.1.1.0.0)))
+    omega (arith, i.room, c.if-inline_len-next_inline.false, c.loop-next_line.invariant.5.len, c.well_formed.1.1.1.1.1.1.0.0)))
 
 pub overflow_add-k : goal.overflow_add-k
 overflow_add-k c =
     omega (arith, (let i = c.loop-current_address.invariant.2 (switches true true) [] in
-    omega (arith, i.room, c.if-inline_len-next_inline.false, c.loop-next_line.invariant.5.len, c.good.1.1.1.1.1.1.0.0)))
+    omega (arith, i.room, c.if-inline_len-next_inline.false, c.loop-next_line.invariant.5.len, c.well_formed.1.1.1.1.1.1.0.0)))
 
 pub overflow_add-k-in-loop-current_address : goal.overflow_add-k-in-loop-current_address
 overflow_add-k-in-loop-current_address c =
     omega (arith, (let i = c.loop-next_line.invariant.2 (switches true true) [] in
-    omega (arith, i.room, c.if-inline_len-next_inline.false, c.loop-next_line.invariant.5.len, c.good.1.1.1.1.1.1.0.0)))
+    omega (arith, i.room, c.if-inline_len-next_inline.false, c.loop-next_line.invariant.5.len, c.well_formed.1.1.1.1.1.1.0.0)))
 
 pub overflow_add-k-in-loop-current_address-2 : goal.overflow_add-k-in-loop-current_address-2
 overflow_add-k-in-loop-current_address-2 c =
     omega (arith, (let i = c.loop-next_line.invariant.2 (switches true true) [] in
-    omega (arith, i.room, c.if-inline_len-next_inline.false, c.loop-next_line.invariant.5.len, c.good.1.1.1.1.1.1.0.0)))
+    omega (arith, i.room, c.if-inline_len-next_inline.false, c.loop-next_line.invariant.5.len, c.well_formed.1.1.1.1.1.1.0.0)))
 
 pub overflow_add-next_inline : goal.overflow_add-next_inline
 overflow_add-next_inline c =
     omega (arith, (let i = c.loop-next_line.invariant.2 (switches true true) [] in
-    omega (arith, i.room, c.if-inline_len-next_inline.false, c.loop-next_line.invariant.5.len, c.good.1.1.1.1.1.1.0.0)))
+    omega (arith, i.room, c.if-inline_len-next_inline.false, c.loop-next_line.invariant.5.len, c.well_formed.1.1.1.1.1.1.0.0)))
 
 pub loop-current_address-smaller : goal.loop-current_address-smaller
 loop-current_address-smaller c = falls_more c.if-inline_len-next_inline.false

@@ -50,18 +50,18 @@ returns c =
     (c.close_function-closed.ensures X (tree_row k i first) c.process_lines-lines.new.string_bytes c.process_lines-lines.new.strings c.process_lines-lines.new.files functions calls address size inline low) c.set_calls.ensures n
 
 pub overflow_mul-at : goal.overflow_mul-at
-overflow_mul-at c = omega (arith, c.requires.ready.room, c.good.1.1.1.1.1.1.1.1.0)
+overflow_mul-at c = omega (arith, c.requires.ready.room, c.well_formed.1.1.1.1.1.1.1.1.0)
 
 pub overflow_add-at : goal.overflow_add-at
-overflow_add-at c = omega (arith, c.requires.ready.room, c.good.1.1.1.1.1.1.1.1.0)
+overflow_add-at c = omega (arith, c.requires.ready.room, c.well_formed.1.1.1.1.1.1.1.1.0)
 
 pub overflow_add-row : goal.overflow_add-row
-overflow_add-row c = omega (arith, c.requires.ready.inside, c.good.1.1.1.1.1.1.1.1.1.0)
+overflow_add-row c = omega (arith, c.requires.ready.inside, c.well_formed.1.1.1.1.1.1.1.1.1.0)
 
 pub overflow_add-row-2 : goal.overflow_add-row-2
 overflow_add-row-2 c =
     omega (arith, (let a = c.args in
-    lines-room a.functions64.now a.functions32.now a.lines64.now a.lines32.now a.text.now a.base a.row.i a.row.first_line (length a.s.now) a.own.top c.requires.ready a.row.function c.requires.is), c.good.1.1.1.1.1.1.1.1.1.1.1.0)
+    lines-room a.functions64.now a.functions32.now a.lines64.now a.lines32.now a.text.now a.base a.row.i a.row.first_line (length a.s.now) a.own.top c.requires.ready a.row.function c.requires.is), c.well_formed.1.1.1.1.1.1.1.1.1.1.1.0)
 
 pub shape_of-string_bytes : goal.shape_of-string_bytes
 shape_of-string_bytes c = c.process_lines-lines.auto.string_bytes ∙ c.begin_row-begun.auto.string_bytes
