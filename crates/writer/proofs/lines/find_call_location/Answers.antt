@@ -8,8 +8,7 @@ use Rattle.writer.proofs.lines.find_call_location.Goals as goal
 
 pub returns-then-line_range_start-word : goal.returns-then-line_range_start-word
 returns-then-line_range_start-word c =
-    let a = c.args in
-    (
+    let a = c.args in (
       c.loop-next_call_location.invariant.0,
       c.loop-next_call_location.invariant.1
           ∙ cursor-stays a.s.now a.others.at a.others.len a.line_range_start c.loop-next_call_location.current_call_location c.loop-next_call_location.next_call_location c.loop-next_call_location-test.true
@@ -18,8 +17,7 @@ returns-then-line_range_start-word c =
 
 pub loop-next_call_location-preserved : goal.loop-next_call_location-preserved
 loop-next_call_location-preserved c =
-    let a = c.args in
-    (
+    let a = c.args in (
       omega arith,
       c.loop-next_call_location.invariant.1
           ∙ cursor-moves a.s.now a.others.at a.others.len a.line_range_start c.loop-next_call_location.current_call_location c.loop-next_call_location.next_call_location c.loop-next_call_location-test.true

@@ -32,11 +32,11 @@ loop-r-preserved c =
     let h = c.loop-r-test.true in
     let k = (columns c.args.functions64.now c.args.functions32.now c.args.lines64.now c.args.lines32.now []) in
     elim c.if-d-depth-2.branch [
-      then-d-depth-2 w ↦ rw (w.line-is, w.n-is)
-      (gathers_push k a.depth a.at a.i a.first a.s.now c.loop-r.s c.loop-r.r c.loop-r.line c.loop-r.n c.loop-r.invariant c.function_row-q.result c.function_row-q.ensures h w.if-d-depth-2.true _
-      (w.push_lines.ensures a.functions64.now a.functions32.now []) w.push_lines.auto.s)
+      | then-d-depth-2 w ↦ rw (w.line-is, w.n-is)
+          (gathers_push k a.depth a.at a.i a.first a.s.now c.loop-r.s c.loop-r.r c.loop-r.line c.loop-r.n c.loop-r.invariant c.function_row-q.result c.function_row-q.ensures h w.if-d-depth-2.true _
+          (w.push_lines.ensures a.functions64.now a.functions32.now []) w.push_lines.auto.s)
       | else-d-depth-2 w ↦ rw (w.line-is, w.n-is)
-      (gathers_pass k a.depth a.at a.i a.first a.s.now c.loop-r.s c.loop-r.r c.loop-r.line c.loop-r.n c.loop-r.invariant c.function_row-q.result c.function_row-q.ensures h c.if-d-depth.false w.if-d-depth-2.false)
+          (gathers_pass k a.depth a.at a.i a.first a.s.now c.loop-r.s c.loop-r.r c.loop-r.line c.loop-r.n c.loop-r.invariant c.function_row-q.result c.function_row-q.ensures h c.if-d-depth.false w.if-d-depth-2.false)
     ]
 
 pub returns : goal.returns

@@ -15,8 +15,7 @@ loop-i-init c =
 
 pub loop-i-preserved : goal.loop-i-preserved
 loop-i-preserved c =
-    let a = c.args in
-    (
+    let a = c.args in (
       omega arith,
       c.put-in-loop-i.auto.t ∙ c.put.auto.t ∙ c.loop-i.invariant.1,
       λ f g t.

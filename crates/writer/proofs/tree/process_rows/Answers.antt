@@ -18,33 +18,39 @@ as_long : (k : Columns) {m n : ℕ} → m ≡ n → tree_refusal k n ≡ 0 → t
 as_long k e p = rw e p
 
 pub loop-i-init : goal.loop-i-init
-loop-i-init c =
-    (refl, refl, refl, refl, refl, refl, λ Y. starts (over_words (switches c.args.undecorate Y)) ((let a = c.args in columns a.functions64.now a.functions32.now a.lines64.now a.lines32.now a.text.now)) (length c.read_ahead.new.s) ((let a = c.args in words a.state a.string_bytes.now a.strings.now a.files.now a.functions.now a.call_locations.now a.ranges.now)) ((accepted ((let a = c.args in columns a.functions64.now a.functions32.now a.lines64.now a.lines32.now a.text.now)) (length c.read_ahead.new.s)
-    (as_long ((let a = c.args in columns a.functions64.now a.functions32.now a.lines64.now a.lines32.now a.text.now)) c.read_ahead.auto.s c.requires))) refl c.read_ahead.new.s refl)
+loop-i-init c = (
+  refl,
+  refl,
+  refl,
+  refl,
+  refl,
+  refl,
+  λ Y. starts (over_words (switches c.args.undecorate Y)) ((let a = c.args in columns a.functions64.now a.functions32.now a.lines64.now a.lines32.now a.text.now)) (length c.read_ahead.new.s) ((let a = c.args in words a.state a.string_bytes.now a.strings.now a.files.now a.functions.now a.call_locations.now a.ranges.now)) ((accepted ((let a = c.args in columns a.functions64.now a.functions32.now a.lines64.now a.lines32.now a.text.now)) (length c.read_ahead.new.s)
+      (as_long ((let a = c.args in columns a.functions64.now a.functions32.now a.lines64.now a.lines32.now a.text.now)) c.read_ahead.auto.s c.requires))) refl c.read_ahead.new.s refl,
+)
 
 pub process_row-now-requires : goal.process_row-now-requires
 process_row-now-requires c =
     record {
       is = c.function_row-function.ensures;
       ready = row-ready ((let a = c.args in columns a.functions64.now a.functions32.now a.lines64.now a.lines32.now a.text.now)) (length c.read_ahead.new.s) (switches c.args.undecorate true) ((let a = c.args in words a.state a.string_bytes.now a.strings.now a.files.now a.functions.now a.call_locations.now a.ranges.now)) ((accepted ((let a = c.args in columns a.functions64.now a.functions32.now a.lines64.now a.lines32.now a.text.now)) (length c.read_ahead.new.s)
-    (as_long ((let a = c.args in columns a.functions64.now a.functions32.now a.lines64.now a.lines32.now a.text.now)) c.read_ahead.auto.s c.requires))) c.loop-i.s c.loop-i.i c.loop-i.first_line ((words c.loop-i.now c.loop-i.string_bytes c.loop-i.strings c.loop-i.files c.loop-i.functions c.loop-i.call_locations c.loop-i.ranges)) (c.loop-i.invariant.6 true) c.loop-i-test.true;
+          (as_long ((let a = c.args in columns a.functions64.now a.functions32.now a.lines64.now a.lines32.now a.text.now)) c.read_ahead.auto.s c.requires))) c.loop-i.s c.loop-i.i c.loop-i.first_line ((words c.loop-i.now c.loop-i.string_bytes c.loop-i.strings c.loop-i.files c.loop-i.functions c.loop-i.call_locations c.loop-i.ranges)) (c.loop-i.invariant.6 true) c.loop-i-test.true;
     }
 
 pub loop-i-preserved : goal.loop-i-preserved
-loop-i-preserved c =
-    (
-      c.process_row-now.auto.string_bytes ∙ c.loop-i.invariant.0,
-      c.process_row-now.auto.strings ∙ c.loop-i.invariant.1,
-      c.process_row-now.auto.files ∙ c.loop-i.invariant.2,
-      c.process_row-now.auto.functions ∙ c.loop-i.invariant.3,
-      c.process_row-now.auto.call_locations ∙ c.loop-i.invariant.4,
-      c.process_row-now.auto.ranges ∙ c.loop-i.invariant.5,
-      λ Y.
-          row-after ((let a = c.args in columns a.functions64.now a.functions32.now a.lines64.now a.lines32.now a.text.now)) (length c.read_ahead.new.s) (switches c.args.undecorate Y) ((let a = c.args in words a.state a.string_bytes.now a.strings.now a.files.now a.functions.now a.call_locations.now a.ranges.now)) ((accepted ((let a = c.args in columns a.functions64.now a.functions32.now a.lines64.now a.lines32.now a.text.now)) (length c.read_ahead.new.s)
-    (as_long ((let a = c.args in columns a.functions64.now a.functions32.now a.lines64.now a.lines32.now a.text.now)) c.read_ahead.auto.s c.requires))) c.loop-i.s c.loop-i.i c.loop-i.first_line ((words c.loop-i.now c.loop-i.string_bytes c.loop-i.strings c.loop-i.files c.loop-i.functions c.loop-i.call_locations c.loop-i.ranges)) (c.loop-i.invariant.6 Y) c.loop-i-test.true
-          c.function_row-function.result c.function_row-function.ensures c.process_row-now.new.s (words c.process_row-now.result c.process_row-now.new.string_bytes c.process_row-now.new.strings c.process_row-now.new.files c.process_row-now.new.functions c.process_row-now.new.call_locations c.process_row-now.new.ranges)
-          (c.process_row-now.ensures Y) c.process_row-now.auto.s,
-    )
+loop-i-preserved c = (
+  c.process_row-now.auto.string_bytes ∙ c.loop-i.invariant.0,
+  c.process_row-now.auto.strings ∙ c.loop-i.invariant.1,
+  c.process_row-now.auto.files ∙ c.loop-i.invariant.2,
+  c.process_row-now.auto.functions ∙ c.loop-i.invariant.3,
+  c.process_row-now.auto.call_locations ∙ c.loop-i.invariant.4,
+  c.process_row-now.auto.ranges ∙ c.loop-i.invariant.5,
+  λ Y.
+      row-after ((let a = c.args in columns a.functions64.now a.functions32.now a.lines64.now a.lines32.now a.text.now)) (length c.read_ahead.new.s) (switches c.args.undecorate Y) ((let a = c.args in words a.state a.string_bytes.now a.strings.now a.files.now a.functions.now a.call_locations.now a.ranges.now)) ((accepted ((let a = c.args in columns a.functions64.now a.functions32.now a.lines64.now a.lines32.now a.text.now)) (length c.read_ahead.new.s)
+      (as_long ((let a = c.args in columns a.functions64.now a.functions32.now a.lines64.now a.lines32.now a.text.now)) c.read_ahead.auto.s c.requires))) c.loop-i.s c.loop-i.i c.loop-i.first_line ((words c.loop-i.now c.loop-i.string_bytes c.loop-i.strings c.loop-i.files c.loop-i.functions c.loop-i.call_locations c.loop-i.ranges)) (c.loop-i.invariant.6 Y) c.loop-i-test.true
+      c.function_row-function.result c.function_row-function.ensures c.process_row-now.new.s (words c.process_row-now.result c.process_row-now.new.string_bytes c.process_row-now.new.strings c.process_row-now.new.files c.process_row-now.new.functions c.process_row-now.new.call_locations c.process_row-now.new.ranges)
+      (c.process_row-now.ensures Y) c.process_row-now.auto.s,
+)
 
 pub returns : goal.returns
 returns c =

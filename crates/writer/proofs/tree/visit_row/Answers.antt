@@ -60,8 +60,12 @@ overflow_add-row c = omega (arith, c.requires.ready.inside, c.well_formed.1.1.1.
 
 pub overflow_add-row-2 : goal.overflow_add-row-2
 overflow_add-row-2 c =
-    omega (arith, (let a = c.args in
-    lines-room a.functions64.now a.functions32.now a.lines64.now a.lines32.now a.text.now a.base a.row.i a.row.first_line (length a.s.now) a.own.top c.requires.ready a.row.function c.requires.is), c.well_formed.1.1.1.1.1.1.1.1.1.1.1.0)
+    omega (
+      arith,
+      (let a = c.args in
+          lines-room a.functions64.now a.functions32.now a.lines64.now a.lines32.now a.text.now a.base a.row.i a.row.first_line (length a.s.now) a.own.top c.requires.ready a.row.function c.requires.is),
+      c.well_formed.1.1.1.1.1.1.1.1.1.1.1.0,
+    )
 
 pub shape_of-string_bytes : goal.shape_of-string_bytes
 shape_of-string_bytes c = c.process_lines-lines.auto.string_bytes ∙ c.begin_row-begun.auto.string_bytes
