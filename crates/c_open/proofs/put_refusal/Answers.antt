@@ -3,13 +3,10 @@ use Prim.Native.Nat.{ℕ}
 use native.Mathlib.Omega.{arith}
 use mathlib.Core.Path.{◌≡◌, refl, sym, ◌∙◌}
 use mathlib.Core.List.{List, [], ◌∷◌}
-use types.Run.{OneOf, miss}
-use denote.Enum.Declared.{tag_of}
 use lib.ListN.{set}
 use Rattle.symcache.specs.Answers.{refusal_of}
 use Rattle.symcache.specs.declared.ErrorKind.{ErrorKind}
 use Rattle.symcache.specs.declared.ErrorKind.TheVariants as kind
-use Rattle.symcache.specs.contracts.ErrorKind.{the_type}
 use Rattle.c_reading.specs.Reading.{filled, refused}
 use Rattle.c_reading.proofs.ReadLaws.{refused_else, refused_ten}
 use Rattle.c_open.proofs.put_refusal.Goals as goal
@@ -18,11 +15,8 @@ ten : (k : ErrorKind) (e f : ℕ) (t : List ℕ) {t₁ t₂ : List ℕ} → k �
     → filled 10 t₂ ≡ refused (refusal_of k) t
 ten k e f t p h₁ h₂ = rw p (refused_ten (refusal_of (kind.UnexpectedStringBytes e f)) 10 e f t refl refl refl refl h₁ h₂)
 
--- the variants but that one, by their places in the enum
-abbrev others : List ℕ
-others = 0 ∷ 1 ∷ 2 ∷ 3 ∷ 4 ∷ 5 ∷ 6 ∷ 7 ∷ 8 ∷ 10 ∷ 11 ∷ []
-
-not-ten : (k : ErrorKind) → OneOf others (tag_of the_type k) → (refusal_of k).number ≡ 10 → ⊥
+-- no other variant has the number 10
+not-ten : (k : ErrorKind) → ((x y : ℕ) → k ≡ kind.UnexpectedStringBytes x y → ⊥) → (refusal_of k).number ≡ 10 → ⊥
 not-ten kind.TooShort h e = omega arith
 not-ten kind.WrongEndianness h e = omega arith
 not-ten kind.WrongFormat h e = omega arith
@@ -32,7 +26,7 @@ not-ten kind.InvalidFiles h e = omega arith
 not-ten kind.InvalidFunctions h e = omega arith
 not-ten kind.InvalidSourceLocations h e = omega arith
 not-ten kind.InvalidRanges h e = omega arith
-not-ten (kind.UnexpectedStringBytes x y) h e = miss others 9 tt h
+not-ten (kind.UnexpectedStringBytes x y) h e = absurd (h x y refl)
 not-ten kind.InvalidVariableHeader h e = omega arith
 not-ten kind.UnorderedRanges h e = omega arith
 
@@ -44,4 +38,4 @@ returns-in-UnexpectedStringBytes c =
 pub returns-in_default : goal.returns-in_default
 returns-in_default c =
     let a = c.args in
-    refused_else (refusal_of a.kind) c.number.result a.cache.now c.number.ensures (λ p. not-ten a.kind c.in_default.keys2 (sym c.number.ensures ∙ p))
+    refused_else (refusal_of a.kind) c.number.result a.cache.now c.number.ensures (λ p. not-ten a.kind c.in_default.not-UnexpectedStringBytes (sym c.number.ensures ∙ p))

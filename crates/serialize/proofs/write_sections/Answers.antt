@@ -24,7 +24,7 @@ write_texts-requires c = (c.requires.texts_there, texts_fit c.args.converter.sta
 pub returns : goal.returns
 returns c =
     let a = c.args in
-    let id = (search (rules, c.well_formed.1.0)) in
+    let id : length c.args.converter.debug_id ≡ 32 = search rules in
     λ i.
     sections-written a.converter (memory a.string_bytes.now i a.files.now a.functions.now a.call_locations.now a.ranges.now) id c.lay_out-at.result c.lay_out-at.ensures a.out.now
     c.write_head.new.out

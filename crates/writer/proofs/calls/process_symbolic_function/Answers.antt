@@ -46,6 +46,6 @@ returns c =
     c.lent-tables.ensures c.is_usable.ensures (not-false _ c.if-not-is_usable.false-raw) c.refusal-refused.ensures c.if-refused-ne0.false
     {w = words c.process_rows-state.result c.process_rows-state.new.string_bytes c.process_rows-state.new.strings c.process_rows-state.new.files c.process_rows-state.new.functions c.process_rows-state.new.call_locations c.process_rows-state.new.ranges} (c.process_rows-state.ensures a.converter.undecorate_symbols)
     c.process_rows-state.new.s c.process_rows-state.auto.s {s₂ = c.zero.new.t} c.zero.ensures
-    {lines = c.clamped_lines_in.result} c.clamped_lines_in.ensures
+    {lines = c.clamped_lines.result} c.clamped_lines.ensures
     {c₁ = c.with_clamped-counted.result} c.with_clamped-counted.ensures
     {n = c.finish.result.code} {c₂ = c.finish.result.converter} {m₂ = memory c.finish.new.string_bytes c.finish.new.strings c.finish.new.files c.finish.new.functions c.finish.new.call_locations c.finish.new.ranges} (c.finish.ensures a.scratch.now)

@@ -72,12 +72,12 @@ pub loop-current_address-preserved : goal.loop-current_address-preserved
 loop-current_address-preserved c =
     let r = c.args.inlinee_ranges in
     let b = c.line_boundaries-line_range.result in (
-      c.insert_call_location-call_location.auto.call_locations ∙ c.loop-next_line.invariant.0,
-      c.insert_self_range-now.auto.ranges ∙ c.loop-next_line.invariant.1,
+      c.insert_call_location-call_location.auto.call_locations ∙ c.loop-current_address.invariant.0,
+      c.insert_self_range-now.auto.ranges ∙ c.loop-current_address.invariant.1,
       λ X g.
           range_taken input (over_words X) r.at r.len c.locate_line-located.result.location b.end c.loop-next_line.s c.loop-next_line.next_inline b.start ((words c.locate_line-located.result.state c.locate_line-located.new.string_bytes c.locate_line-located.new.strings c.locate_line-located.new.files g c.loop-next_line.call_locations c.loop-next_line.ranges))
-          c.loop-next_line.s c.loop-next_line.next_inline c.loop-next_line.current_address ((words c.loop-next_line.now c.locate_line-located.new.string_bytes c.locate_line-located.new.strings c.locate_line-located.new.files g c.loop-next_line.call_locations c.loop-next_line.ranges)) (c.loop-next_line.invariant.2 X g) c.if-line_range_end-current_address.false c.if-inline_len-next_inline.false
-          c.word-inline_start.result c.word-inline_start.ensures ((words c.insert_self_range-now.result c.locate_line-located.new.string_bytes c.locate_line-located.new.strings c.locate_line-located.new.files g c.loop-next_line.call_locations c.insert_self_range-now.new.ranges)) (c.insert_self_range-now.ensures c.locate_line-located.new.string_bytes c.locate_line-located.new.strings c.locate_line-located.new.files g c.loop-next_line.call_locations) c.if-line_range_end-inline_start.false
+          c.loop-current_address.s c.loop-current_address.next_inline c.loop-current_address.current_address ((words c.loop-current_address.now c.locate_line-located.new.string_bytes c.locate_line-located.new.strings c.locate_line-located.new.files g c.loop-current_address.call_locations c.loop-current_address.ranges)) (c.loop-current_address.invariant.2 X g) c.if-line_range_end-current_address.false c.if-inline_len-next_inline.false
+          c.word-inline_start.result c.word-inline_start.ensures ((words c.insert_self_range-now.result c.locate_line-located.new.string_bytes c.locate_line-located.new.strings c.locate_line-located.new.files g c.loop-current_address.call_locations c.insert_self_range-now.new.ranges)) (c.insert_self_range-now.ensures c.locate_line-located.new.string_bytes c.locate_line-located.new.strings c.locate_line-located.new.files g c.loop-current_address.call_locations) c.if-line_range_end-inline_start.false
           c.word-inline_end.result c.insert_call_location-call_location.result.index
           (words c.insert_call_location-call_location.result.state c.locate_line-located.new.string_bytes c.locate_line-located.new.strings c.locate_line-located.new.files g c.insert_call_location-call_location.new.call_locations c.insert_self_range-now.new.ranges) c.put.new.t
           c.word-inline_end.ensures (c.insert_call_location-call_location.ensures c.locate_line-located.new.string_bytes c.locate_line-located.new.strings c.locate_line-located.new.files g c.insert_self_range-now.new.ranges) c.put.ensures,
@@ -143,22 +143,22 @@ loop-next_line-preserved c =
       c.locate_line-located.auto.string_bytes ∙ c.loop-next_line.invariant.0,
       c.locate_line-located.auto.strings ∙ c.loop-next_line.invariant.1,
       c.locate_line-located.auto.files ∙ c.loop-next_line.invariant.2,
-      c.loop-next_line.invariant.0 ∙ c.loop-next_line.invariant.3,
-      c.insert_self_range-now.auto.ranges ∙ c.loop-next_line.invariant.1 ∙ c.loop-next_line.invariant.4,
+      c.loop-current_address.invariant.0 ∙ c.loop-next_line.invariant.3,
+      c.insert_self_range-now.auto.ranges ∙ c.loop-current_address.invariant.1 ∙ c.loop-next_line.invariant.4,
       (let a = c.args in
-          let i = c.loop-next_line.invariant.2 (switches true true) [] in
+          let i = c.loop-current_address.invariant.2 (switches true true) [] in
           keeps_done a.function.lines a.own.others.at a.own.others.len a.inlinee_ranges.at a.inlinee_ranges.len a.s.now
           c.loop-next_line.s c.loop-next_line.next_line c.loop-next_line.call_location_iter.next_call_location c.loop-next_line.next_inline c.loop-next_line.invariant.5 c.loop-next_line-test.true
-          c.find_call_location-call_location_iter.result.next_call_location c.find_call_location-call_location_iter.ensures.0 c.loop-next_line.s c.loop-next_line.next_inline i.kept i.len i.few),
+          c.find_call_location-call_location_iter.result.next_call_location c.find_call_location-call_location_iter.ensures.0 c.loop-current_address.s c.loop-current_address.next_inline i.kept i.len i.few),
       λ X f64 f32 g i e.
           (line-walked ((let a = c.args in
           fixed ((columns f64 f32 c.args.lines64.now c.args.lines32.now c.args.text.now)) i a.first_line a.function_idx a.function.lines a.own.others a.own.first a.inlinee_ranges.at a.inlinee_ranges.len a.s.now X
           (words a.state a.string_bytes.now a.strings.now a.files.now g a.call_locations.now a.ranges.now))) c.loop-next_line.s c.loop-next_line.next_line c.loop-next_line.call_location_iter c.loop-next_line.next_inline c.loop-next_line.current_address ((words c.loop-next_line.now c.loop-next_line.string_bytes c.loop-next_line.strings c.loop-next_line.files g c.loop-next_line.call_locations c.loop-next_line.ranges))
           (c.loop-next_line.invariant.6 X f64 f32 g i e) c.loop-next_line-test.true c.line_row-line.result c.line_row-line.ensures c.loop-next_line.invariant.5.apart c.line_boundaries-line_range.result c.line_boundaries-line_range.ensures c.if-address-current_address.false
           c.comp_dir_part-comp_dir.result e c.find_call_location-call_location_iter.result c.find_call_location-call_location_iter.ensures.0 c.find_call_location-call_location_iter.ensures.1
-          c.locate_line-located.result.location ((words c.locate_line-located.result.state c.locate_line-located.new.string_bytes c.locate_line-located.new.strings c.locate_line-located.new.files g c.loop-next_line.call_locations c.loop-next_line.ranges)) (c.locate_line-located.ensures g c.loop-next_line.call_locations c.loop-next_line.ranges) c.loop-next_line.s c.loop-next_line.next_inline b.end ((words c.insert_self_range-now.result c.locate_line-located.new.string_bytes c.locate_line-located.new.strings c.locate_line-located.new.files g c.loop-next_line.call_locations c.insert_self_range-now.new.ranges)) (range_after input (over_words X) r.at r.len c.locate_line-located.result.location b.end c.loop-next_line.s c.loop-next_line.next_inline b.start ((words c.locate_line-located.result.state c.locate_line-located.new.string_bytes c.locate_line-located.new.strings c.locate_line-located.new.files g c.loop-next_line.call_locations c.loop-next_line.ranges))
-          c.loop-next_line.s c.loop-next_line.next_inline c.loop-next_line.current_address ((words c.loop-next_line.now c.locate_line-located.new.string_bytes c.locate_line-located.new.strings c.locate_line-located.new.files g c.loop-next_line.call_locations c.loop-next_line.ranges)) (c.loop-next_line.invariant.2 X g) c.if-line_range_end-current_address.false c.if-inline_len-next_inline.false
-          c.word-inline_start.result c.word-inline_start.ensures ((words c.insert_self_range-now.result c.locate_line-located.new.string_bytes c.locate_line-located.new.strings c.locate_line-located.new.files g c.loop-next_line.call_locations c.insert_self_range-now.new.ranges)) (c.insert_self_range-now.ensures c.locate_line-located.new.string_bytes c.locate_line-located.new.strings c.locate_line-located.new.files g c.loop-next_line.call_locations) c.if-line_range_end-inline_start.true)),
+          c.locate_line-located.result.location ((words c.locate_line-located.result.state c.locate_line-located.new.string_bytes c.locate_line-located.new.strings c.locate_line-located.new.files g c.loop-next_line.call_locations c.loop-next_line.ranges)) (c.locate_line-located.ensures g c.loop-next_line.call_locations c.loop-next_line.ranges) c.loop-current_address.s c.loop-current_address.next_inline b.end ((words c.insert_self_range-now.result c.locate_line-located.new.string_bytes c.locate_line-located.new.strings c.locate_line-located.new.files g c.loop-current_address.call_locations c.insert_self_range-now.new.ranges)) (range_after input (over_words X) r.at r.len c.locate_line-located.result.location b.end c.loop-next_line.s c.loop-next_line.next_inline b.start ((words c.locate_line-located.result.state c.locate_line-located.new.string_bytes c.locate_line-located.new.strings c.locate_line-located.new.files g c.loop-next_line.call_locations c.loop-next_line.ranges))
+          c.loop-current_address.s c.loop-current_address.next_inline c.loop-current_address.current_address ((words c.loop-current_address.now c.locate_line-located.new.string_bytes c.locate_line-located.new.strings c.locate_line-located.new.files g c.loop-current_address.call_locations c.loop-current_address.ranges)) (c.loop-current_address.invariant.2 X g) c.if-line_range_end-current_address.false c.if-inline_len-next_inline.false
+          c.word-inline_start.result c.word-inline_start.ensures ((words c.insert_self_range-now.result c.locate_line-located.new.string_bytes c.locate_line-located.new.strings c.locate_line-located.new.files g c.loop-current_address.call_locations c.insert_self_range-now.new.ranges)) (c.insert_self_range-now.ensures c.locate_line-located.new.string_bytes c.locate_line-located.new.strings c.locate_line-located.new.files g c.loop-current_address.call_locations) c.if-line_range_end-inline_start.true)),
     )
 
 pub returns : goal.returns
@@ -177,43 +177,28 @@ loop-next_line-smaller-then-address-current_address c = omega (arith, c.loop-nex
 
 pub overflow_mul-k : goal.overflow_mul-k
 overflow_mul-k c =
-    omega (
-      arith,
-      (let i = c.loop-current_address.invariant.2 (switches true true) [] in
-          omega (arith, i.room, c.if-inline_len-next_inline.false, c.loop-next_line.invariant.5.len, c.well_formed.1.1.1.1.1.1.0.0)),
-    )
+    let i = c.loop-current_address.invariant.2 (switches true true) [] in
+    omega (arith, i.room, c.if-inline_len-next_inline.false, c.loop-next_line.invariant.5.len)
 
 pub overflow_add-k : goal.overflow_add-k
 overflow_add-k c =
-    omega (
-      arith,
-      (let i = c.loop-current_address.invariant.2 (switches true true) [] in
-          omega (arith, i.room, c.if-inline_len-next_inline.false, c.loop-next_line.invariant.5.len, c.well_formed.1.1.1.1.1.1.0.0)),
-    )
+    let i = c.loop-current_address.invariant.2 (switches true true) [] in
+    omega (arith, i.room, c.if-inline_len-next_inline.false, c.loop-next_line.invariant.5.len)
 
 pub overflow_add-k-in-loop-current_address : goal.overflow_add-k-in-loop-current_address
 overflow_add-k-in-loop-current_address c =
-    omega (
-      arith,
-      (let i = c.loop-next_line.invariant.2 (switches true true) [] in
-          omega (arith, i.room, c.if-inline_len-next_inline.false, c.loop-next_line.invariant.5.len, c.well_formed.1.1.1.1.1.1.0.0)),
-    )
+    let i = c.loop-current_address.invariant.2 (switches true true) [] in
+    omega (arith, i.room, c.if-inline_len-next_inline.false, c.loop-next_line.invariant.5.len)
 
 pub overflow_add-k-in-loop-current_address-2 : goal.overflow_add-k-in-loop-current_address-2
 overflow_add-k-in-loop-current_address-2 c =
-    omega (
-      arith,
-      (let i = c.loop-next_line.invariant.2 (switches true true) [] in
-          omega (arith, i.room, c.if-inline_len-next_inline.false, c.loop-next_line.invariant.5.len, c.well_formed.1.1.1.1.1.1.0.0)),
-    )
+    let i = c.loop-current_address.invariant.2 (switches true true) [] in
+    omega (arith, i.room, c.if-inline_len-next_inline.false, c.loop-next_line.invariant.5.len)
 
 pub overflow_add-next_inline : goal.overflow_add-next_inline
 overflow_add-next_inline c =
-    omega (
-      arith,
-      (let i = c.loop-next_line.invariant.2 (switches true true) [] in
-          omega (arith, i.room, c.if-inline_len-next_inline.false, c.loop-next_line.invariant.5.len, c.well_formed.1.1.1.1.1.1.0.0)),
-    )
+    let i = c.loop-current_address.invariant.2 (switches true true) [] in
+    omega (arith, i.room, c.if-inline_len-next_inline.false, c.loop-next_line.invariant.5.len)
 
 pub loop-current_address-smaller : goal.loop-current_address-smaller
 loop-current_address-smaller c = falls_more c.if-inline_len-next_inline.false

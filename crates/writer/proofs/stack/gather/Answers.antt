@@ -24,7 +24,7 @@ push_lines-requires c =
     let r =
     gathers_room ((columns c.args.functions64.now c.args.functions32.now c.args.lines64.now c.args.lines32.now [])) a.depth a.at a.i a.first a.s.now c.loop-r.s c.loop-r.r c.loop-r.line c.loop-r.n c.loop-r.invariant c.function_row-q.result c.function_row-q.ensures c.loop-r-test.true
     c.if-d-depth-2.true in
-    (omega (arith, r, c.loop-r.invariant.len, c.requires.room), (lines_fit ((columns c.args.functions64.now c.args.functions32.now c.args.lines64.now c.args.lines32.now [])) c.loop-r.r c.loop-r.line c.function_row-q.result c.function_row-q.ensures c.loop-r.invariant.line_is (c.requires.within c.loop-r.r c.loop-r-test.true)))
+    (omega (arith, r, c.loop-r.invariant.len, c.requires.room), (lines_fit ((columns c.args.functions64.now c.args.functions32.now c.args.lines64.now c.args.lines32.now [])) c.loop-r.r c.loop-r.line c.function_row-q.result c.function_row-q.ensures c.loop-r.invariant.line-is (c.requires.within c.loop-r.r c.loop-r-test.true)))
 
 pub loop-r-preserved : goal.loop-r-preserved
 loop-r-preserved c =
@@ -32,10 +32,10 @@ loop-r-preserved c =
     let h = c.loop-r-test.true in
     let k = (columns c.args.functions64.now c.args.functions32.now c.args.lines64.now c.args.lines32.now []) in
     elim c.if-d-depth-2.branch [
-      | then-d-depth-2 w ↦ rw (w.line-is, w.n-is)
+      | then-d-depth-2 w ↦ rw (w.s-is, w.n-is)
           (gathers_push k a.depth a.at a.i a.first a.s.now c.loop-r.s c.loop-r.r c.loop-r.line c.loop-r.n c.loop-r.invariant c.function_row-q.result c.function_row-q.ensures h w.if-d-depth-2.true _
           (w.push_lines.ensures a.functions64.now a.functions32.now []) w.push_lines.auto.s)
-      | else-d-depth-2 w ↦ rw (w.line-is, w.n-is)
+      | else-d-depth-2 w ↦ rw (w.s-is, w.n-is)
           (gathers_pass k a.depth a.at a.i a.first a.s.now c.loop-r.s c.loop-r.r c.loop-r.line c.loop-r.n c.loop-r.invariant c.function_row-q.result c.function_row-q.ensures h c.if-d-depth.false w.if-d-depth-2.false)
     ]
 

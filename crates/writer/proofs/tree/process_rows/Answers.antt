@@ -58,7 +58,7 @@ returns c =
     (as_long ((let a = c.args in columns a.functions64.now a.functions32.now a.lines64.now a.lines32.now a.text.now)) c.read_ahead.auto.s c.requires))) c.loop-i.s c.loop-i.i c.loop-i.first_line ((words c.loop-i.now c.loop-i.string_bytes c.loop-i.strings c.loop-i.files c.loop-i.functions c.loop-i.call_locations c.loop-i.ranges)) (c.loop-i.invariant.6 Y) c.loop-i-test.false
 
 pub overflow_cast-first_line : goal.overflow_cast-first_line
-overflow_cast-first_line c = omega (arith, c.function_row-function.ok)
+overflow_cast-first_line c = omega (arith, c.function_row-function.type_inv)
 
 pub loop-i-smaller : goal.loop-i-smaller
 loop-i-smaller c = omega (arith, c.loop-i-test.true)
