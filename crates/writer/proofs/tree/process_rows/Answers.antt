@@ -83,3 +83,18 @@ shape_of-ranges c = c.loop-i.invariant.5
 
 pub shape_of-s : goal.shape_of-s
 shape_of-s c = (c.loop-i.invariant.6 true).len ∙ c.read_ahead.auto.s
+
+-- the line rows up to the next row lie within the line rows
+pub overflow_add-first_line : goal.overflow_add-first_line
+overflow_add-first_line c =
+    let a = c.args in
+    let l = c.loop-i in
+    let k = columns a.functions64.now a.functions32.now a.lines64.now a.lines32.now a.text.now in
+    let n = length c.read_ahead.new.s in
+    let w = words a.state a.string_bytes.now a.strings.now a.files.now a.functions.now a.call_locations.now a.ranges.now in
+    let v = words l.now l.string_bytes l.strings l.files l.functions l.call_locations l.ranges in
+    omega (
+      arith,
+      first-low k n (switches a.undecorate true) w (accepted k n (as_long k c.read_ahead.auto.s c.requires)) l.s l.i l.first_line v (l.invariant.6 true) c.loop-i-test.true
+          c.function_row-function.result c.function_row-function.ensures,
+    )
