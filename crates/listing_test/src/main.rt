@@ -5,8 +5,9 @@
 ghost use Rattle.std.specs.Prelude.{◌+◌, ◌≤◌, length};
 
 use input_lines::Input;
-use libc::STDOUT_FILENO;
 use listing::{Begun, Listing};
+use std::fs;
+use std::io::Read;
 
 // A listing under way, how many of the expected bytes were printed, and whether all that was printed was expected.
 #[derive(Clone, Copy)]
@@ -195,7 +196,7 @@ fn list_to(
     room: usize,
     expected: &[u8],
 ) -> bool {
-    let mut space = io::large_buffer();
+    let mut space = [0u8; 65536];
     let room = least(room, 65536);
     let out = &mut space[..room];
     let run = Run {
@@ -220,11 +221,10 @@ impl Tally {
         }
     }
 
-    fn print(self) {
-        io::print_decimal(STDOUT_FILENO, self.runs as u64);
-        io::write_all(STDOUT_FILENO, b" runs, ");
-        io::print_decimal(STDOUT_FILENO, self.differ as u64);
-        io::write_all(STDOUT_FILENO, b" differ\n");
+    fn print(self, rt: &impl Print) {
+        let runs = self.runs;
+        let differ = self.differ;
+        let _ = println!(rt; "{runs} runs, {differ} differ");
     }
 }
 
@@ -297,52 +297,57 @@ fn refuse_case(number: u32, expected: &[u8]) -> Tally {
     tally.with(same)
 }
 
-fn run_case(file: &[u8], too_long: bool, number: u32, input: &[u8], expected: &[u8]) {
+fn run_case(
+    rt: &impl Print,
+    file: &[u8],
+    too_long: bool,
+    number: u32,
+    input: &[u8],
+    expected: &[u8],
+) {
     let begun = listing::begin(file, too_long);
     let tally = match begun {
         Begun::Open(listing) => list_case(file, at_number(listing, number), input, expected),
         Begun::Refused(number) => refuse_case(number, expected),
     };
-    tally.print();
+    tally.print(rt);
 }
 
 // A record: whether the file is too long, the number of the first line, how many bytes the file has, and the input; then these, and what is expected.
-fn replay_case(s: &[u8]) {
+fn replay_case(rt: &impl Print, s: &[u8]) {
     let too_long = replay::word(s, 0) != 0;
     let number = replay::word(s, 4);
     let a = least(16, s.len());
     let b = a + least(replay::word(s, 8) as usize, s.len() - a);
     let c = b + least(replay::word(s, 12) as usize, s.len() - b);
-    run_case(&s[a..b], too_long, number, &s[b..c], &s[c..]);
+    run_case(rt, &s[a..b], too_long, number, &s[b..c], &s[c..]);
 }
 
 // Replays the next record, and answers whether there was one.
-fn replay_next(fd: i32) -> bool {
-    let mut record = io::large_buffer();
-    let got = replay::read_record(fd, &mut record);
+fn replay_next<F: Read>(rt: &impl Print, from: &mut F) -> bool {
+    let mut record = [0u8; 65536];
+    let got = replay::read_record(from, &mut record);
     let n = got.len;
     if got.some {
-        replay_case(&record[..n]);
+        replay_case(rt, &record[..n]);
     }
     got.some
 }
 
 // Nothing says that the container ends, so the records are counted down.
-fn replay_all(fd: i32) {
+fn replay_all<F: Read>(rt: &impl Print, from: &mut F) {
     let mut turns = u32::MAX;
     while turns > 0 {
-        if !replay_next(fd) {
+        if !replay_next(rt, from) {
             break;
         }
         turns -= 1;
     }
 }
 
-fn main() {
-    let fd = os::open_read(b"listing.cases");
-    if fd < 0 {
+fn main(rt: HostRuntime) {
+    let Ok(mut from) = fs::open(&rt, "listing.cases") else {
         return;
-    }
-    replay_all(fd);
-    libc::close(fd);
+    };
+    replay_all(&rt, &mut from);
 }

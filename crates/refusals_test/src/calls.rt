@@ -1,5 +1,5 @@
 // The calls of a case, with the slices lent as it says.
-ghost use Rattle.io.specs.Counts.{IsPrefixLen};
+ghost use Rattle.replay.specs.Counts.{IsPrefixLen};
 
 use crate::case::{BEGIN, Case, SYMBOL, WRITE};
 use crate::left::{OTHER, is_scratch_left, is_written};

@@ -143,7 +143,7 @@ fn same_state(a: State, b: State) -> bool {
 fn same_begun(a: Converter, b: Converter) -> bool {
     let id = a.debug_id;
     let other = b.debug_id;
-    check::same(&id, &other)
+    id == other
         && a.arch == b.arch
         && a.undecorate_functions == b.undecorate_functions
         && a.undecorate_symbols == b.undecorate_symbols

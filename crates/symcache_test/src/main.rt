@@ -2,13 +2,14 @@
 #![tactic(auto)]
 
 use file_texts::GotString;
-use libc::STDOUT_FILENO;
 use lookup::{
     FileStep, Files, Frame, FrameFile, FunctionStep, Functions, GotFile, GotFunction, LookedUp,
     SourceLocations, Step,
 };
 use raw::{File, Function, Header, SourceLocation};
 use replay::{add, add_bytes, low, number, place, word};
+use std::fs;
+use std::io::Read;
 use symcache::{ErrorKind, Parsed, SymCache};
 
 // Words
@@ -345,42 +346,40 @@ fn case_sum(s: &[u8], addresses: &[u8]) -> u32 {
 }
 
 // A case: the length of a file, the file, and what follows it.
-fn replay_case(record: &[u8]) {
+fn replay_case(rt: &impl Print, record: &[u8]) {
     let to = 4 + (word(record, 0) as usize);
     if record.len() < to {
         return;
     }
     let line = replay::sum_line(case_sum(&record[4..to], &record[to..]));
-    io::write_all(STDOUT_FILENO, &line);
+    let _ = rt.write_all(&line);
 }
 
 // Replays the next record, and answers whether there was one.
-fn replay_next(fd: i32) -> bool {
+fn replay_next<F: Read>(rt: &impl Print, from: &mut F) -> bool {
     let mut record = [0u8; 16384];
-    let got = replay::read_record(fd, &mut record);
+    let got = replay::read_record(from, &mut record);
     let n = got.len;
     if got.some {
-        replay_case(&record[..n]);
+        replay_case(rt, &record[..n]);
     }
     got.some
 }
 
 // Nothing says that the container ends, so the records are counted down.
-fn replay_all(fd: i32) {
+fn replay_all<F: Read>(rt: &impl Print, from: &mut F) {
     let mut turns = u32::MAX;
     while turns > 0 {
-        if !replay_next(fd) {
+        if !replay_next(rt, from) {
             break;
         }
         turns -= 1;
     }
 }
 
-fn main() {
-    let fd = os::open_read(b"reader.cases");
-    if fd < 0 {
+fn main(rt: HostRuntime) {
+    let Ok(mut from) = fs::open(&rt, "reader.cases") else {
         return;
-    }
-    replay_all(fd);
-    libc::close(fd);
+    };
+    replay_all(&rt, &mut from);
 }
