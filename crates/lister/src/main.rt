@@ -87,7 +87,7 @@ fn list_some<R: Print + Eprint + Alloc>(
     }
 }
 
-// Lists a piece of the input until it is used up and nothing waits. The calls are counted down.
+// Lists a piece of the input until it is used up and nothing waits. The calls are counted.
 fn list_piece<R: Print + Eprint + Alloc>(
     rt: &R,
     file: &[u8],
@@ -96,8 +96,7 @@ fn list_piece<R: Print + Eprint + Alloc>(
 ) -> Turn {
     let mut listing = listing;
     let mut from: usize = 0;
-    let mut turns = u64::MAX;
-    while 0 < turns {
+    for _ in 0..u64::MAX {
         let place = list_some(rt, file, listing, piece, from);
         let rest = place.listing;
         listing = rest;
@@ -114,7 +113,6 @@ fn list_piece<R: Print + Eprint + Alloc>(
                 break;
             }
         }
-        turns -= 1;
     }
     Turn {
         listing,
@@ -155,7 +153,7 @@ fn read_some<R: Print + Eprint + Alloc, I: Read>(
     }
 }
 
-// To the end of the input. Nothing says that it ends, so the reads are counted down.
+// To the end of the input. Nothing says that it ends, so the reads are counted.
 fn read_all<R: Print + Eprint + Alloc, I: Read>(
     rt: &R,
     input: &mut I,
@@ -167,14 +165,12 @@ fn read_all<R: Print + Eprint + Alloc, I: Read>(
         more: true,
         lost: false,
     };
-    let mut turns = u64::MAX;
-    while 0 < turns {
+    for _ in 0..u64::MAX {
         if !turn.more {
             break;
         }
         let listing = turn.listing;
         turn = read_some(rt, input, file, listing);
-        turns -= 1;
     }
     turn
 }

@@ -49,12 +49,10 @@ fn same_byte(expected: &[u8], at: usize, out: &[u8], i: usize) -> bool {
 
 // Whether the first `n` bytes of `out` stand in `expected` from `at` on.
 fn same_at(expected: &[u8], at: usize, out: &[u8], n: usize) -> bool {
-    let mut i: usize = 0;
-    while i < n {
+    for i in 0..n {
         if !same_byte(expected, at, out, i) {
             return false;
         }
-        i += 1;
     }
     true
 }
@@ -117,7 +115,7 @@ fn call_from(
     }
 }
 
-// The whole input, in pieces of `step` bytes at most, the first of `first`. Nothing says that calls get on, so they are counted down.
+// The whole input, in pieces of `step` bytes at most, the first of `first`. Nothing says that calls get on, so they are counted.
 fn list_input(
     file: &[u8],
     run: Run,
@@ -130,8 +128,7 @@ fn list_input(
     let mut run = run;
     let mut from: usize = 0;
     let mut most = first;
-    let mut turns: u32 = 1000000;
-    while 0 < turns {
+    for _ in 0..1000000 {
         if input.len() <= from {
             break;
         }
@@ -140,7 +137,6 @@ fn list_input(
         run = rest;
         from = called.used;
         most = step;
-        turns -= 1;
     }
     run
 }
@@ -148,15 +144,13 @@ fn list_input(
 // Calls without input, until nothing waits.
 fn drain(file: &[u8], run: Run, out: &mut [u8], expected: &[u8]) -> Run {
     let mut run = run;
-    let mut turns: u32 = 1000000;
-    while 0 < turns {
+    for _ in 0..1000000 {
         if !run.is_waiting() {
             break;
         }
         let called = call(file, run, &file[..0], out, expected);
         let rest = called.run;
         run = rest;
-        turns -= 1;
     }
     run
 }
@@ -238,10 +232,8 @@ fn one_unless(same: bool) -> u32 {
 // The input in two pieces, cut at each place; into one output.
 fn cut_once(file: &[u8], listing: Listing, input: &[u8], expected: &[u8], tally: Tally) -> Tally {
     let mut tally = tally;
-    let mut cut: usize = 0;
-    while cut < input.len() {
+    for cut in 0..input.len() {
         tally = tally.with(list_to(file, listing, input, cut, 65536, 65536, expected));
-        cut += 1;
     }
     tally
 }
@@ -249,10 +241,8 @@ fn cut_once(file: &[u8], listing: Listing, input: &[u8], expected: &[u8], tally:
 // The input in pieces of each length, from one byte on; into outputs that one line fits into.
 fn cut_often(file: &[u8], listing: Listing, input: &[u8], expected: &[u8], tally: Tally) -> Tally {
     let mut tally = tally;
-    let mut step: usize = 1;
-    while step <= input.len() {
+    for step in 1..=input.len() {
         tally = tally.with(list_to(file, listing, input, step, step, 62, expected));
-        step += 1;
     }
     tally
 }
@@ -260,10 +250,8 @@ fn cut_often(file: &[u8], listing: Listing, input: &[u8], expected: &[u8], tally
 // The whole input; into outputs of 62 to 186 bytes, which three lines fit into.
 fn cut_output(file: &[u8], listing: Listing, input: &[u8], expected: &[u8], tally: Tally) -> Tally {
     let mut tally = tally;
-    let mut room: usize = 62;
-    while room <= 186 {
+    for room in 62..=186 {
         tally = tally.with(list_to(file, listing, input, 65536, 65536, room, expected));
-        room += 1;
     }
     tally
 }
@@ -334,14 +322,12 @@ fn replay_next<F: Read>(rt: &impl Print, from: &mut F) -> bool {
     got.some
 }
 
-// Nothing says that the container ends, so the records are counted down.
+// Nothing says that the container ends, so the records are counted.
 fn replay_all<F: Read>(rt: &impl Print, from: &mut F) {
-    let mut turns = u32::MAX;
-    while turns > 0 {
+    for _ in 0..u32::MAX {
         if !replay_next(rt, from) {
             break;
         }
-        turns -= 1;
     }
 }
 

@@ -122,10 +122,8 @@ fn with_digit(v: u64, d: u8) -> u64 {
 
 fn number(w: &[u8]) -> u64 {
     let mut v: u64 = 0;
-    let mut i = 0;
-    while i < w.len() {
-        v = with_digit(v, w[i]);
-        i += 1;
+    for d in w {
+        v = with_digit(v, *d);
     }
     v
 }
@@ -209,14 +207,8 @@ fn with_word(rt: &impl Print, c: Case, w: &[u8]) -> Case {
 // A case changed by the words of a line, which are parted by spaces.
 pub(crate) fn with_words(rt: &impl Print, c: Case, s: &[u8]) -> Case {
     let mut now = c;
-    let mut start: usize = 0;
-    let mut i: usize = 0;
-    while i < s.len() {
-        if s[i] == b' ' {
-            now = with_word(rt, now, &s[start..i]);
-            start = i + 1;
-        }
-        i += 1;
+    for w in s.split(|b| *b == b' ') {
+        now = with_word(rt, now, w);
     }
-    with_word(rt, now, &s[start..])
+    now
 }

@@ -82,10 +82,8 @@ fn add_got_file(sum: u32, got: GotFile) -> u32 {
 
 fn add_file_rows(sum: u32, s: &[u8], n: u32) -> u32 {
     let mut now = sum;
-    let mut i: u32 = 0;
-    while i < n {
+    for i in 0..n {
         now = add_got_file(now, lookup::get_file(s, i));
-        i += 1;
     }
     now
 }
@@ -99,10 +97,8 @@ fn add_got_function(sum: u32, got: GotFunction) -> u32 {
 
 fn add_function_rows(sum: u32, s: &[u8], n: u32) -> u32 {
     let mut now = sum;
-    let mut i: u32 = 0;
-    while i < n {
+    for i in 0..n {
         now = add_got_function(now, lookup::get_function(s, i));
-        i += 1;
     }
     now
 }
@@ -113,20 +109,16 @@ fn add_location(sum: u32, l: SourceLocation) -> u32 {
 
 fn add_location_rows(sum: u32, s: &[u8], at: usize, n: u32) -> u32 {
     let mut now = sum;
-    let mut i: u32 = 0;
-    while i < n {
+    for i in 0..n {
         now = add_location(now, raw::location_at(s, place(at, 16 * (i as usize))));
-        i += 1;
     }
     now
 }
 
 fn add_range_rows(sum: u32, s: &[u8], at: usize, n: u32) -> u32 {
     let mut now = sum;
-    let mut i: u32 = 0;
-    while i < n {
+    for i in 0..n {
         now = add(now, word(s, place(at, 4 * (i as usize))));
-        i += 1;
     }
     now
 }
@@ -187,8 +179,7 @@ fn add_function(sum: u32, s: &[u8], function_idx: u32, f: Function) -> u32 {
 fn add_each_function(sum: u32, s: &[u8]) -> u32 {
     let mut now = sum;
     let mut functions = Functions { function_idx: 0 };
-    let mut turns = u32::MAX;
-    while turns > 0 {
+    for _ in 0..u32::MAX {
         let FunctionStep::Function {
             index,
             function,
@@ -199,7 +190,6 @@ fn add_each_function(sum: u32, s: &[u8]) -> u32 {
         };
         now = add_function(now, s, index, function);
         functions = next;
-        turns -= 1;
     }
     now
 }
@@ -240,8 +230,7 @@ fn add_file(sum: u32, s: &[u8], f: File) -> u32 {
 fn add_each_file(sum: u32, s: &[u8]) -> u32 {
     let mut now = sum;
     let mut files = Files { file_idx: 0 };
-    let mut turns = u32::MAX;
-    while turns > 0 {
+    for _ in 0..u32::MAX {
         let FileStep::File {
             index: _,
             file,
@@ -252,7 +241,6 @@ fn add_each_file(sum: u32, s: &[u8]) -> u32 {
         };
         now = add_file(now, s, file);
         files = next;
-        turns -= 1;
     }
     now
 }
@@ -294,14 +282,12 @@ fn add_frame(sum: u32, s: &[u8], frame: Frame) -> u32 {
 fn add_frames(sum: u32, s: &[u8], walk: SourceLocations) -> u32 {
     let mut total = sum;
     let mut now = walk;
-    let mut turns = u32::MAX;
-    while turns > 0 {
+    for _ in 0..u32::MAX {
         let Step::Frame { frame, next } = now.next(s) else {
             break;
         };
         total = add_frame(total, s, frame);
         now = next;
-        turns -= 1;
     }
     total
 }
@@ -328,10 +314,8 @@ fn address_at(addresses: &[u8], i: u32) -> u64 {
 fn add_lookups(sum: u32, s: &[u8], addresses: &[u8]) -> u32 {
     let n = word(addresses, 0);
     let mut now = sum;
-    let mut i: u32 = 0;
-    while i < n {
+    for i in 0..n {
         now = add_lookup(now, s, address_at(addresses, i));
-        i += 1;
     }
     now
 }
@@ -366,14 +350,12 @@ fn replay_next<F: Read>(rt: &impl Print, from: &mut F) -> bool {
     got.some
 }
 
-// Nothing says that the container ends, so the records are counted down.
+// Nothing says that the container ends, so the records are counted.
 fn replay_all<F: Read>(rt: &impl Print, from: &mut F) {
-    let mut turns = u32::MAX;
-    while turns > 0 {
+    for _ in 0..u32::MAX {
         if !replay_next(rt, from) {
             break;
         }
-        turns -= 1;
     }
 }
 

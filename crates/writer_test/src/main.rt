@@ -43,28 +43,18 @@ fn rest<'a>(t: &'a [u8], at: usize) -> &'a [u8] {
 // A column of n 32-bit numbers, which begins at `at`.
 fn read_words(t: &mut [u32], n: usize, s: &[u8], at: usize) {
     let mut from = at;
-    let mut i: usize = 0;
-    while i < t.len() {
-        if n <= i {
-            break;
-        }
+    for i in 0..t.len().min(n) {
         t[i] = word(s, from);
         from = place(from, 4);
-        i += 1;
     }
 }
 
 // A column of 64-bit numbers.
 fn read_numbers(t: &mut [u64], n: usize, s: &[u8], at: usize) {
     let mut from = at;
-    let mut i: usize = 0;
-    while i < t.len() {
-        if n <= i {
-            break;
-        }
+    for i in 0..t.len().min(n) {
         t[i] = number(s, from);
         from = place(from, 8);
-        i += 1;
     }
 }
 
@@ -294,7 +284,7 @@ fn step(
     end(rt, now)
 }
 
-// Nothing says that the container ends, so the records are counted down.
+// Nothing says that the container ends, so the records are counted.
 fn replay_all<F: Read>(
     rt: &impl Print,
     from: &mut F,
@@ -315,8 +305,7 @@ fn replay_all<F: Read>(
         ranges,
         record,
     );
-    let mut turns = u32::MAX;
-    while turns > 0 {
+    for _ in 0..u32::MAX {
         let got = replay::read_record(from, record);
         if !got.some {
             break;
@@ -332,7 +321,6 @@ fn replay_all<F: Read>(
             ranges,
             first_bytes(record, got.len),
         );
-        turns -= 1;
     }
 }
 
