@@ -2,60 +2,57 @@
 // for 10 the bytes of text expected and found, for 0 the counts of files, functions, source locations, ranges and bytes of text.
 #![tactic(auto)]
 
-use libc::STDOUT_FILENO;
 use symcache::{ErrorKind, Parsed, SymCache};
 
-fn print_after_space(n: u64) {
-    io::write_all(STDOUT_FILENO, b" ");
-    io::print_decimal(STDOUT_FILENO, n);
+fn print_after_space(rt: &impl Print, n: u64) {
+    let _ = print!(rt; " {n}");
 }
 
-fn print_error(kind: ErrorKind) {
-    print_after_space(kind.number() as u64);
+fn print_error(rt: &impl Print, kind: ErrorKind) {
+    print_after_space(rt, kind.number() as u64);
     let ErrorKind::UnexpectedStringBytes { expected, found } = kind else {
         return;
     };
-    print_after_space(expected as u64);
-    print_after_space(found as u64);
+    print_after_space(rt, expected as u64);
+    print_after_space(rt, found as u64);
 }
 
-fn print_cache(c: SymCache) {
-    print_after_space(0);
-    print_after_space(c.num_files as u64);
-    print_after_space(c.num_functions as u64);
-    print_after_space(c.num_source_locations as u64);
-    print_after_space(c.num_ranges as u64);
-    print_after_space(c.string_bytes as u64);
+fn print_cache(rt: &impl Print, c: SymCache) {
+    print_after_space(rt, 0);
+    print_after_space(rt, c.num_files as u64);
+    print_after_space(rt, c.num_functions as u64);
+    print_after_space(rt, c.num_source_locations as u64);
+    print_after_space(rt, c.num_ranges as u64);
+    print_after_space(rt, c.string_bytes as u64);
 }
 
-fn print_parsed(s: &[u8]) {
+fn print_parsed(rt: &impl Print, s: &[u8]) {
     let parsed = symcache::parse(s);
     match parsed {
-        Parsed::Cache(c) => print_cache(c),
-        Parsed::Refused(kind) => print_error(kind),
+        Parsed::Cache(c) => print_cache(rt, c),
+        Parsed::Refused(kind) => print_error(rt, kind),
     }
 }
 
-fn print_cut(s: &[u8], n: usize) {
+fn print_cut(rt: &impl Print, s: &[u8], n: usize) {
     if s.len() < n {
         return;
     }
-    io::print_decimal(STDOUT_FILENO, n as u64);
-    print_parsed(&s[0..n]);
-    io::write_all(STDOUT_FILENO, b"\n");
+    let _ = print!(rt; "{n}");
+    print_parsed(rt, &s[0..n]);
+    let _ = println!(rt);
 }
 
-fn print_cuts(s: &[u8]) {
-    let mut n: usize = 0;
-    while n < s.len() {
-        print_cut(s, n);
-        n += 1;
+fn print_cuts(rt: &impl Print, s: &[u8]) {
+    let all = s.len();
+    for n in 0..all {
+        print_cut(rt, s, n);
     }
-    print_cut(s, n);
+    print_cut(rt, s, all);
 }
 
-fn main() {
+fn main(rt: HostRuntime) {
     let mut file = [0u8; 512];
-    let used = replay::read_file(b"worked.sym", &mut file);
-    print_cuts(&file[..used]);
+    let used = replay::read_file(&rt, "worked.sym", &mut file);
+    print_cuts(&rt, &file[..used]);
 }

@@ -2,10 +2,11 @@
 // pieces over and writes.
 #![tactic(auto)]
 
-ghost use Rattle.std.specs.Prelude.{◌≤◌, length};
+ghost use Rattle.std.specs.Prelude.{◌+◌, ◌≤◌, length};
 
-use libc::{STDIN_FILENO, STDOUT_FILENO};
 use listing::{Begun, Listing};
+use std::io::{ErrorKind, Read};
+use std::{fs, io};
 
 // A listing, whether there may be more input, and whether output was lost.
 #[derive(Clone, Copy)]
@@ -23,34 +24,61 @@ struct Place {
     lost: bool,
 }
 
+// What is said on standard error
+
+// The text of an error without its number, which stands after it in parentheses.
+fn reason(text: &str) -> &str {
+    match text.split_once(" (os error ") {
+        Some((reason, _)) => reason,
+        None => text,
+    }
+}
+
+// Says on standard error what failed, and why.
+fn fail<R: Eprint + Alloc>(rt: &R, what: &str, error: io::Error) {
+    let said = match format!(in rt.alloc(); "{error}") {
+        Ok(text) => rt.eprintln(format_args!("lister: {what}: {}", reason(text.as_str()))),
+        Err(_) => eprintln!(rt; "lister: {what}: {error}"),
+    };
+    let _ = said;
+}
+
 // Output
 
 // Writes the bytes, and answers whether some were lost, which is said on standard error.
-fn send(bytes: &[u8]) -> bool {
-    if io::write_all(STDOUT_FILENO, bytes) {
-        return false;
+fn send<R: Print + Eprint + Alloc>(rt: &R, bytes: &[u8]) -> bool {
+    match rt.write_all(bytes) {
+        Ok(()) => false,
+        Err(error) => {
+            fail(rt, "standard output", error);
+            true
+        }
     }
-    os::fail(b"lister: standard output");
-    true
 }
 
-fn print_refused(number: u32) {
+fn print_refused<R: Print + Eprint + Alloc>(rt: &R, number: u32) {
     let mut out = [0u8; 11];
     printed_lines::refused_line(&mut out, 0, number);
-    send(&out);
+    send(rt, &out);
 }
 
 // Input
 
 // One call of the library, and one write.
-fn list_some(file: &[u8], listing: Listing, piece: &[u8], from: usize) -> Place
+fn list_some<R: Print + Eprint + Alloc>(
+    rt: &R,
+    file: &[u8],
+    listing: Listing,
+    piece: &[u8],
+    from: usize,
+) -> Place
     requires { from ≤ length piece.now }
     ensures { result.from ≤ length piece.now }
 {
-    let mut out = io::large_buffer();
+    let mut out = [0u8; 65536];
     let listed = listing::list(file, listing, &piece[from..], &mut out);
     let end = listed.written;
-    let lost = send(&out[..end]);
+    let lost = send(rt, &out[..end]);
     let listing = listed.listing;
     Place {
         listing,
@@ -59,13 +87,17 @@ fn list_some(file: &[u8], listing: Listing, piece: &[u8], from: usize) -> Place
     }
 }
 
-// Lists a piece of the input until it is used up and nothing waits. The calls are counted down.
-fn list_piece(file: &[u8], listing: Listing, piece: &[u8]) -> Turn {
+// Lists a piece of the input until it is used up and nothing waits. The calls are counted.
+fn list_piece<R: Print + Eprint + Alloc>(
+    rt: &R,
+    file: &[u8],
+    listing: Listing,
+    piece: &[u8],
+) -> Turn {
     let mut listing = listing;
     let mut from: usize = 0;
-    let mut turns = u64::MAX;
-    while 0 < turns {
-        let place = list_some(file, listing, piece, from);
+    for _ in 0..u64::MAX {
+        let place = list_some(rt, file, listing, piece, from);
         let rest = place.listing;
         listing = rest;
         from = place.from;
@@ -81,7 +113,6 @@ fn list_piece(file: &[u8], listing: Listing, piece: &[u8]) -> Turn {
                 break;
             }
         }
-        turns -= 1;
     }
     Turn {
         listing,
@@ -90,83 +121,117 @@ fn list_piece(file: &[u8], listing: Listing, piece: &[u8]) -> Turn {
     }
 }
 
-// Whether to read again after a read that gave nothing: after one that a signal interrupted. One that fails is said on standard error, and ends the
-// input.
-fn read_again(got: isize) -> bool {
-    if got == 0 {
-        return false;
-    }
-    if os::errno() == libc::EINTR {
+// Whether to read again after a read that failed: after one that a signal interrupted. Any other is said on standard error, and ends the input.
+fn read_again<R: Eprint + Alloc>(rt: &R, error: io::Error) -> bool {
+    if error.kind() == ErrorKind::Interrupted {
         return true;
     }
-    os::fail(b"lister: standard input");
+    fail(rt, "standard input", error);
     false
 }
 
 // Reads once, and lists what was read.
-fn read_some(file: &[u8], listing: Listing) -> Turn {
-    let mut piece = io::large_buffer();
-    let got = libc::read(STDIN_FILENO, &mut piece);
-    if got <= 0 {
-        return Turn {
+fn read_some<R: Print + Eprint + Alloc, I: Read>(
+    rt: &R,
+    input: &mut I,
+    file: &[u8],
+    listing: Listing,
+) -> Turn {
+    let mut piece = [0u8; 65536];
+    match input.read(&mut piece) {
+        Ok(0) => Turn {
             listing,
-            more: read_again(got),
+            more: false,
             lost: false,
-        };
+        },
+        Ok(n) => list_piece(rt, file, listing, &piece[..n]),
+        Err(error) => Turn {
+            listing,
+            more: read_again(rt, error),
+            lost: false,
+        },
     }
-    let n = io::count(got, &piece);
-    list_piece(file, listing, &piece[..n])
 }
 
-// To the end of the input. Nothing says that it ends, so the reads are counted down.
-fn read_all(file: &[u8], listing: Listing) -> Turn {
+// To the end of the input. Nothing says that it ends, so the reads are counted.
+fn read_all<R: Print + Eprint + Alloc, I: Read>(
+    rt: &R,
+    input: &mut I,
+    file: &[u8],
+    listing: Listing,
+) -> Turn {
     let mut turn = Turn {
         listing,
         more: true,
         lost: false,
     };
-    let mut turns = u64::MAX;
-    while 0 < turns {
+    for _ in 0..u64::MAX {
         if !turn.more {
             break;
         }
         let listing = turn.listing;
-        turn = read_some(file, listing);
-        turns -= 1;
+        turn = read_some(rt, input, file, listing);
     }
     turn
 }
 
 // The whole input.
-fn list_input(file: &[u8], listing: Listing) {
-    let last = read_all(file, listing);
+fn list_input<R: Input + Print + Eprint + Alloc>(rt: &R, file: &[u8], listing: Listing) {
+    let last = read_all(rt, &mut rt.reader(), file, listing);
     if last.lost {
         return;
     }
     let listing = last.listing;
-    list_piece(file, listing.end(file), &file[..0]);
+    list_piece(rt, file, listing.end(file), &file[..0]);
 }
 
 // All of the work, over the bytes that were read.
-fn list(file: &[u8], too_long: bool) {
+fn list<R: Input + Print + Eprint + Alloc>(rt: &R, file: &[u8], too_long: bool) {
     let begun = listing::begin(file, too_long);
     match begun {
-        Begun::Open(listing) => list_input(file, listing),
-        Begun::Refused(number) => print_refused(number),
+        Begun::Open(listing) => list_input(rt, file, listing),
+        Begun::Refused(number) => print_refused(rt, number),
     }
 }
 
-// A file that can't be opened, or not read, counts as empty. One byte more than there is room for is asked for.
-fn main() {
-    let mut file = [0u8; 65536];
-    let fd = os::open_read(b"cache.sym");
-    if fd < 0 {
-        list(&file[..0], false);
-        return;
+// The file
+
+// One read into `to` from `at` on, and how many bytes it gave: none at the end, and where it failed.
+fn read_at<F: Read>(from: &mut F, to: &mut [u8], at: usize) -> usize
+    requires { at ≤ length to.old }
+    ensures { at + result ≤ length to.new }
+{
+    match from.read(&mut to[at..]) {
+        Ok(n) => n,
+        Err(_) => 0,
     }
-    let used = io::read_full(fd, &mut file);
+}
+
+// Reads until `to` is full, the input ends or a read fails, and answers how many bytes stand at the front of `to`.
+fn read_full<F: Read>(from: &mut F, to: &mut [u8]) -> usize
+    ensures { result ≤ length to.new }
+{
+    let mut done: usize = 0;
+    while done < to.len() {
+        let n = read_at(from, to, done);
+        if n == 0 {
+            break;
+        }
+        done += n;
+    }
+    done
+}
+
+// A file that can't be opened, or not read, counts as empty. One byte more than there is room for is asked for.
+fn main(rt: HostRuntime) {
+    let mut file = [0u8; 65536];
+    let Ok(mut from) = fs::open(&rt, "cache.sym") else {
+        list(&rt, &file[..0], false);
+        return;
+    };
+    let used = read_full(&mut from, &mut file);
     let mut extra = [0u8; 1];
-    let over = io::read_full(fd, &mut extra);
-    libc::close(fd);
-    list(&file[..used], 0 < over);
+    let over = read_full(&mut from, &mut extra);
+    drop(from);
+    list(&rt, &file[..used], 0 < over);
 }

@@ -5,8 +5,9 @@
 ghost use Rattle.std.specs.Prelude.{◌+◌, ◌≤◌, length};
 
 use input_lines::Input;
-use libc::STDOUT_FILENO;
 use listing::{Begun, Listing};
+use std::fs;
+use std::io::Read;
 
 // A listing under way, how many of the expected bytes were printed, and whether all that was printed was expected.
 #[derive(Clone, Copy)]
@@ -48,12 +49,10 @@ fn same_byte(expected: &[u8], at: usize, out: &[u8], i: usize) -> bool {
 
 // Whether the first `n` bytes of `out` stand in `expected` from `at` on.
 fn same_at(expected: &[u8], at: usize, out: &[u8], n: usize) -> bool {
-    let mut i: usize = 0;
-    while i < n {
+    for i in 0..n {
         if !same_byte(expected, at, out, i) {
             return false;
         }
-        i += 1;
     }
     true
 }
@@ -116,7 +115,7 @@ fn call_from(
     }
 }
 
-// The whole input, in pieces of `step` bytes at most, the first of `first`. Nothing says that calls get on, so they are counted down.
+// The whole input, in pieces of `step` bytes at most, the first of `first`. Nothing says that calls get on, so they are counted.
 fn list_input(
     file: &[u8],
     run: Run,
@@ -129,8 +128,7 @@ fn list_input(
     let mut run = run;
     let mut from: usize = 0;
     let mut most = first;
-    let mut turns: u32 = 1000000;
-    while 0 < turns {
+    for _ in 0..1000000 {
         if input.len() <= from {
             break;
         }
@@ -139,7 +137,6 @@ fn list_input(
         run = rest;
         from = called.used;
         most = step;
-        turns -= 1;
     }
     run
 }
@@ -147,15 +144,13 @@ fn list_input(
 // Calls without input, until nothing waits.
 fn drain(file: &[u8], run: Run, out: &mut [u8], expected: &[u8]) -> Run {
     let mut run = run;
-    let mut turns: u32 = 1000000;
-    while 0 < turns {
+    for _ in 0..1000000 {
         if !run.is_waiting() {
             break;
         }
         let called = call(file, run, &file[..0], out, expected);
         let rest = called.run;
         run = rest;
-        turns -= 1;
     }
     run
 }
@@ -195,7 +190,7 @@ fn list_to(
     room: usize,
     expected: &[u8],
 ) -> bool {
-    let mut space = io::large_buffer();
+    let mut space = [0u8; 65536];
     let room = least(room, 65536);
     let out = &mut space[..room];
     let run = Run {
@@ -220,11 +215,10 @@ impl Tally {
         }
     }
 
-    fn print(self) {
-        io::print_decimal(STDOUT_FILENO, self.runs as u64);
-        io::write_all(STDOUT_FILENO, b" runs, ");
-        io::print_decimal(STDOUT_FILENO, self.differ as u64);
-        io::write_all(STDOUT_FILENO, b" differ\n");
+    fn print(self, rt: &impl Print) {
+        let runs = self.runs;
+        let differ = self.differ;
+        let _ = println!(rt; "{runs} runs, {differ} differ");
     }
 }
 
@@ -238,10 +232,8 @@ fn one_unless(same: bool) -> u32 {
 // The input in two pieces, cut at each place; into one output.
 fn cut_once(file: &[u8], listing: Listing, input: &[u8], expected: &[u8], tally: Tally) -> Tally {
     let mut tally = tally;
-    let mut cut: usize = 0;
-    while cut < input.len() {
+    for cut in 0..input.len() {
         tally = tally.with(list_to(file, listing, input, cut, 65536, 65536, expected));
-        cut += 1;
     }
     tally
 }
@@ -249,10 +241,8 @@ fn cut_once(file: &[u8], listing: Listing, input: &[u8], expected: &[u8], tally:
 // The input in pieces of each length, from one byte on; into outputs that one line fits into.
 fn cut_often(file: &[u8], listing: Listing, input: &[u8], expected: &[u8], tally: Tally) -> Tally {
     let mut tally = tally;
-    let mut step: usize = 1;
-    while step <= input.len() {
+    for step in 1..=input.len() {
         tally = tally.with(list_to(file, listing, input, step, step, 62, expected));
-        step += 1;
     }
     tally
 }
@@ -260,10 +250,8 @@ fn cut_often(file: &[u8], listing: Listing, input: &[u8], expected: &[u8], tally
 // The whole input; into outputs of 62 to 186 bytes, which three lines fit into.
 fn cut_output(file: &[u8], listing: Listing, input: &[u8], expected: &[u8], tally: Tally) -> Tally {
     let mut tally = tally;
-    let mut room: usize = 62;
-    while room <= 186 {
+    for room in 62..=186 {
         tally = tally.with(list_to(file, listing, input, 65536, 65536, room, expected));
-        room += 1;
     }
     tally
 }
@@ -297,52 +285,55 @@ fn refuse_case(number: u32, expected: &[u8]) -> Tally {
     tally.with(same)
 }
 
-fn run_case(file: &[u8], too_long: bool, number: u32, input: &[u8], expected: &[u8]) {
+fn run_case(
+    rt: &impl Print,
+    file: &[u8],
+    too_long: bool,
+    number: u32,
+    input: &[u8],
+    expected: &[u8],
+) {
     let begun = listing::begin(file, too_long);
     let tally = match begun {
         Begun::Open(listing) => list_case(file, at_number(listing, number), input, expected),
         Begun::Refused(number) => refuse_case(number, expected),
     };
-    tally.print();
+    tally.print(rt);
 }
 
 // A record: whether the file is too long, the number of the first line, how many bytes the file has, and the input; then these, and what is expected.
-fn replay_case(s: &[u8]) {
+fn replay_case(rt: &impl Print, s: &[u8]) {
     let too_long = replay::word(s, 0) != 0;
     let number = replay::word(s, 4);
     let a = least(16, s.len());
     let b = a + least(replay::word(s, 8) as usize, s.len() - a);
     let c = b + least(replay::word(s, 12) as usize, s.len() - b);
-    run_case(&s[a..b], too_long, number, &s[b..c], &s[c..]);
+    run_case(rt, &s[a..b], too_long, number, &s[b..c], &s[c..]);
 }
 
 // Replays the next record, and answers whether there was one.
-fn replay_next(fd: i32) -> bool {
-    let mut record = io::large_buffer();
-    let got = replay::read_record(fd, &mut record);
+fn replay_next<F: Read>(rt: &impl Print, from: &mut F) -> bool {
+    let mut record = [0u8; 65536];
+    let got = replay::read_record(from, &mut record);
     let n = got.len;
     if got.some {
-        replay_case(&record[..n]);
+        replay_case(rt, &record[..n]);
     }
     got.some
 }
 
-// Nothing says that the container ends, so the records are counted down.
-fn replay_all(fd: i32) {
-    let mut turns = u32::MAX;
-    while turns > 0 {
-        if !replay_next(fd) {
+// Nothing says that the container ends, so the records are counted.
+fn replay_all<F: Read>(rt: &impl Print, from: &mut F) {
+    for _ in 0..u32::MAX {
+        if !replay_next(rt, from) {
             break;
         }
-        turns -= 1;
     }
 }
 
-fn main() {
-    let fd = os::open_read(b"listing.cases");
-    if fd < 0 {
+fn main(rt: HostRuntime) {
+    let Ok(mut from) = fs::open(&rt, "listing.cases") else {
         return;
-    }
-    replay_all(fd);
-    libc::close(fd);
+    };
+    replay_all(&rt, &mut from);
 }

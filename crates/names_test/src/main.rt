@@ -1,27 +1,25 @@
 // Prints what `undecorate_win_symbol` gives for each line of standard input.
 #![tactic(auto)]
 
-use libc::{STDIN_FILENO, STDOUT_FILENO};
-
-fn show(name: &[u8]) {
-    io::write_all(STDOUT_FILENO, names::undecorate_win_symbol(name));
-    io::write_all(STDOUT_FILENO, b"\n");
+fn show(rt: &impl Print, name: &[u8]) {
+    let _ = rt.write_all(names::undecorate_win_symbol(name));
+    let _ = println!(rt);
 }
 
-fn show_lines(s: &[u8]) {
+fn show_lines(rt: &impl Print, s: &[u8]) {
     let mut start: usize = 0;
     let mut i: usize = 0;
     while i < s.len() {
         if s[i] == b'\n' {
-            show(&s[start..i]);
+            show(rt, &s[start..i]);
             start = i + 1;
         }
         i += 1;
     }
 }
 
-fn main() {
-    let mut input = io::large_buffer();
-    let n = io::read_full(STDIN_FILENO, &mut input);
-    show_lines(&input[..n]);
+fn main(rt: HostRuntime) {
+    let mut input = [0u8; 65536];
+    let n = replay::read_full(&mut rt.stdin(), &mut input);
+    show_lines(&rt, &input[..n]);
 }

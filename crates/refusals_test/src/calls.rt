@@ -1,5 +1,5 @@
 // The calls of a case, with the slices lent as it says.
-ghost use Rattle.io.specs.Counts.{IsPrefixLen};
+ghost use Rattle.replay.specs.Counts.{IsPrefixLen};
 
 use crate::case::{BEGIN, Case, SYMBOL, WRITE};
 use crate::left::{OTHER, is_scratch_left, is_written};
@@ -117,52 +117,40 @@ struct Set {
 fn set_numbers(t: &mut [u64], words: &[u64; 384], from: usize, n: usize) -> Set
     ensures { IsPrefixLen result.n t.new }
 {
+    let n = t.len().min(n);
     let mut same = true;
-    let mut i: usize = 0;
-    while i < t.len() {
-        if n <= i {
-            break;
-        }
+    for i in 0..n {
         let v = word(words, from, i);
         same = same && t[i] == v;
         t[i] = v;
-        i += 1;
     }
-    Set { n: i, same }
+    Set { n, same }
 }
 
 fn set_words(t: &mut [u32], words: &[u64; 384], from: usize, n: usize) -> Set
     ensures { IsPrefixLen result.n t.new }
 {
+    let n = t.len().min(n);
     let mut same = true;
-    let mut i: usize = 0;
-    while i < t.len() {
-        if n <= i {
-            break;
-        }
+    for i in 0..n {
         let v = low(word(words, from, i));
         same = same && t[i] == v;
         t[i] = v;
-        i += 1;
     }
-    Set { n: i, same }
+    Set { n, same }
 }
 
 fn set_bytes(t: &mut [u8], words: &[u64; 384], from: usize, n: usize) -> Set
     ensures { IsPrefixLen result.n t.new }
 {
+    let n = t.len().min(n);
     let mut same = true;
-    let mut i: usize = 0;
-    while i < t.len() {
-        if n <= i {
-            break;
-        }
+    for i in 0..n {
         let v = low_byte(word(words, from, i));
         same = same && t[i] == v;
         t[i] = v;
-        i += 1;
     }
-    Set { n: i, same }
+    Set { n, same }
 }
 
 // The same for the arrays that are lent.

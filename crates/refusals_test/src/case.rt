@@ -1,5 +1,4 @@
 // A case: what is lent, and what is called. A line of data/refusals.cases says it in words.
-use libc::STDOUT_FILENO;
 
 // What a number of a line stands for, and the calls: the numbers of their words.
 
@@ -123,10 +122,8 @@ fn with_digit(v: u64, d: u8) -> u64 {
 
 fn number(w: &[u8]) -> u64 {
     let mut v: u64 = 0;
-    let mut i = 0;
-    while i < w.len() {
-        v = with_digit(v, w[i]);
-        i += 1;
+    for d in w {
+        v = with_digit(v, *d);
     }
     v
 }
@@ -140,7 +137,7 @@ fn index_in(names: &[u8], w: &[u8]) -> usize {
     let mut i: usize = 0;
     while i < names.len() {
         if names[i] == b' ' {
-            if check::same(&names[start..i], w) {
+            if &names[start..i] == w {
                 return k;
             }
             start = i + 1;
@@ -160,7 +157,7 @@ fn slice_of(w: &[u8]) -> usize {
 }
 
 // A mark. Any other word is printed, so that it is seen.
-fn with_mark(mut c: Case, k: usize, w: &[u8]) -> Case {
+fn with_mark(rt: &impl Print, mut c: Case, k: usize, w: &[u8]) -> Case {
     c.first = c.first || k == 8;
     c.whole = c.whole || k == 9;
     c.closed = c.closed || k == 10;
@@ -168,14 +165,14 @@ fn with_mark(mut c: Case, k: usize, w: &[u8]) -> Case {
         c.words[383] = 1;
     }
     if k > 11 {
-        io::write_all(STDOUT_FILENO, b"unknown word ");
-        io::write_all(STDOUT_FILENO, w);
-        io::write_all(STDOUT_FILENO, b"\n");
+        let _ = print!(rt; "unknown word ");
+        let _ = rt.write_all(w);
+        let _ = println!(rt);
     }
     c
 }
 
-fn with_name(mut c: Case, w: &[u8]) -> Case {
+fn with_name(rt: &impl Print, mut c: Case, w: &[u8]) -> Case {
     let slice = slice_of(w);
     if slice < 14 {
         c.slice = slice;
@@ -194,30 +191,24 @@ fn with_name(mut c: Case, w: &[u8]) -> Case {
         c.call = k;
         return c;
     }
-    with_mark(c, k, w)
+    with_mark(rt, c, k, w)
 }
 
-fn with_word(c: Case, w: &[u8]) -> Case {
+fn with_word(rt: &impl Print, c: Case, w: &[u8]) -> Case {
     if w.len() == 0 {
         return c;
     }
     if w[0] >= b'0' && w[0] <= b'9' {
         return with_number(c, number(w));
     }
-    with_name(c, w)
+    with_name(rt, c, w)
 }
 
 // A case changed by the words of a line, which are parted by spaces.
-pub(crate) fn with_words(c: Case, s: &[u8]) -> Case {
+pub(crate) fn with_words(rt: &impl Print, c: Case, s: &[u8]) -> Case {
     let mut now = c;
-    let mut start: usize = 0;
-    let mut i: usize = 0;
-    while i < s.len() {
-        if s[i] == b' ' {
-            now = with_word(now, &s[start..i]);
-            start = i + 1;
-        }
-        i += 1;
+    for w in s.split(|b| *b == b' ') {
+        now = with_word(rt, now, w);
     }
-    with_word(now, &s[start..])
+    now
 }

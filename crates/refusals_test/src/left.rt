@@ -37,12 +37,10 @@ fn expected(before: u32, now: u32, lent: bool, left: u32) -> u32 {
 
 // Whether the first n words are left so, and the others as before.
 fn is_left(before: &[u32; 96], t: &[u32; 96], n: usize, left: u32) -> bool {
-    let mut i: usize = 0;
-    while i < 96 {
+    for i in 0..96 {
         if t[i] != expected(before[i], t[i], i < n, left) {
             return false;
         }
-        i += 1;
     }
     true
 }
@@ -52,12 +50,10 @@ fn wide(b: u8) -> u32 {
 }
 
 fn is_left_bytes(before: &[u8; 96], t: &[u8; 96], n: usize, left: u32) -> bool {
-    let mut i: usize = 0;
-    while i < 96 {
+    for i in 0..96 {
         if wide(t[i]) != expected(wide(before[i]), wide(t[i]), i < n, left) {
             return false;
         }
-        i += 1;
     }
     true
 }
@@ -76,12 +72,10 @@ fn are_tables_left(before: Tables, after: Tables, c: Case, left: u32) -> bool {
 
 // Whether the first `zeros` words are 0, and the others what they were.
 fn is_zero_up_to(t: &[u32; 262144], zeros: usize) -> bool {
-    let mut i: usize = 0;
-    while i < 262144 {
+    for i in 0..262144 {
         if t[i] != zero_or_other(i, zeros) {
             return false;
         }
-        i += 1;
     }
     true
 }
@@ -110,12 +104,10 @@ fn byte(t: &[u8], at: usize, n: usize) -> u8 {
 
 // Whether the output begins with the file's first n bytes, and goes on as it was.
 fn begins_with(t: &[u8; 400], file: &[u8], n: usize) -> bool {
-    let mut i: usize = 0;
-    while i < 400 {
+    for i in 0..400 {
         if t[i] != byte(file, i, n) {
             return false;
         }
-        i += 1;
     }
     true
 }
@@ -143,7 +135,7 @@ fn same_state(a: State, b: State) -> bool {
 fn same_begun(a: Converter, b: Converter) -> bool {
     let id = a.debug_id;
     let other = b.debug_id;
-    check::same(&id, &other)
+    id == other
         && a.arch == b.arch
         && a.undecorate_functions == b.undecorate_functions
         && a.undecorate_symbols == b.undecorate_symbols

@@ -14,7 +14,6 @@ mod left;
 use crate::calls::{Done, Tables, call};
 use crate::case::{BEGIN, Case, SYMBOL, TREE, WRITE, blank, with_call, with_tables_of, with_words};
 use crate::left::{OTHER, is_as_said, unused};
-use libc::STDOUT_FILENO;
 
 // Makes a call; `same` is whether it left all as it should.
 fn make(now: Done, c: Case, file: &[u8]) -> Done {
@@ -69,66 +68,65 @@ fn with_open(mut now: Done, open: bool) -> Done {
 
 // Printed lines
 
-fn print_ok(ok: bool) {
+fn print_ok(rt: &impl Print, ok: bool) {
     if ok {
-        io::write_all(STDOUT_FILENO, b" ok");
+        let _ = print!(rt; " ok");
         return;
     }
-    io::write_all(STDOUT_FILENO, b" DIFFERS");
+    let _ = print!(rt; " DIFFERS");
 }
 
-fn print_case(title: &[u8], done: Done) {
-    io::print_decimal(STDOUT_FILENO, done.code as u64);
-    io::write_all(STDOUT_FILENO, b" ");
-    io::write_all(STDOUT_FILENO, title);
-    io::write_all(STDOUT_FILENO, b":");
-    print_ok(done.same);
+fn print_case(rt: &impl Print, title: &[u8], done: Done) {
+    let code = done.code;
+    let _ = print!(rt; "{code} ");
+    let _ = rt.write_all(title);
+    let _ = print!(rt; ":");
+    print_ok(rt, done.same);
 }
 
-fn print_next(how: &[u8], done: Done) {
-    io::write_all(STDOUT_FILENO, how);
-    io::write_all(STDOUT_FILENO, b" ");
-    io::print_decimal(STDOUT_FILENO, done.code as u64);
-    print_ok(done.same);
+fn print_next(rt: &impl Print, how: &str, done: Done) {
+    let code = done.code;
+    let _ = print!(rt; "{how} {code}");
+    print_ok(rt, done.same);
 }
 
 // The calls after the one under test
 
 // Each is made on what the call under test left, since it should be refused and change nothing.
-fn next(how: &[u8], now: Done, c: Case, file: &[u8]) {
-    print_next(how, make(now, c, file));
+fn next(rt: &impl Print, how: &str, now: Done, c: Case, file: &[u8]) {
+    print_next(rt, how, make(now, c, file));
 }
 
 // A new beginning, the worked tree, and a write.
-fn begun_anew(now: Done, base: Case, file: &[u8]) {
+fn begun_anew(rt: &impl Print, now: Done, base: Case, file: &[u8]) {
     let now = make(now, with_call(base, BEGIN), file);
     let now = make(now, base, file);
-    next(b", begun anew", now, with_call(base, WRITE), file);
+    next(rt, ", begun anew", now, with_call(base, WRITE), file);
 }
 
 // After 17, a tree, a symbol and a write; then anew. `usual` is the base with the tables of the case.
-fn afterwards(now: Done, c: Case, usual: Case, base: Case, file: &[u8]) {
+fn afterwards(rt: &impl Print, now: Done, c: Case, usual: Case, base: Case, file: &[u8]) {
     if now.code == 17 {
-        next(b", then", now, usual, file);
-        next(b",", now, with_call(usual, SYMBOL), file);
-        next(b",", now, with_call(usual, WRITE), file);
-        begun_anew(now, base, file);
+        next(rt, ", then", now, usual, file);
+        next(rt, ",", now, with_call(usual, SYMBOL), file);
+        next(rt, ",", now, with_call(usual, WRITE), file);
+        begun_anew(rt, now, base, file);
         return;
     }
     if c.whole {
-        next(b", written", now, with_call(usual, WRITE), file);
+        next(rt, ", written", now, with_call(usual, WRITE), file);
     }
 }
 
 // A case: the beginning, the tree before the call under test, the call, and what comes after it.
-fn run(file: &[u8], title: &[u8], c: Case, base: Case) {
+fn run(rt: &impl Print, file: &[u8], title: &[u8], c: Case, base: Case) {
     let usual = with_call(with_tables_of(base, c), TREE);
     let now = make(nothing_begun(), with_call(usual, BEGIN), file);
     let now = first_tree(now, c, usual, file);
     let done = make(with_open(now, !c.closed), c, file);
-    print_case(title, with_ok(done, now.same));
-    afterwards(done, c, usual, base, file);
-    io::write_all(STDOUT_FILENO, b"\n");
+    print_case(rt, title, with_ok(done, now.same));
+    afterwards(rt, done, c, usual, base, file);
+    let _ = println!(rt);
 }
 
 // The lines of the data file
@@ -141,40 +139,39 @@ fn is_comment(line: &[u8]) -> bool {
 }
 
 // A line without a colon, or of a comment, says nothing. The line of the title `base` changes what all cases begin with; any other is a case.
-fn run_line(file: &[u8], base: Case, line: &[u8]) -> Case {
+fn run_line(rt: &impl Print, file: &[u8], base: Case, line: &[u8]) -> Case {
     if is_comment(line) {
         return base;
     }
-    let end = bytes::scan::find(line, 0, line.len(), b':');
-    if end >= line.len() {
+    let Some(end) = line.iter().position(|b| *b == b':') else {
         return base;
-    }
+    };
     let title = &line[0..end];
-    let c = with_words(base, &line[end + 1..]);
-    if check::same(title, b"base") {
+    let c = with_words(rt, base, &line[end + 1..]);
+    if title == b"base".as_slice() {
         return c;
     }
-    run(file, title, c, base);
+    run(rt, file, title, c, base);
     base
 }
 
-fn run_lines(file: &[u8], s: &[u8]) {
+fn run_lines(rt: &impl Print, file: &[u8], s: &[u8]) {
     let mut base = blank();
     let mut start: usize = 0;
     let mut i: usize = 0;
     while i < s.len() {
         if s[i] == b'\n' {
-            base = run_line(file, base, &s[start..i]);
+            base = run_line(rt, file, base, &s[start..i]);
             start = i + 1;
         }
         i += 1;
     }
 }
 
-fn main() {
+fn main(rt: HostRuntime) {
     let mut file = [0u8; 512];
-    let n = replay::read_file(b"worked.sym", &mut file);
+    let n = replay::read_file(&rt, "worked.sym", &mut file);
     let mut cases = [0u8; 32768];
-    let m = replay::read_file(b"refusals.cases", &mut cases);
-    run_lines(&file[..n], &cases[..m]);
+    let m = replay::read_file(&rt, "refusals.cases", &mut cases);
+    run_lines(&rt, &file[..n], &cases[..m]);
 }

@@ -1,24 +1,51 @@
 // What the programs share that replay stored cases: reading a data file, numbers in its bytes, and the checksum of a case (oracle/FORMAT.md).
 #![tactic(auto)]
 
-ghost use Rattle.std.specs.Prelude.{◌≡◌, ◌+◌, ◌*◌, ◌%◌};
-ghost use Rattle.io.specs.Counts.{IsPrefixLen};
+ghost use Rattle.std.specs.Prelude.{◌≡◌, ◌+◌, ◌*◌, ◌%◌, ◌≤◌, length};
+ghost use Rattle.replay.specs.Counts.{IsPrefixLen};
 ghost use Rattle.slices.specs.Bytes.{le_at};
 ghost use Rattle.replay.specs.Sums.{sum_with, sum_with_all, sum_digit, sum_line};
+
+use std::fs;
+use std::io::Read;
+use std::rt::Files;
 
 // Files
 
 // The bytes of a file at the front of `to`, as many as there are and as there is room for; none where it can't be opened.
-pub fn read_file(path: &[u8], to: &mut [u8]) -> usize
+pub fn read_file<R: Files>(rt: &R, path: &str, to: &mut [u8]) -> usize
     ensures { IsPrefixLen result to.new }
 {
-    let fd = os::open_read(path);
-    if fd < 0 {
-        return 0;
+    match fs::open(rt, path) {
+        Ok(mut file) => read_full(&mut file, to),
+        Err(_) => 0,
     }
-    let n = io::read_full(fd, to);
-    libc::close(fd);
-    n
+}
+
+// One read into `to` from `at` on, and how many bytes it gave: none at the end, and where it failed.
+fn read_at<F: Read>(from: &mut F, to: &mut [u8], at: usize) -> usize
+    requires { at ≤ length to.old }
+    ensures { at + result ≤ length to.new }
+{
+    match from.read(&mut to[at..]) {
+        Ok(n) => n,
+        Err(_) => 0,
+    }
+}
+
+// Reads until `to` is full, the input ends or a read fails, and answers how many bytes stand at the front of `to`.
+pub fn read_full<F: Read>(from: &mut F, to: &mut [u8]) -> usize
+    ensures { IsPrefixLen result to.new }
+{
+    let mut done: usize = 0;
+    while done < to.len() {
+        let n = read_at(from, to, done);
+        if n == 0 {
+            break;
+        }
+        done += n;
+    }
+    done
 }
 
 // Whether there was a record, and how many bytes of it were read.
@@ -28,19 +55,19 @@ pub struct Got {
     pub len: usize,
 }
 
-fn read_body(fd: i32, to: &mut [u8], n: u32) -> usize
+fn read_body<F: Read>(from: &mut F, to: &mut [u8], n: u32) -> usize
     ensures { IsPrefixLen result to.new }
 {
-    let n = io::count(n as isize, to);
-    io::read_full(fd, &mut to[..n])
+    let n = to.len().min(n as usize);
+    read_full(from, &mut to[..n])
 }
 
 // The next record of a container: its length, then as many bytes.
-pub fn read_record(fd: i32, to: &mut [u8]) -> Got
+pub fn read_record<F: Read>(from: &mut F, to: &mut [u8]) -> Got
     ensures { IsPrefixLen result.len to.new }
 {
     let mut length = [0u8; 4];
-    if io::read_full(fd, &mut length) < 4 {
+    if read_full(from, &mut length) < 4 {
         return Got {
             some: false,
             len: 0,
@@ -49,7 +76,7 @@ pub fn read_record(fd: i32, to: &mut [u8]) -> Got
     let n = word(&length, 0);
     Got {
         some: true,
-        len: read_body(fd, to, n),
+        len: read_body(from, to, n),
     }
 }
 

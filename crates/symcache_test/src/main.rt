@@ -2,13 +2,14 @@
 #![tactic(auto)]
 
 use file_texts::GotString;
-use libc::STDOUT_FILENO;
 use lookup::{
     FileStep, Files, Frame, FrameFile, FunctionStep, Functions, GotFile, GotFunction, LookedUp,
     SourceLocations, Step,
 };
 use raw::{File, Function, Header, SourceLocation};
 use replay::{add, add_bytes, low, number, place, word};
+use std::fs;
+use std::io::Read;
 use symcache::{ErrorKind, Parsed, SymCache};
 
 // Words
@@ -81,10 +82,8 @@ fn add_got_file(sum: u32, got: GotFile) -> u32 {
 
 fn add_file_rows(sum: u32, s: &[u8], n: u32) -> u32 {
     let mut now = sum;
-    let mut i: u32 = 0;
-    while i < n {
+    for i in 0..n {
         now = add_got_file(now, lookup::get_file(s, i));
-        i += 1;
     }
     now
 }
@@ -98,10 +97,8 @@ fn add_got_function(sum: u32, got: GotFunction) -> u32 {
 
 fn add_function_rows(sum: u32, s: &[u8], n: u32) -> u32 {
     let mut now = sum;
-    let mut i: u32 = 0;
-    while i < n {
+    for i in 0..n {
         now = add_got_function(now, lookup::get_function(s, i));
-        i += 1;
     }
     now
 }
@@ -112,20 +109,16 @@ fn add_location(sum: u32, l: SourceLocation) -> u32 {
 
 fn add_location_rows(sum: u32, s: &[u8], at: usize, n: u32) -> u32 {
     let mut now = sum;
-    let mut i: u32 = 0;
-    while i < n {
+    for i in 0..n {
         now = add_location(now, raw::location_at(s, place(at, 16 * (i as usize))));
-        i += 1;
     }
     now
 }
 
 fn add_range_rows(sum: u32, s: &[u8], at: usize, n: u32) -> u32 {
     let mut now = sum;
-    let mut i: u32 = 0;
-    while i < n {
+    for i in 0..n {
         now = add(now, word(s, place(at, 4 * (i as usize))));
-        i += 1;
     }
     now
 }
@@ -186,8 +179,7 @@ fn add_function(sum: u32, s: &[u8], function_idx: u32, f: Function) -> u32 {
 fn add_each_function(sum: u32, s: &[u8]) -> u32 {
     let mut now = sum;
     let mut functions = Functions { function_idx: 0 };
-    let mut turns = u32::MAX;
-    while turns > 0 {
+    for _ in 0..u32::MAX {
         let FunctionStep::Function {
             index,
             function,
@@ -198,7 +190,6 @@ fn add_each_function(sum: u32, s: &[u8]) -> u32 {
         };
         now = add_function(now, s, index, function);
         functions = next;
-        turns -= 1;
     }
     now
 }
@@ -239,8 +230,7 @@ fn add_file(sum: u32, s: &[u8], f: File) -> u32 {
 fn add_each_file(sum: u32, s: &[u8]) -> u32 {
     let mut now = sum;
     let mut files = Files { file_idx: 0 };
-    let mut turns = u32::MAX;
-    while turns > 0 {
+    for _ in 0..u32::MAX {
         let FileStep::File {
             index: _,
             file,
@@ -251,7 +241,6 @@ fn add_each_file(sum: u32, s: &[u8]) -> u32 {
         };
         now = add_file(now, s, file);
         files = next;
-        turns -= 1;
     }
     now
 }
@@ -293,14 +282,12 @@ fn add_frame(sum: u32, s: &[u8], frame: Frame) -> u32 {
 fn add_frames(sum: u32, s: &[u8], walk: SourceLocations) -> u32 {
     let mut total = sum;
     let mut now = walk;
-    let mut turns = u32::MAX;
-    while turns > 0 {
+    for _ in 0..u32::MAX {
         let Step::Frame { frame, next } = now.next(s) else {
             break;
         };
         total = add_frame(total, s, frame);
         now = next;
-        turns -= 1;
     }
     total
 }
@@ -327,10 +314,8 @@ fn address_at(addresses: &[u8], i: u32) -> u64 {
 fn add_lookups(sum: u32, s: &[u8], addresses: &[u8]) -> u32 {
     let n = word(addresses, 0);
     let mut now = sum;
-    let mut i: u32 = 0;
-    while i < n {
+    for i in 0..n {
         now = add_lookup(now, s, address_at(addresses, i));
-        i += 1;
     }
     now
 }
@@ -345,42 +330,38 @@ fn case_sum(s: &[u8], addresses: &[u8]) -> u32 {
 }
 
 // A case: the length of a file, the file, and what follows it.
-fn replay_case(record: &[u8]) {
+fn replay_case(rt: &impl Print, record: &[u8]) {
     let to = 4 + (word(record, 0) as usize);
     if record.len() < to {
         return;
     }
     let line = replay::sum_line(case_sum(&record[4..to], &record[to..]));
-    io::write_all(STDOUT_FILENO, &line);
+    let _ = rt.write_all(&line);
 }
 
 // Replays the next record, and answers whether there was one.
-fn replay_next(fd: i32) -> bool {
+fn replay_next<F: Read>(rt: &impl Print, from: &mut F) -> bool {
     let mut record = [0u8; 16384];
-    let got = replay::read_record(fd, &mut record);
+    let got = replay::read_record(from, &mut record);
     let n = got.len;
     if got.some {
-        replay_case(&record[..n]);
+        replay_case(rt, &record[..n]);
     }
     got.some
 }
 
-// Nothing says that the container ends, so the records are counted down.
-fn replay_all(fd: i32) {
-    let mut turns = u32::MAX;
-    while turns > 0 {
-        if !replay_next(fd) {
+// Nothing says that the container ends, so the records are counted.
+fn replay_all<F: Read>(rt: &impl Print, from: &mut F) {
+    for _ in 0..u32::MAX {
+        if !replay_next(rt, from) {
             break;
         }
-        turns -= 1;
     }
 }
 
-fn main() {
-    let fd = os::open_read(b"reader.cases");
-    if fd < 0 {
+fn main(rt: HostRuntime) {
+    let Ok(mut from) = fs::open(&rt, "reader.cases") else {
         return;
-    }
-    replay_all(fd);
-    libc::close(fd);
+    };
+    replay_all(&rt, &mut from);
 }

@@ -4,7 +4,6 @@
 // and its bytes. A - stands for absent.
 #![tactic(auto)]
 
-use libc::{STDIN_FILENO, STDOUT_FILENO};
 use text::leb128::{Leb, read_leb128, write_leb128};
 use text::strings::{Text, read_text, text_part};
 use text::utf8::is_utf8;
@@ -40,73 +39,63 @@ fn wide(b: u8) -> u64 {
     b as u64
 }
 
-fn hexes(s: &[u8]) {
-    let mut i = 0;
-    while i < s.len() {
-        io::print_hex(STDOUT_FILENO, wide(s[i]), 2);
-        io::write_all(STDOUT_FILENO, b" ");
-        i += 1;
+fn hexes(rt: &impl Print, s: &[u8]) {
+    for b in s {
+        let n = wide(*b);
+        let _ = print!(rt; "{n:02x} ");
     }
 }
 
-fn first_hexes(s: &[u8], n: usize) {
+fn first_hexes(rt: &impl Print, s: &[u8], n: usize) {
     if n <= s.len() {
-        hexes(&s[0..n]);
+        hexes(rt, &s[0..n]);
     }
 }
 
 // The shortest form of v.
-fn print_shortest(v: u64) {
+fn print_shortest(rt: &impl Print, v: u64) {
     let mut out = [0u8; 10];
     let n = write_leb128(&mut out, 0, v);
-    first_hexes(&out, n);
+    first_hexes(rt, &out, n);
 }
 
-fn print_number(s: &[u8]) {
+fn print_number(rt: &impl Print, s: &[u8]) {
     let Leb::Number { value, len } = read_leb128(s, 0) else {
-        io::write_all(STDOUT_FILENO, b"n- ");
+        let _ = print!(rt; "n- ");
         return;
     };
-    io::write_all(STDOUT_FILENO, b"n");
-    io::print_hex(STDOUT_FILENO, value, 16);
-    io::write_all(STDOUT_FILENO, b" ");
-    io::print_decimal(STDOUT_FILENO, len as u64);
-    io::write_all(STDOUT_FILENO, b" = ");
-    print_shortest(value);
+    let _ = print!(rt; "n{value:016x} {len} = ");
+    print_shortest(rt, value);
 }
 
-fn print_text(s: &[u8]) {
+fn print_text(rt: &impl Print, s: &[u8]) {
     let Text::At { start, len } = read_text(s, 0) else {
-        io::write_all(STDOUT_FILENO, b"t- ");
+        let _ = print!(rt; "t- ");
         return;
     };
-    io::write_all(STDOUT_FILENO, b"t");
-    io::print_decimal(STDOUT_FILENO, start as u64);
-    io::write_all(STDOUT_FILENO, b" ");
-    io::print_decimal(STDOUT_FILENO, len as u64);
-    io::write_all(STDOUT_FILENO, b" ");
+    let _ = print!(rt; "t{start} {len} ");
 }
 
-fn print_utf8(s: &[u8]) {
+fn print_utf8(rt: &impl Print, s: &[u8]) {
     if is_utf8(s) {
-        io::write_all(STDOUT_FILENO, b"u1 ");
+        let _ = print!(rt; "u1 ");
         return;
     }
-    io::write_all(STDOUT_FILENO, b"u0 ");
+    let _ = print!(rt; "u0 ");
 }
 
-fn report(s: &[u8]) {
-    hexes(s);
-    print_utf8(s);
-    print_number(s);
-    print_text(s);
-    hexes(text_part(s, 0));
-    io::write_all(STDOUT_FILENO, b"\n");
+fn report(rt: &impl Print, s: &[u8]) {
+    hexes(rt, s);
+    print_utf8(rt, s);
+    print_number(rt, s);
+    print_text(rt, s);
+    hexes(rt, text_part(s, 0));
+    let _ = println!(rt);
 }
 
-fn report_first(s: &[u8], n: usize) {
+fn report_first(rt: &impl Print, s: &[u8], n: usize) {
     if n <= s.len() {
-        report(&s[0..n]);
+        report(rt, &s[0..n]);
     }
 }
 
@@ -117,10 +106,10 @@ fn put(s: &mut [u8], at: usize, b: u8) {
 }
 
 // One byte of the input.
-fn feed(line: &mut [u8], now: Line, b: u8) -> Line {
+fn feed(rt: &impl Print, line: &mut [u8], now: Line, b: u8) -> Line {
     if b == 10 {
         if now.used > 0 || !now.comment {
-            report_first(line, now.used);
+            report_first(rt, line, now.used);
         }
         return start();
     }
@@ -154,18 +143,16 @@ fn feed(line: &mut [u8], now: Line, b: u8) -> Line {
     }
 }
 
-fn feed_all(line: &mut [u8], input: &[u8]) {
+fn feed_all(rt: &impl Print, line: &mut [u8], input: &[u8]) {
     let mut now = start();
-    let mut i = 0;
-    while i < input.len() {
-        now = feed(line, now, input[i]);
-        i += 1;
+    for b in input {
+        now = feed(rt, line, now, *b);
     }
 }
 
-fn main() {
+fn main(rt: HostRuntime) {
     let mut input = [0u8; 16384];
-    let n = io::read_full(STDIN_FILENO, &mut input);
+    let n = replay::read_full(&mut rt.stdin(), &mut input);
     let mut line = [0u8; 64];
-    feed_all(&mut line, &input[..n]);
+    feed_all(&rt, &mut line, &input[..n]);
 }

@@ -1,10 +1,11 @@
 // Replays lists of calls whose written files the original made: oracle/FORMAT.md, "Converter". A line is printed for each list, the checksum of its words.
 #![tactic(auto)]
 
-use libc::STDOUT_FILENO;
 use memory::Converter;
 use replay::{add, add_bytes, low, number, place, word};
 use rows::{OptionalPart, TextPart};
+use std::fs;
+use std::io::Read;
 use symbol_call::Answer;
 
 // Parts of a record
@@ -42,28 +43,18 @@ fn rest<'a>(t: &'a [u8], at: usize) -> &'a [u8] {
 // A column of n 32-bit numbers, which begins at `at`.
 fn read_words(t: &mut [u32], n: usize, s: &[u8], at: usize) {
     let mut from = at;
-    let mut i: usize = 0;
-    while i < t.len() {
-        if n <= i {
-            break;
-        }
+    for i in 0..t.len().min(n) {
         t[i] = word(s, from);
         from = place(from, 4);
-        i += 1;
     }
 }
 
 // A column of 64-bit numbers.
 fn read_numbers(t: &mut [u64], n: usize, s: &[u8], at: usize) {
     let mut from = at;
-    let mut i: usize = 0;
-    while i < t.len() {
-        if n <= i {
-            break;
-        }
+    for i in 0..t.len().min(n) {
         t[i] = number(s, from);
         from = place(from, 8);
-        i += 1;
     }
 }
 
@@ -226,13 +217,14 @@ fn write(
     Replay { converter, sum }
 }
 
-fn end(now: Replay) -> Replay {
+fn end(rt: &impl Print, now: Replay) -> Replay {
     let line = replay::sum_line(now.sum);
-    io::write_all(STDOUT_FILENO, &line);
+    let _ = rt.write_all(&line);
     now
 }
 
 fn step(
+    rt: &impl Print,
     now: Replay,
     string_bytes: &mut [u8],
     strings: &mut [u32],
@@ -289,12 +281,13 @@ fn step(
             ranges,
         );
     }
-    end(now)
+    end(rt, now)
 }
 
-// Nothing says that the container ends, so the records are counted down.
-fn replay_all(
-    fd: i32,
+// Nothing says that the container ends, so the records are counted.
+fn replay_all<F: Read>(
+    rt: &impl Print,
+    from: &mut F,
     string_bytes: &mut [u8],
     strings: &mut [u32],
     files: &mut [u32],
@@ -312,13 +305,13 @@ fn replay_all(
         ranges,
         record,
     );
-    let mut turns = u32::MAX;
-    while turns > 0 {
-        let got = replay::read_record(fd, record);
+    for _ in 0..u32::MAX {
+        let got = replay::read_record(from, record);
         if !got.some {
             break;
         }
         now = step(
+            rt,
             now,
             string_bytes,
             strings,
@@ -328,15 +321,13 @@ fn replay_all(
             ranges,
             first_bytes(record, got.len),
         );
-        turns -= 1;
     }
 }
 
-fn main() {
-    let fd = os::open_read(b"converter.cases");
-    if fd < 0 {
+fn main(rt: HostRuntime) {
+    let Ok(mut from) = fs::open(&rt, "converter.cases") else {
         return;
-    }
+    };
     let mut string_bytes = [0u8; 16384];
     let mut strings = [0u32; 4096];
     let mut files = [0u32; 4096];
@@ -345,7 +336,8 @@ fn main() {
     let mut ranges = [0u32; 4096];
     let mut record = [0u8; 16384];
     replay_all(
-        fd,
+        &rt,
+        &mut from,
         &mut string_bytes,
         &mut strings,
         &mut files,
@@ -354,5 +346,4 @@ fn main() {
         &mut ranges,
         &mut record,
     );
-    libc::close(fd);
 }
