@@ -111,6 +111,7 @@ covers_true n x c = rw (le-leb (reach n).from x c.0, lt-ltb x (reach n).to c.1)
 
 line-found : (ns : List LineRow) (n : LineRow) (x : ℕ) → n ∈ ns → Covers (reach n) x → line_at_lem ns x ≢ none
 unfolding line_at_lem
+line-found [] n x i c e = elim i [ ]
 line-found (m ∷ ns) n x here c e = let z = rw (covers_true n x c) at e in none-some (sym z)
 line-found (m ∷ ns) n x (there i) c e = go (leb (reach m).from x && ltb x (reach m).to) refl (line-found ns n x i c)
   where

@@ -11,6 +11,7 @@ by_first : (a z : ℕ) (n : LineRow) (ls : List LineRow) → Asc a (map reach (n
 by_first a z n ls s i = omega (arith, s.0, s.1, i)
 
 some_first : (a z : ℕ) (ls : List LineRow) → Asc a (map reach ls) → ((n : LineRow) → n ∈ ls → n.address + line_size n ≤ a + z) → {n : LineRow} → n ∈ ls → 0 < z
+some_first a z [] s i e = elim e [ ]
 some_first a z (n ∷ ls) s i here = by_first a z n ls s (i n here)
 some_first a z (m ∷ ls) s i (there e) = by_first a z m ls s (i m here)
 

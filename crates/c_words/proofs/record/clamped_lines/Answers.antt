@@ -5,4 +5,4 @@ use Rattle.c_words.proofs.record.clamped_lines.Goals as goal
 pub returns : goal.returns
 returns c =
     let a = c.args in
-    handed_out a.«record».now c.load.ensures c.clamped_lines_in.ensures
+    handed_out a.«record».now c.load.ensures c.clamped_lines.ensures
