@@ -138,8 +138,8 @@ module _ (id : List ℕ) (arch : ℕ) (X : Setup) (gs : List Given) (file : List
   -- a walk gives as many frames as it gives
   walked-alike : {d k t : List ℕ} {vs ws : List Shown} → WalkedByCalls file d k t vs → WalkedByCalls file d k t ws → length vs ≡ length ws
   walked-alike (walks.ends a e) (walks.ends b f) = refl
-  walked-alike (walks.ends a e) (walks.goes {v} b f w) = absurd (not_end _ v.file f.file e)
-  walked-alike (walks.goes {v} a e w) (walks.ends b f) = absurd (not_end _ v.file e.file f)
+  walked-alike {k = k} {t = t} (walks.ends a e) (walks.goes {v} b f w) = absurd (not_end (next_call file k t).slice v.file f.file e)
+  walked-alike {k = k} {t = t} (walks.goes {v} a e w) (walks.ends b f) = absurd (not_end (next_call file k t).slice v.file e.file f)
   walked-alike (walks.goes a e v) (walks.goes b f w) = ap suc (walked-alike v w)
 
   few_by_calls : (d : List ℕ) (x : ℕ) (vs : List Shown) → FoundByCalls file d x vs → length vs ≤ 42

@@ -1,11 +1,6 @@
--- The place stays inside the piece; the calls are counted down.
-use Prim.Native.Nat.{◌≤◌}
-use native.Mathlib.Omega.{arith}
-use lib.ListN.{length}
+-- The place in the piece stays within it.
+use Rattle.std.proofs.Common.{◌≤◌, length}
 use Rattle.lister.proofs.list_piece.Given as goal
 
-abbrev pub invariant-loop-turns : goal.invariant-loop-turns
-invariant-loop-turns l = l.from ≤ length l.piece
-
-abbrev pub decreases-loop-turns : goal.decreases-loop-turns
-decreases-loop-turns l = l.turns
+abbrev pub invariant-loop : goal.invariant-loop
+invariant-loop g l = l.from ≤ length l.piece

@@ -1,11 +1,9 @@
--- The line at hand starts at or before i, which is at most the length.
-use Prim.Native.Nat.{◌≤◌, ◌-◌}
-use mathlib.Core.Logic.{⊎_elim}
-use lib.ListN.{length}
+-- The line at hand begins before its end.
+use Rattle.std.proofs.Common.{◌-◌, ◌≤◌, ◌<◌, ◌^◌, length}
 use Rattle.names_test.proofs.show_lines.Given as goal
 
 abbrev pub invariant-loop-i : goal.invariant-loop-i
-invariant-loop-i l = (l.start ≤ l.i) × (l.i ≤ length l.s)
+invariant-loop-i g l = (l.start ≤ l.i) × (length l.s < 2 ^ 64)
 
 abbrev pub decreases-loop-i : goal.decreases-loop-i
-decreases-loop-i l = length l.s - l.i
+decreases-loop-i g l = length l.s - l.i

@@ -1,9 +1,0 @@
--- The calls are counted down.
-use Rattle.std.proofs.Common.{◌≡◌, length, rules}
-use Rattle.listing_test.proofs.drain.Given as goal
-
-abbrev pub invariant-loop-turns : goal.invariant-loop-turns
-invariant-loop-turns l = length l.out ≡ length l.initial.out
-
-abbrev pub decreases-loop-turns : goal.decreases-loop-turns
-decreases-loop-turns l = l.turns

@@ -1,9 +1,0 @@
--- The steps are counted down, so the loop ends.
-use Rattle.std.proofs.Common.{rules}
-use Rattle.symcache_test.proofs.add_each_file.Given as goal
-
-abbrev pub invariant-loop-turns : goal.invariant-loop-turns
-invariant-loop-turns l = Unit {0}
-
-abbrev pub decreases-loop-turns : goal.decreases-loop-turns
-decreases-loop-turns l = l.turns
