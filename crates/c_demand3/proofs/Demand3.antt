@@ -10,6 +10,7 @@ use lib.Dec.{leb}
 use lib.ListN.{length, take, drop, get_or, replicate, length-map}
 use lib.Seq.{take_at}
 use borrow.Author.Tests.{le-ltb, leb-true}
+use Rattle.c_reading.specs.Reading.{next_call}
 use Rattle.slices.specs.Bytes.{bytes_at}
 use Rattle.slices.proofs.Bytes.{length_bytes_at}
 use Rattle.model.specs.Rows.{Given}
