@@ -39,7 +39,7 @@ module _ {F : Type 0} where
   advance-stay a w [] e h = refl
   advance-stay a w (c ∷ cs) e h = rw (advance-off a w c cs h.0)
 
-  calls-from : (b : ℕ) {cs : List (Call F)} {c : Call F} (e : ℕ) → CallsAsc b cs e → c ∈ cs → b ≤ c.addr
+  calls-from : {c : Call F} (b : ℕ) {cs : List (Call F)} (e : ℕ) → CallsAsc b cs e → c ∈ cs → b ≤ c.addr
   calls-from b e h here = h.0
   calls-from b e h (there {b = q} i) = let k = calls-from (suc q.addr) e h.1 i in omega (arith, h.0)
 

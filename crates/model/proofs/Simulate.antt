@@ -99,6 +99,8 @@ module _ {Q N Y R P L C S F : Type 0} (I : Input Q N Y) (M : Machine Q N Y R P L
     where
       go : (o : Option L) (p : Option (List F)) → M.get s a ≡ o → m a ≡ p → Match s o p → Step s (unless_held I M a t s) (insert_soft a v m)
       go none none e f neither = rw (e, unless_held, f, insert_soft) h
+      go none (some _) e f x = elim x [ ]
+      go (some l) none e f x = elim x [ ]
       go (some l) (some []) e f (both q) = rw (e, unless_held, f, insert_soft, W.is-none-yes s l sm.good q) h
       go (some l) (some (x ∷ w)) e f (both q) = rw (e, unless_held, f, insert_soft, W.is-none_no s l x w sm.good q) (stay sm)
 
@@ -108,6 +110,8 @@ module _ {Q N Y R P L C S F : Type 0} (I : Input Q N Y) (M : Machine Q N Y R P L
     where
       go : (o : Option L) (p : Option (List F)) → M.get s a ≡ o → m a ≡ p → Match s o p → Step s (put_end I M a s) (insert-end a m)
       go none none e f neither = rw (e, put_end, f, insert-end) (sim_put a (W.none_law s sm.good) sm)
+      go none (some _) e f x = elim x [ ]
+      go (some l) none e f x = elim x [ ]
       go (some l) (some v) e f (both q) = rw (e, put_end, f, insert-end) (stay sm)
 
   -- ── Call locations ──
@@ -368,15 +372,21 @@ module _ {Q N Y R P L C S F : Type 0} (I : Input Q N Y) (M : Machine Q N Y R P L
   run_sim (o ∷ os) s m g sm = let p = op-sim o s m (g o here) sm in step_trans p.ext (run_sim os _ _ (λ q i. g q (there i)) p.sim)
 
   match_some : (s : S) (l : L) (o : Option L) (p : Option (List F)) → o ≡ some l → Match s o p → (v : List F) × (p ≡ some v) × K.Loc s l v
+  match_some s l none (some _) e x = elim x [ ]
+  match_some s l (some k) none e x = elim x [ ]
   match_some s l none none e neither = let z : ◌≡◌ {A = ℕ} 0 1 = cc in absurd (omega arith)
   match_some s l (some k) (some v) e (both h) = (v, refl, subst (λ (t : L). K.Loc s t v) (cc) h)
 
   match_here : (s : S) (v : List F) (o : Option L) (p : Option (List F)) → p ≡ some v → Match s o p → (l : L) × (o ≡ some l)
+  match_here s v none (some _) e x = elim x [ ]
+  match_here s v (some k) none e x = elim x [ ]
   match_here s v none none e neither = let z : ◌≡◌ {A = ℕ} 0 1 = cc in absurd (omega arith)
   match_here s v (some k) (some w) e (both h) = (k, refl)
 
   match_gone : (s : S) (o : Option L) (p : Option (List F)) → p ≡ none → Match s o p → o ≡ none
   match_gone s none none e neither = refl
+  match_gone s none (some _) e x = elim x [ ]
+  match_gone s (some k) none e x = elim x [ ]
   match_gone s (some k) (some v) e (both h) = cc
 
   -- ── After a list ──

@@ -13,4 +13,4 @@ pub returns : goal.returns
 unfolding files_call
 returns c =
     let a = c.args in
-    c.put_file_step.ensures ∙ ap (λ (o : Answer (Option NextFile)). steps_to file_next next_file_words o a.cursor.now a.row.now) (c.next.ensures ∙ ap (λ (i : ℕ). files_next a.bytes.now (record { file_idx = i })) c.index_of.ensures)
+    c.put_file_step.ensures ∙ ap (λ (o : Answer (Option NextFile)). steps_to file_next next_file_words o a.cursor.now a.row.now) (c.next.ensures ∙ ap (λ (i : ℕ). files_next a.bytes.now (record { file_idx = i})) c.index_of.ensures)

@@ -13,4 +13,4 @@ pub returns : goal.returns
 unfolding functions_call
 returns c =
     let a = c.args in
-    c.put_function_step.ensures ∙ ap (λ (o : Answer (Option NextFunction)). steps_to function_next next_function_words o a.cursor.now a.row.now) (c.next.ensures ∙ ap (λ (i : ℕ). functions_next a.bytes.now (record { function_idx = i })) c.index_of.ensures)
+    c.put_function_step.ensures ∙ ap (λ (o : Answer (Option NextFunction)). steps_to function_next next_function_words o a.cursor.now a.row.now) (c.next.ensures ∙ ap (λ (i : ℕ). functions_next a.bytes.now (record { function_idx = i})) c.index_of.ensures)

@@ -11,7 +11,7 @@ use Rattle.c_texts.proofs.put_string.Goals as goal
 pub returns-in-At : goal.returns-in-At
 returns-in-At c =
     let a = c.args in
-    given part_words (string_answer a.string) (some (record { c = c.in-At.start; len = c.in-At.len })) a.part.now (ap string_answer c.in-At.is) (puts a.part.now 0 (part_words (some (record { c = c.in-At.start; len = c.in-At.len }))) (put 1 refl c.put64.ensures (put 2 refl c.put64-in-At.ensures (put 3 refl c.put64-in-At-2.ensures done))))
+    given part_words (string_answer a.string) (some (record { start = c.in-At.start; len = c.in-At.len })) a.part.now (ap string_answer c.in-At.is) (puts a.part.now 0 (part_words (some (record { start = c.in-At.start; len = c.in-At.len }))) (put 1 refl c.put64.ensures (put 2 refl c.put64-in-At.ensures (put 3 refl c.put64-in-At-2.ensures done))))
 
 pub returns-in-Absent : goal.returns-in-Absent
 returns-in-Absent c =

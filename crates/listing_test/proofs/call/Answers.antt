@@ -4,4 +4,4 @@ use Rattle.std.proofs.Common.{rules}
 use Rattle.listing_test.proofs.call.Goals as goal
 
 pub returns : goal.returns
-returns c = (inside _ _ _ _ c.list.ensures).used
+returns c = (inside _ _ _ _ c.list-listed.ensures).used

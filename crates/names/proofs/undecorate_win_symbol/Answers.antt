@@ -15,10 +15,10 @@ pub returns-then-contains : goal.returns-then-contains
 returns-then-contains c = sym (qualified _ (sym c.starts_with.ensures ∙ c.if-starts_with.false) (sym c.contains.ensures ∙ c.if-contains.true))
 
 pub slice_bounds-result-end : goal.slice_bounds-result-end
-slice_bounds-result-end c = sym (length-take-le _ _ (cut-within _ _ _ (found_some _ _ (sym c.n.given.1 ∙ c.cut.ensures))))
+slice_bounds-result-end c = sym (length-take-le _ _ (cut-within _ _ _ (found_some _ _ (sym c.in-At.is ∙ c.cut.ensures))))
 
 pub returns-in-At : goal.returns-in-At
-returns-in-At c = sym (vectorcall _ (sym c.starts_with.ensures ∙ c.if-starts_with.false) (sym c.contains.ensures ∙ c.if-contains.false) _ (found_some _ _ (sym c.n.given.1 ∙ c.cut.ensures)))
+returns-in-At c = sym (vectorcall _ (sym c.starts_with.ensures ∙ c.if-starts_with.false) (sym c.contains.ensures ∙ c.if-contains.false) _ (found_some _ _ (sym c.in-At.is ∙ c.cut.ensures)))
 
 pub slice_bounds-rest-count : goal.slice_bounds-rest-count
 slice_bounds-rest-count c = prefixed-within _ (sym c.prefixed.ensures ∙ c.if-prefixed.true)
@@ -29,12 +29,12 @@ slice_bounds-rest-start c = prefixed-within _ (sym c.prefixed.ensures ∙ c.if-p
 pub slice_bounds-result-end-in-At-cut : goal.slice_bounds-result-end-in-At-cut
 slice_bounds-result-end-in-At-cut c =
     let s = c.args.name.now in
-    rw (rest 1 s) (sym (length-take-le _ _ (cut-within _ _ _ (found_some _ _ (sym c.n2.given.1 ∙ rw (rest 1 s) at c.cut2.ensures)))))
+    rw (rest 1 s) (sym (length-take-le _ _ (cut-within _ _ _ (found_some _ _ (sym c.in-At-cut.is ∙ rw (rest 1 s) at c.cut-then-prefixed.ensures)))))
 
 pub returns-in-At-cut : goal.returns-in-At-cut
 returns-in-At-cut c =
     let s = c.args.name.now in
-    rw (rest 1 s) (sym (stdcall _ (sym c.starts_with.ensures ∙ c.if-starts_with.false) (sym c.contains.ensures ∙ c.if-contains.false) (found_none _ (sym c.in_default.is ∙ c.cut.ensures)) (sym c.prefixed.ensures ∙ c.if-prefixed.true) _ (found_some _ _ (sym c.n2.given.1 ∙ rw (rest 1 s) at c.cut2.ensures))))
+    rw (rest 1 s) (sym (stdcall _ (sym c.starts_with.ensures ∙ c.if-starts_with.false) (sym c.contains.ensures ∙ c.if-contains.false) (found_none _ (sym c.in_default.is ∙ c.cut.ensures)) (sym c.prefixed.ensures ∙ c.if-prefixed.true) _ (found_some _ _ (sym c.in-At-cut.is ∙ rw (rest 1 s) at c.cut-then-prefixed.ensures))))
 
 pub returns-then-starts_with-2 : goal.returns-then-starts_with-2
 returns-then-starts_with-2 c =

@@ -12,8 +12,7 @@ loop-left-init c = (omega arith, refl, refl)
 
 pub loop-left-preserved : goal.loop-left-preserved
 loop-left-preserved c =
-    let a = c.args in
-    (
+    let a = c.args in (
       omega arith,
       simp length-set c.loop-left.invariant.1,
       rw c.hex_digit.ensures (hex_turn c.loop-left.out a.at c.loop-left.left c.loop-left.rest c.loop-left-test.true) ∙ c.loop-left.invariant.2,

@@ -16,13 +16,13 @@ loop-i-init c = (omega arith, refl)
 pub loop-i-preserved : goal.loop-i-preserved
 loop-i-preserved c =
     let a = c.args in
-    let l : length a.t3 ≡ 6 = search rules in
-    (omega arith, word-stored a.s.now a.t3 a.at c.loop-i.i (omega arith) c.loop-i.invariant.1 c.store.ensures)
+    let l : length a.words ≡ 6 = search rules in
+    (omega arith, word-stored a.s.now a.words a.at c.loop-i.i (omega arith) c.loop-i.invariant.1 c.store.ensures)
 
 pub shape_of-s : goal.shape_of-s
 shape_of-s c =
     let a = c.args in
-    ap (λ (z : List ℕ). length z) c.loop-i.invariant.1 ∙ length-sets a.s.now a.at (word_bytes (take c.loop-i.i a.t3))
+    ap (λ (z : List ℕ). length z) c.loop-i.invariant.1 ∙ length-sets a.s.now a.at (word_bytes (take c.loop-i.i a.words))
 
 pub returns : goal.returns
 returns c =

@@ -10,4 +10,4 @@ pub returns : goal.returns
 unfolding le
 returns c =
     let a = c.args in
-    header_made a.h a.s.now a.at ((search rules, search rules)).0 ((search rules, search rules)).1 c.copy.ensures c.store_words.ensures refl c.copy-2.ensures c.copy-3.ensures
+    header_made a.h a.s.now a.at (search rules) (search rules) c.copy.ensures c.store_words.ensures refl c.copy-2.ensures c.copy-3.ensures

@@ -6,4 +6,4 @@ pub returns-then-end-text : goal.returns-then-end-text
 returns-then-end-text c = part_in _ _ _ c.if-end-text.true
 
 pub returns : goal.returns
-returns c = part_out _ _ _ c.if1.false
+returns c = part_out _ _ _ c.if-end-text.false

@@ -15,14 +15,14 @@ loop-i-init c = let a = c.args in (omega arith, omega arith, rw c.range_start-la
 pub returns-then-start-last : goal.returns-then-start-last
 returns-then-start-last c =
     let a = c.args in
-    sym (ascending-stops (start_at a.s.now a.ranges) c.loop-i.new c.loop-i.i a.n (omega arith) (rw c.range_start-start.ensures at c.if-start-last.true)) ∙ c.loop-i.invariant.2
+    sym (ascending-stops (start_at a.s.now a.ranges) c.loop-i.last c.loop-i.i a.n (omega arith) (rw c.range_start-start.ensures at c.if-start-last.true)) ∙ c.loop-i.invariant.2
 
 pub loop-i-preserved : goal.loop-i-preserved
 loop-i-preserved c =
     let a = c.args in
-    (omega arith, omega arith, rw c.range_start-start.ensures (ascending-more (start_at a.s.now a.ranges) c.loop-i.new c.loop-i.i a.n (omega arith) (rw c.range_start-start.ensures at c.if-start-last.false)) ∙ c.loop-i.invariant.2)
+    (omega arith, omega arith, rw c.range_start-start.ensures (ascending-more (start_at a.s.now a.ranges) c.loop-i.last c.loop-i.i a.n (omega arith) (rw c.range_start-start.ensures at c.if-start-last.false)) ∙ c.loop-i.invariant.2)
 
 pub returns : goal.returns
 returns c =
     let a = c.args in
-    ascending-ends (start_at a.s.now a.ranges) c.loop-i.new c.loop-i.i a.n (omega arith) ∙ c.loop-i.invariant.2
+    ascending-ends (start_at a.s.now a.ranges) c.loop-i.last c.loop-i.i a.n (omega arith) ∙ c.loop-i.invariant.2

@@ -13,11 +13,10 @@ loop-i-init c =
 
 pub loop-i-preserved : goal.loop-i-preserved
 loop-i-preserved c =
-    let l = c.loop in
     let a = c.args in (
       omega arith,
-      turned-step a.ranges.now a.out.now a.at a.count l.i l.out l.invariant.1 (omega arith) _ _ _ _ _
-          c.load_u32.ensures
+      turned-step a.ranges.now a.out.now a.at a.count c.loop-i.i c.loop-i.out c.loop-i.invariant.1 (omega arith) _ _ _ _ _
+          c.load_u32-start.ensures
           c.load_u32-row.ensures
           (c.location_of_row-l.ensures ∙ ap location_of_lem c.row_at.ensures)
           c.write_range.ensures

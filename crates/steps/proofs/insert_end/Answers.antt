@@ -14,4 +14,4 @@ pub returns : goal.returns
 returns c =
     let a = c.args in
     λ X x i f g m.
-    kept_where_taken X a.end (words a.state x i f g m a.ranges.now) c.is_vacant.ensures c.if-is_vacant.left
+    kept_where_taken X a.end (words a.state x i f g m a.ranges.now) c.is_vacant.ensures c.if-is_vacant.false

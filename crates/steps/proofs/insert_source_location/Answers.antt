@@ -17,4 +17,4 @@ returns c =
     let a = c.args in
     λ X x i f g m.
     let s = words a.state x i f g m a.ranges.now in
-    kept_where_held X a.start s (put_range a.start a.l s) c.is_free.ensures c.if-is_free.left
+    kept_where_held X a.start s (put_range a.start a.l s) c.is_free.ensures c.if-is_free.false

@@ -30,17 +30,17 @@ returns-then-t-eq0 c = let a = c.args in empty a.text.now a.strings.now a.bytes 
 pub returns-then-i-count : goal.returns-then-i-count
 returns-then-i-count c =
     let a = c.args in
-    found a.text.now a.strings.now a.bytes a.count a.t.now c.if1.left c.find.ensures
-    c.if2.true c.row_at.ensures c.text_of_row-found.ensures
+    found a.text.now a.strings.now a.bytes a.count a.t.now c.if-t-eq0.false c.find-i.ensures
+    c.if-i-count.true c.row_at.ensures c.text_of_row-found.ensures
 
 pub returns : goal.returns
 returns c =
     let a = c.args in
-    new a.text.now a.strings.now a.bytes a.count a.t.now c.if1.left c.find-i.ensures
+    new a.text.now a.strings.now a.bytes a.count a.t.now c.if-t-eq0.false c.find-i.ensures
     c.if-i-count.false c.store.ensures
 
 pub find-i-requires : goal.find-i-requires
-find-i-requires c = c.hash.ensures
+find-i-requires c = c.hash-hash.ensures
 
 pub store-requires : goal.store-requires
-store-requires c = c.hash.ensures
+store-requires c = c.hash-hash.ensures

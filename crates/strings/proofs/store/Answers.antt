@@ -61,52 +61,52 @@ module _ (text strings : List ℕ) (bytes count : ℕ) (t : List ℕ) {cap limit
 pub overflow_add-start : goal.overflow_add-start
 overflow_add-start c =
     let i = (let a = c.args in
-    inside a.text.now a.strings.now a.bytes a.count a.t.now c.capacity.ensures c.text_capacity-limit.ensures c.leb128_len-prefix.ensures c.fits2.ensures c.if-fits.true) in omega arith
+    inside a.text.now a.strings.now a.bytes a.count a.t.now c.capacity-cap.ensures c.text_capacity-limit.ensures c.leb128_len-prefix.ensures c.fits.ensures c.if-fits.true) in omega arith
 
 pub write-requires : goal.write-requires
 write-requires c =
     let i = (let a = c.args in
-    inside a.text.now a.strings.now a.bytes a.count a.t.now c.capacity.ensures c.text_capacity-limit.ensures c.leb128_len-prefix.ensures c.fits2.ensures c.if-fits.true) in
+    inside a.text.now a.strings.now a.bytes a.count a.t.now c.capacity-cap.ensures c.text_capacity-limit.ensures c.leb128_len-prefix.ensures c.fits.ensures c.if-fits.true) in
     (ap (λ (n : ℕ). c.args.bytes + n) c.leb128_len-prefix.ensures, omega arith)
 
 pub overflow_cast-start : goal.overflow_cast-start
 overflow_cast-start c =
     let i = (let a = c.args in
-    inside a.text.now a.strings.now a.bytes a.count a.t.now c.capacity.ensures c.text_capacity-limit.ensures c.leb128_len-prefix.ensures c.fits2.ensures c.if-fits.true) in omega arith
+    inside a.text.now a.strings.now a.bytes a.count a.t.now c.capacity-cap.ensures c.text_capacity-limit.ensures c.leb128_len-prefix.ensures c.fits.ensures c.if-fits.true) in omega arith
 
 pub overflow_cast-t : goal.overflow_cast-t
 overflow_cast-t c =
     let i = (let a = c.args in
-    inside a.text.now a.strings.now a.bytes a.count a.t.now c.capacity.ensures c.text_capacity-limit.ensures c.leb128_len-prefix.ensures c.fits2.ensures c.if-fits.true) in omega arith
+    inside a.text.now a.strings.now a.bytes a.count a.t.now c.capacity-cap.ensures c.text_capacity-limit.ensures c.leb128_len-prefix.ensures c.fits.ensures c.if-fits.true) in omega arith
 
 pub overflow_add-result : goal.overflow_add-result
 overflow_add-result c =
     let i = (let a = c.args in
-    inside a.text.now a.strings.now a.bytes a.count a.t.now c.capacity.ensures c.text_capacity-limit.ensures c.leb128_len-prefix.ensures c.fits2.ensures c.if-fits.true) in omega arith
+    inside a.text.now a.strings.now a.bytes a.count a.t.now c.capacity-cap.ensures c.text_capacity-limit.ensures c.leb128_len-prefix.ensures c.fits.ensures c.if-fits.true) in omega arith
 
 pub overflow_cast-result : goal.overflow_cast-result
 overflow_cast-result c =
     let i = (let a = c.args in
-    inside a.text.now a.strings.now a.bytes a.count a.t.now c.capacity.ensures c.text_capacity-limit.ensures c.leb128_len-prefix.ensures c.fits2.ensures c.if-fits.true) in omega arith
+    inside a.text.now a.strings.now a.bytes a.count a.t.now c.capacity-cap.ensures c.text_capacity-limit.ensures c.leb128_len-prefix.ensures c.fits.ensures c.if-fits.true) in omega arith
 
 pub returns-then-fits : goal.returns-then-fits
 returns-then-fits c =
     let a = c.args in
-    let e1 = c.capacity.ensures in
+    let e1 = c.capacity-cap.ensures in
     let e2 = c.text_capacity-limit.ensures in
     let e3 = c.leb128_len-prefix.ensures in
-    storing a.text.now a.strings.now a.bytes a.count a.t.now e1 e2 e3 c.fits2.ensures c.if-fits.true
+    storing a.text.now a.strings.now a.bytes a.count a.t.now e1 e2 e3 c.fits.ensures c.if-fits.true
     c.pre refl c.write.ensures
-    (indexed a.text.now a.strings.now a.bytes a.count a.t.now e1 e2 e3 c.fits2.ensures c.if-fits.true
-    {c.push-count = left c.push-count.result c.push-count.new.t} c.row_of_text-row.ensures c.push-count.ensures)
+    (indexed a.text.now a.strings.now a.bytes a.count a.t.now e1 e2 e3 c.fits.ensures c.if-fits.true
+    {y = left c.push-count.result c.push-count.new.t} c.row_of_text-row.ensures c.push-count.ensures)
 
 pub full-requires : goal.full-requires
 full-requires c =
     let a = c.args in
-    few a.text.now a.strings.now a.bytes a.count a.t.now c.capacity.ensures c.text_capacity.ensures c.leb128_len.ensures c.fits2.ensures
+    few a.text.now a.strings.now a.bytes a.count a.t.now c.capacity-cap.ensures c.text_capacity-limit.ensures c.leb128_len-prefix.ensures c.fits.ensures
 
 pub returns : goal.returns
 returns c =
     let a = c.args in
-    refused a.text.now a.strings.now a.bytes a.count a.t.now c.capacity.ensures c.text_capacity.ensures c.leb128_len.ensures c.fits2.ensures c.if1.false
+    refused a.text.now a.strings.now a.bytes a.count a.t.now c.capacity-cap.ensures c.text_capacity-limit.ensures c.leb128_len-prefix.ensures c.fits.ensures c.if-fits.false
     c.full.ensures

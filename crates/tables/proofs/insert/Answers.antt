@@ -32,20 +32,20 @@ small t e h = let m = cap-most (length t) in omega arith
 pub returns-then-i-n : goal.returns-then-i-n
 returns-then-i-n c =
     let a = c.args in
-    found a.width a.t.now a.n a.row c.capacity.ensures c.key.ensures c.hash.ensures c.bucket.ensures c.head_at.ensures
+    found a.width a.t.now a.n a.row c.capacity-cap.ensures c.key-k.ensures c.hash.ensures c.bucket-h.ensures c.head_at-l.ensures
     c.find-i.ensures c.if-i-n.true
 
 pub append-requires : goal.append-requires
-append-requires c = small c.args.t.now c.capacity.ensures c.if-n-cap.true
+append-requires c = small c.args.t.now c.capacity-cap.ensures c.if-n-cap.true
 
 pub returns-then-n-cap : goal.returns-then-n-cap
 returns-then-n-cap c =
     let a = c.args in
-    stored a.width a.t.now a.n a.row c.capacity.ensures c.key.ensures c.hash.ensures c.bucket.ensures c.head_at.ensures
+    stored a.width a.t.now a.n a.row c.capacity-cap.ensures c.key-k.ensures c.hash.ensures c.bucket-h.ensures c.head_at-l.ensures
     c.find-i.ensures c.if-i-n.false c.if-n-cap.true c.append.ensures
 
 pub returns : goal.returns
 returns c =
     let a = c.args in
-    full a.width a.t.now a.n a.row c.capacity.ensures c.key.ensures c.hash.ensures c.bucket.ensures c.head_at.ensures
-    c.find.ensures c.if1.false c.if2.false c.over-count.ensures
+    full a.width a.t.now a.n a.row c.capacity-cap.ensures c.key-k.ensures c.hash.ensures c.bucket-h.ensures c.head_at-l.ensures
+    c.find-i.ensures c.if-i-n.false c.if-n-cap.false c.over-count.ensures

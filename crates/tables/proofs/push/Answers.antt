@@ -24,14 +24,14 @@ module _ (t : List ℕ) (n : ℕ) (q : Row) (x : ℕ) {cap : ℕ} (e : cap ≡ c
 pub append-requires : goal.append-requires
 append-requires c =
     let a = c.args in
-    small a.t.now a.n a.row a.hash c.capacity.ensures c.if1.taken
+    small a.t.now a.n a.row a.hash c.capacity-cap.ensures c.if-n-cap.true
 
 pub returns-then-n-cap : goal.returns-then-n-cap
 returns-then-n-cap c =
     let a = c.args in
-    stored a.t.now a.n a.row a.hash c.capacity.ensures c.if1.taken c.bucket.ensures c.head_at-link.ensures c.append.ensures
+    stored a.t.now a.n a.row a.hash c.capacity-cap.ensures c.if-n-cap.true c.bucket-h.ensures c.head_at-link.ensures c.append.ensures
 
 pub returns : goal.returns
 returns c =
     let a = c.args in
-    full a.t.now a.n a.row a.hash c.capacity.ensures c.if1.false c.over.ensures
+    full a.t.now a.n a.row a.hash c.capacity-cap.ensures c.if-n-cap.false c.over.ensures

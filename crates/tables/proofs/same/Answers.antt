@@ -50,19 +50,19 @@ returns-then-x-y-2 c =
 pub returns-then-x-y-3 : goal.returns-then-x-y-3
 returns-then-x-y-3 c =
     let a = c.args in
-    same-2 a.x a.y c.if-x-y.left c.if-x-y-2.false c.if-x-y-3.true
+    same-2 a.x a.y c.if-x-y.false c.if-x-y-2.false c.if-x-y-3.true
 
 pub returns-then-x-y-4 : goal.returns-then-x-y-4
 returns-then-x-y-4 c =
     let a = c.args in
-    same-3 a.x a.y c.if-x-y.left c.if-x-y-2.left c.if-x-y-3.false c.if-x-y-4.true
+    same-3 a.x a.y c.if-x-y.false c.if-x-y-2.false c.if-x-y-3.false c.if-x-y-4.true
 
 pub returns-then-x-y-5 : goal.returns-then-x-y-5
 returns-then-x-y-5 c =
     let a = c.args in
-    same-4 a.x a.y c.if-x-y.left c.if-x-y-2.left c.if-x-y-3.left c.if-x-y-4.false c.if-x-y-5.true
+    same-4 a.x a.y c.if-x-y.false c.if-x-y-2.false c.if-x-y-3.false c.if-x-y-4.false c.if-x-y-5.true
 
 pub returns : goal.returns
 returns c =
     let a = c.args in
-    same-5 a.x a.y c.if-x-y.left c.if-x-y-2.left c.if-x-y-3.left c.if-x-y-4.left c.if-x-y-5.false
+    same-5 a.x a.y c.if-x-y.false c.if-x-y-2.false c.if-x-y-3.false c.if-x-y-4.false c.if-x-y-5.false

@@ -21,4 +21,4 @@ pub returns-then-m-cap : goal.returns-then-m-cap
 returns-then-m-cap c = let a = c.args in noted a.journal.now a.m a.i a.v a.old c.capacity-cap.ensures c.if-m-cap.true c.set_entry.ensures
 
 pub returns : goal.returns
-returns c = let a = c.args in full a.journal.now a.m a.i a.v a.old c.capacity.ensures c.if1.left c.over.ensures
+returns c = let a = c.args in full a.journal.now a.m a.i a.v a.old c.capacity-cap.ensures c.if-m-cap.false c.over.ensures

@@ -22,10 +22,10 @@ module _ (j : List ℕ) (m : ℕ) (was : Was) (n i : ℕ) (old : Row) where
   changed e f = rw (e, f)
 
 pub returns-in-Vacant : goal.returns-in-Vacant
-returns-in-Vacant c = let a = c.args invacant a.journal.now a.m a.was a.n a.i a.old c.in-Vacant.is {x = left c.note.result c.note.new.journal} c.note.ensures
+returns-in-Vacant c = let a = c.args in vacant a.journal.now a.m a.was a.n a.i a.old c.in-Vacant.is {x = left c.note.result c.note.new.journal} c.note.ensures
 
 pub returns-in-Same : goal.returns-in-Same
 returns-in-Same c = let a = c.args in same a.journal.now a.m a.was a.n a.i a.old c.in-Same.is
 
 pub returns-in-Changed : goal.returns-in-Changed
-returns-in-Changed c = let a = c.args inchanged a.journal.now a.m a.was a.n a.i a.old c.in-Changed.is {x = left c.note-in-Changed.result c.note-in-Changed.new.journal} c.note-in-Changed.ensures
+returns-in-Changed c = let a = c.args in changed a.journal.now a.m a.was a.n a.i a.old c.in-Changed.is {x = left c.note-in-Changed.result c.note-in-Changed.new.journal} c.note-in-Changed.ensures

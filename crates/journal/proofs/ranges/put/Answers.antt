@@ -24,4 +24,4 @@ returns-then-on c =
     marked a.on a.t.now a.count a.journal.now a.entries (range_row_lem a.start a.loc) c.if-on.true {x = journaled c.put_noted.result c.put_noted.new.t c.put_noted.new.journal} c.put_noted.ensures
 
 pub returns : goal.returns
-returns c = let a = c.args inplain a.on a.t.now a.count a.journal.now a.entries (range_row_lem a.start a.loc) c.if-on.left {c.put-change = left c.put-change.result c.put-change.new.t} c.put-change.ensures
+returns c = let a = c.args in plain a.on a.t.now a.count a.journal.now a.entries (range_row_lem a.start a.loc) c.if-on.false {x = left c.put-change.result c.put-change.new.t} c.put-change.ensures

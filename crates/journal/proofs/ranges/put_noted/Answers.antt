@@ -18,5 +18,5 @@ law t n j m q {row} {i} e0 e1 e2 e3 e4 = let e : i ≡ lookup_of 1 t n q = rw e0
 pub returns : goal.returns
 returns c =
     let a = c.args in
-    law a.t.now a.count a.journal.now a.entries (range_row_lem a.start a.loc) {c.put-change = left c.put-change.result c.put-change.new.t} {c.note_was-noted = left c.note_was-noted.result c.note_was-noted.new.journal}
-    c.row_of_range.ensures c.lookup.ensures c.row_at-old.ensures c.put-change.ensures c.note_was-noted.ensures
+    law a.t.now a.count a.journal.now a.entries (range_row_lem a.start a.loc) {x = left c.put-change.result c.put-change.new.t} {y = left c.note_was-noted.result c.note_was-noted.new.journal}
+    c.row_of_range-row.ensures c.lookup-i.ensures c.row_at-old.ensures c.put-change.ensures c.note_was-noted.ensures

@@ -24,7 +24,7 @@ pub returns-then-v-eq-ADDED : goal.returns-then-v-eq-ADDED
 returns-then-v-eq-ADDED c = let a = c.args in added a.t.now a.i a.v a.old c.if-v-eq-ADDED.true c.take_off.ensures
 
 pub returns-then-v-eq-CHANGED : goal.returns-then-v-eq-CHANGED
-returns-then-v-eq-CHANGED c = let a = c.args in changed a.t.now a.i a.v a.old c.if-v-eq-ADDED.left c.if-v-eq-CHANGED.true c.set_row.ensures
+returns-then-v-eq-CHANGED c = let a = c.args in changed a.t.now a.i a.v a.old c.if-v-eq-ADDED.false c.if-v-eq-CHANGED.true c.set_row.ensures
 
 pub returns-else-v-eq-CHANGED : goal.returns-else-v-eq-CHANGED
-returns-else-v-eq-CHANGED c = let a = c.args in none a.t.now a.i a.v a.old c.if-v-eq-ADDED.left c.if-v-eq-CHANGED.left
+returns-else-v-eq-CHANGED c = let a = c.args in none a.t.now a.i a.v a.old c.if-v-eq-ADDED.false c.if-v-eq-CHANGED.false

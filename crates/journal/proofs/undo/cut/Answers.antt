@@ -22,10 +22,10 @@ pub loop-i-init : goal.loop-i-init
 loop-i-init c = (refl, refl)
 
 pub loop-i-preserved : goal.loop-i-preserved
-loop-i-preserved c = let a = c.args in(search rules, cut-turn c.loop-i.i c.loop-i.text a.n c.loop-i-test.true c.zero.ensures c.loop-i.invariant.1)
+loop-i-preserved c = let a = c.args in (search rules, cut-turn c.loop-i.i c.loop-i.text a.n c.loop-i-test.true c.zero.ensures c.loop-i.invariant.1)
 
 pub shape_of-text : goal.shape_of-text
 shape_of-text c = c.loop-i.invariant.0
 
 pub returns : goal.returns
-returns c = let a = c.args insym (cut-done c.loop-i.i c.loop-i.text a.n c.loop-i-test.false) ∙ c.loop-i.invariant.1
+returns c = let a = c.args in sym (cut-done c.loop-i.i c.loop-i.text a.n c.loop-i-test.false) ∙ c.loop-i.invariant.1

@@ -20,7 +20,7 @@ module _ (w : ℕ) (t : List ℕ) (n : ℕ) {m : ℕ} (e : m ≡ capacity_of (le
 pub returns-then-n-cap : goal.returns-then-n-cap
 returns-then-n-cap c =
     let a = c.args in
-    off a.width a.t.now a.n c.capacity.ensures c.if1.true c.row_at.ensures c.row_hash.ensures c.bucket-h.ensures c.unlink.ensures
+    off a.width a.t.now a.n c.capacity-cap.ensures c.if-n-cap.true c.row_at.ensures c.row_hash.ensures c.bucket-h.ensures c.unlink.ensures
 
 pub returns-else-n-cap : goal.returns-else-n-cap
 returns-else-n-cap c = let a = c.args in none a.width a.t.now a.n c.capacity-cap.ensures c.if-n-cap.false

@@ -15,4 +15,4 @@ pub returns : goal.returns
 returns c =
     let a = c.args in
     λ X x i y m.
-    symbol-kept X a.name_offset a.address (words a.state x i y a.functions.now m a.ranges.now) c.is_free.ensures c.if-is_free.left
+    symbol-kept X a.name_offset a.address (words a.state x i y a.functions.now m a.ranges.now) c.is_free.ensures c.if-is_free.false

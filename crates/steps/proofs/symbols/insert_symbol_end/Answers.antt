@@ -13,16 +13,16 @@ pub returns-else-end-le-MAX : goal.returns-else-end-le-MAX
 returns-else-end-le-MAX c =
     let a = c.args in
     λ X t x i f g m.
-    end-above X a.address a.size t (words a.state x i f g m a.ranges.now) c.if-size-gt0.true c.if-end-le-MAX.left
+    end-above X a.address a.size t (words a.state x i f g m a.ranges.now) c.if-size-gt0.true c.if-end-le-MAX.false
 
 pub returns-else-size-le-MAX : goal.returns-else-size-le-MAX
 returns-else-size-le-MAX c =
     let a = c.args in
     λ X t x i f g m.
-    end_large X a.address a.size t (words a.state x i f g m a.ranges.now) c.if-size-le-MAX.left
+    end_large X a.address a.size t (words a.state x i f g m a.ranges.now) c.if-size-le-MAX.false
 
 pub returns-else-size-gt0 : goal.returns-else-size-gt0
 returns-else-size-gt0 c =
     let a = c.args in
     λ X t x i f g m.
-    end-absent X a.address a.size t (words a.state x i f g m a.ranges.now) c.if-size-gt0.left
+    end-absent X a.address a.size t (words a.state x i f g m a.ranges.now) c.if-size-gt0.false

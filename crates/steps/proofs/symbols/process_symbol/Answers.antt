@@ -17,11 +17,11 @@ returns-else-address-le-MAX c =
     let a = c.args in
     λ b f k.
     symbol-above (switches b a.undecorate) a.text.now a.address a.size a.name (words a.state a.string_bytes.now a.strings.now f a.functions.now k a.ranges.now)
-    c.if-name.true c.if-address-le-MAX.left
+    c.if-name.true c.if-address-le-MAX.false
 
 pub returns-else-name : goal.returns-else-name
 returns-else-name c =
     let a = c.args in
     λ b f k.
     symbol-unnamed (switches b a.undecorate) a.text.now a.address a.size a.name (words a.state a.string_bytes.now a.strings.now f a.functions.now k a.ranges.now)
-    c.if-name.left
+    c.if-name.false

@@ -31,4 +31,4 @@ returns-then-i-count c =
 pub returns : goal.returns
 returns c =
     let a = c.args in
-    none a.t.now a.count a.start c.row_of_start.ensures c.lookup-i.ensures c.if-i-count.left
+    none a.t.now a.count a.start c.row_of_start.ensures c.lookup-i.ensures c.if-i-count.false

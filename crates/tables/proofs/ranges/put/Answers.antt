@@ -35,11 +35,11 @@ returns-then-cap-count c =
 pub returns-then-index-count : goal.returns-then-index-count
 returns-then-index-count c =
     let a = c.args in
-    over a.t.now a.count (range_row_lem a.start a.loc) c.capacity-cap.ensures c.if-cap-count.left c.row_of_range-row.ensures
-    {c.insert-got = left c.insert-got.result c.insert-got.new.t} c.insert-got.ensures c.if-index-count.true {c.replace-was = left c.replace-was.result c.replace-was.new.t} c.replace-was.ensures
+    over a.t.now a.count (range_row_lem a.start a.loc) c.capacity-cap.ensures c.if-cap-count.false c.row_of_range-row.ensures
+    {x = left c.insert-got.result c.insert-got.new.t} c.insert-got.ensures c.if-index-count.true {y = left c.replace-was.result c.replace-was.new.t} c.replace-was.ensures
 
 pub returns : goal.returns
 returns c =
     let a = c.args in
-    new a.t.now a.count (range_row_lem a.start a.loc) c.capacity-cap.ensures c.if-cap-count.left c.row_of_range-row.ensures
-    {c.insert-got = left c.insert-got.result c.insert-got.new.t} c.insert-got.ensures c.if-index-count.left
+    new a.t.now a.count (range_row_lem a.start a.loc) c.capacity-cap.ensures c.if-cap-count.false c.row_of_range-row.ensures
+    {x = left c.insert-got.result c.insert-got.new.t} c.insert-got.ensures c.if-index-count.false

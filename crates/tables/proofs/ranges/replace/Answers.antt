@@ -23,4 +23,4 @@ returns-then-same c = let a = c.args in kept a.t.now a.i a.row c.row_at.ensures 
 pub returns : goal.returns
 returns c =
     let a = c.args in
-    changed a.t.now a.i a.row c.row_at.ensures c.same.ensures c.if-same.left c.set_row.ensures
+    changed a.t.now a.i a.row c.row_at.ensures c.same.ensures c.if-same.false c.set_row.ensures

@@ -17,4 +17,4 @@ returns c =
     let a = c.args in
     λ x i f g k.
     let w = words a.state x i f g k a.ranges.now in
-    no_self_range a.current_address a.inline_start (put_range a.current_address a.source_location w) w c.if-current_address-inline_start.left
+    no_self_range a.current_address a.inline_start (put_range a.current_address a.source_location w) w c.if-current_address-inline_start.false

@@ -55,68 +55,59 @@ loop-next_line-preserved-then-address-current_address c =
 
 pub find_call_location-call_location_iter-requires : goal.find_call_location-call_location_iter-requires
 find_call_location-call_location_iter-requires c =
-    let i = c.loop.invariant.5 in
+    let i = c.loop-next_line.invariant.5 in
     (omega (arith, i.apart, i.room, i.len), i.passes)
 
 pub loop-current_address-init : goal.loop-current_address-init
 loop-current_address-init c =
     let r = c.args.inlinee_ranges in
-    let b = c.line_boundaries.result in
-    let l = c.loop in (
+    let b = c.line_boundaries-line_range.result in
+    (
       refl,
       refl,
-      λ X g. begins input (over_words X) r.at r.len c.locate_line-located.result.location b.end l.s l.next_inline b.start ((words c.locate_line-located.result.state c.locate_line-located.new.string_bytes c.locate_line-located.new.strings c.locate_line-located.new.files g c.loop.call_locations c.loop.ranges)) l.invariant.5.few (omega (arith, l.invariant.5.room, l.invariant.5.len)),
+      λ X g. begins input (over_words X) r.at r.len c.locate_line-located.result.location b.end c.loop-next_line.s c.loop-next_line.next_inline b.start ((words c.locate_line-located.result.state c.locate_line-located.new.string_bytes c.locate_line-located.new.strings c.locate_line-located.new.files g c.loop-next_line.call_locations c.loop-next_line.ranges)) c.loop-next_line.invariant.5.few (omega (arith, c.loop-next_line.invariant.5.room, c.loop-next_line.invariant.5.len)),
     )
 
 -- the range becomes a call location
 pub loop-current_address-preserved : goal.loop-current_address-preserved
 loop-current_address-preserved c =
     let r = c.args.inlinee_ranges in
-    let b = c.line_boundaries.result in
-    let t = c.locate_line.last in (
-      c.insert_call_location-call_location.auto.call_locations ∙ c.loop2.invariant.0,
-      c.insert_self_range.kept.1.0 ∙ c.loop2.invariant.1,
+    let b = c.line_boundaries-line_range.result in
+    (
+      c.insert_call_location-call_location.auto.call_locations ∙ c.loop-next_line.invariant.0,
+      c.insert_self_range-now.auto.ranges ∙ c.loop-next_line.invariant.1,
       λ X g.
-          range_taken input (over_words X) r.at r.len c.locate_line.result.location b.end c.loop.s c.loop.next_inline b.start ((let d = c.locate_line in
-    words d.result.state d.new.1.0 d.new.1.1.0 d.new.1.1.1.0 g c.loop.call_locations c.loop.ranges))
-          c.loop2.s c.loop2.next_inline c.loop2.current_address ((let d = c.locate_line in
-    words c.loop2.now d.last.1.0 d.last.1.1.0 d.last.1.1.1.0 g c.loop2.call_locations c.loop2.ranges)) (c.loop2.invariant.2 X g) c.if2.left c.if3.left
-          c.word.result c.word.ensures ((let d = c.locate_line in
-    let r = c.insert_self_range in
-    words r.result d.last.1.0 d.last.1.1.0 d.last.1.1.1.0 g c.loop2.call_locations r.new.1.0)) (c.insert_self_range.ensures t.1.0 t.1.1.0 t.1.1.1.0 g c.loop2.call_locations) c.if4.left
+          range_taken input (over_words X) r.at r.len c.locate_line-located.result.location b.end c.loop-next_line.s c.loop-next_line.next_inline b.start ((words c.locate_line-located.result.state c.locate_line-located.new.string_bytes c.locate_line-located.new.strings c.locate_line-located.new.files g c.loop-next_line.call_locations c.loop-next_line.ranges))
+          c.loop-next_line.s c.loop-next_line.next_inline c.loop-next_line.current_address ((words c.loop-next_line.now c.locate_line-located.new.string_bytes c.locate_line-located.new.strings c.locate_line-located.new.files g c.loop-next_line.call_locations c.loop-next_line.ranges)) (c.loop-next_line.invariant.2 X g) c.if-line_range_end-current_address.false c.if-inline_len-next_inline.false
+          c.word-inline_start.result c.word-inline_start.ensures ((words c.insert_self_range-now.result c.locate_line-located.new.string_bytes c.locate_line-located.new.strings c.locate_line-located.new.files g c.loop-next_line.call_locations c.insert_self_range-now.new.ranges)) (c.insert_self_range-now.ensures c.locate_line-located.new.string_bytes c.locate_line-located.new.strings c.locate_line-located.new.files g c.loop-next_line.call_locations) c.if-line_range_end-inline_start.false
           c.word-inline_end.result c.insert_call_location-call_location.result.index
-          (words c.insert_call_location-call_location.result.state t.1.0 t.1.1.0 t.1.1.1.0 g c.insert_call_location-call_location.new.call_locations c.insert_self_range.last.1.0) c.put.new.t
-          c.word-inline_end.ensures (c.insert_call_location-call_location.ensures t.1.0 t.1.1.0 t.1.1.1.0 g c.insert_self_range.last.1.0) c.put.ensures,
+          (words c.insert_call_location-call_location.result.state c.locate_line-located.new.string_bytes c.locate_line-located.new.strings c.locate_line-located.new.files g c.insert_call_location-call_location.new.call_locations c.insert_self_range-now.new.ranges) c.put.new.t
+          c.word-inline_end.ensures (c.insert_call_location-call_location.ensures c.locate_line-located.new.string_bytes c.locate_line-located.new.strings c.locate_line-located.new.files g c.insert_self_range-now.new.ranges) c.put.ensures,
     )
 
 -- the line is at its end
 pub loop-next_line-preserved-then-line_range_end-current_address : goal.loop-next_line-preserved-then-line_range_end-current_address
 loop-next_line-preserved-then-line_range_end-current_address c =
     let r = c.args.inlinee_ranges in
-    let b = c.line_boundaries.result in
-    let l = c.loop in
+    let b = c.line_boundaries-line_range.result in
     (
-      c.locate_line-located.auto.string_bytes ∙ l.invariant.0,
-      c.locate_line-located.auto.strings ∙ l.invariant.1,
-      c.locate_line-located.auto.files ∙ l.invariant.2,
-      c.loop-current_address.invariant.0 ∙ l.invariant.3,
-      c.loop-current_address.invariant.1 ∙ l.invariant.4,
+      c.locate_line-located.auto.string_bytes ∙ c.loop-next_line.invariant.0,
+      c.locate_line-located.auto.strings ∙ c.loop-next_line.invariant.1,
+      c.locate_line-located.auto.files ∙ c.loop-next_line.invariant.2,
+      c.loop-current_address.invariant.0 ∙ c.loop-next_line.invariant.3,
+      c.loop-current_address.invariant.1 ∙ c.loop-next_line.invariant.4,
       (let a = c.args in
-    let l = c.loop in
     let i = c.loop-current_address.invariant.2 (switches true true) [] in
     keeps_done a.function.lines a.own.others.at a.own.others.len a.inlinee_ranges.at a.inlinee_ranges.len a.s.now
-    l.s l.next_line l.call_location_iter.next_call_location l.next_inline l.invariant.5 c.loop_test.taken
+    c.loop-next_line.s c.loop-next_line.next_line c.loop-next_line.call_location_iter.next_call_location c.loop-next_line.next_inline c.loop-next_line.invariant.5 c.loop-next_line-test.true
     c.find_call_location-call_location_iter.result.next_call_location c.find_call_location-call_location_iter.ensures.0 c.loop-current_address.s c.loop-current_address.next_inline i.kept i.len i.few),
       λ X f64 f32 g i e.
-          (let l = c.loop in
-    let n = c.line_row in
-    let b = c.line_boundaries in
-    line-walked ((let a = c.args in
+          (line-walked ((let a = c.args in
     fixed ((columns f64 f32 c.args.lines64.now c.args.lines32.now c.args.text.now)) i a.first_line a.function_idx a.function.lines a.own.others a.own.first a.inlinee_ranges.at a.inlinee_ranges.len a.s.now X
-    (words a.state a.string_bytes.now a.strings.now a.files.now g a.call_locations.now a.ranges.now))) l.s l.next_line l.call_location_iter l.next_inline l.current_address ((let l = c.loop in words l.now l.string_bytes l.strings l.files g l.call_locations l.ranges))
-    (l.invariant.6 X f64 f32 g i e) c.loop_test.true n.result n.ensures l.invariant.5.apart b.result b.ensures c.if1.false
-    c.comp_dir_part.result e c.find_call_location-call_location_iter.result c.find_call_location-call_location_iter.ensures.0 c.find_call_location-call_location_iter.ensures.1
-    c.locate_line-located.result.location ((words c.locate_line-located.result.state c.locate_line-located.new.string_bytes c.locate_line-located.new.strings c.locate_line-located.new.files g c.loop.call_locations c.loop.ranges)) (c.locate_line-located.ensures g l.call_locations l.ranges) c.loop-current_address.s c.loop-current_address.next_inline c.loop-current_address.current_address ((words c.loop-current_address.now c.locate_line-located.new.string_bytes c.locate_line-located.new.strings c.locate_line-located.new.files g c.loop-current_address.call_locations c.loop-current_address.ranges)) (line-ends input (over_words X) r.at r.len c.locate_line-located.result.location b.end l.s l.next_inline b.start ((words c.locate_line-located.result.state c.locate_line-located.new.string_bytes c.locate_line-located.new.strings c.locate_line-located.new.files g c.loop.call_locations c.loop.ranges))
+    (words a.state a.string_bytes.now a.strings.now a.files.now g a.call_locations.now a.ranges.now))) c.loop-next_line.s c.loop-next_line.next_line c.loop-next_line.call_location_iter c.loop-next_line.next_inline c.loop-next_line.current_address ((words c.loop-next_line.now c.loop-next_line.string_bytes c.loop-next_line.strings c.loop-next_line.files g c.loop-next_line.call_locations c.loop-next_line.ranges))
+    (c.loop-next_line.invariant.6 X f64 f32 g i e) c.loop-next_line-test.true c.line_row-line.result c.line_row-line.ensures c.loop-next_line.invariant.5.apart c.line_boundaries-line_range.result c.line_boundaries-line_range.ensures c.if-address-current_address.false
+    c.comp_dir_part-comp_dir.result e c.find_call_location-call_location_iter.result c.find_call_location-call_location_iter.ensures.0 c.find_call_location-call_location_iter.ensures.1
+    c.locate_line-located.result.location ((words c.locate_line-located.result.state c.locate_line-located.new.string_bytes c.locate_line-located.new.strings c.locate_line-located.new.files g c.loop-next_line.call_locations c.loop-next_line.ranges)) (c.locate_line-located.ensures g c.loop-next_line.call_locations c.loop-next_line.ranges) c.loop-current_address.s c.loop-current_address.next_inline c.loop-current_address.current_address ((words c.loop-current_address.now c.locate_line-located.new.string_bytes c.locate_line-located.new.strings c.locate_line-located.new.files g c.loop-current_address.call_locations c.loop-current_address.ranges)) (line-ends input (over_words X) r.at r.len c.locate_line-located.result.location b.end c.loop-next_line.s c.loop-next_line.next_inline b.start ((words c.locate_line-located.result.state c.locate_line-located.new.string_bytes c.locate_line-located.new.strings c.locate_line-located.new.files g c.loop-next_line.call_locations c.loop-next_line.ranges))
           c.loop-current_address.s c.loop-current_address.next_inline c.loop-current_address.current_address ((words c.loop-current_address.now c.locate_line-located.new.string_bytes c.locate_line-located.new.strings c.locate_line-located.new.files g c.loop-current_address.call_locations c.loop-current_address.ranges)) (c.loop-current_address.invariant.2 X g) c.if-line_range_end-current_address.true)),
     )
 
@@ -124,31 +115,26 @@ loop-next_line-preserved-then-line_range_end-current_address c =
 pub loop-next_line-preserved-then-inline_len-next_inline : goal.loop-next_line-preserved-then-inline_len-next_inline
 loop-next_line-preserved-then-inline_len-next_inline c =
     let r = c.args.inlinee_ranges in
-    let b = c.line_boundaries.result in
-    let l = c.loop in
+    let b = c.line_boundaries-line_range.result in
     (
-      c.locate_line-located.auto.string_bytes ∙ l.invariant.0,
-      c.locate_line-located.auto.strings ∙ l.invariant.1,
-      c.locate_line-located.auto.files ∙ l.invariant.2,
-      c.loop-current_address.invariant.0 ∙ l.invariant.3,
-      c.insert_range-now.auto.ranges ∙ c.loop-current_address.invariant.1 ∙ l.invariant.4,
+      c.locate_line-located.auto.string_bytes ∙ c.loop-next_line.invariant.0,
+      c.locate_line-located.auto.strings ∙ c.loop-next_line.invariant.1,
+      c.locate_line-located.auto.files ∙ c.loop-next_line.invariant.2,
+      c.loop-current_address.invariant.0 ∙ c.loop-next_line.invariant.3,
+      c.insert_range-now.auto.ranges ∙ c.loop-current_address.invariant.1 ∙ c.loop-next_line.invariant.4,
       (let a = c.args in
-    let l = c.loop in
     let i = c.loop-current_address.invariant.2 (switches true true) [] in
     keeps_done a.function.lines a.own.others.at a.own.others.len a.inlinee_ranges.at a.inlinee_ranges.len a.s.now
-    l.s l.next_line l.call_location_iter.next_call_location l.next_inline l.invariant.5 c.loop_test.taken
+    c.loop-next_line.s c.loop-next_line.next_line c.loop-next_line.call_location_iter.next_call_location c.loop-next_line.next_inline c.loop-next_line.invariant.5 c.loop-next_line-test.true
     c.find_call_location-call_location_iter.result.next_call_location c.find_call_location-call_location_iter.ensures.0 c.loop-current_address.s c.loop-current_address.next_inline i.kept i.len i.few),
       λ X f64 f32 g i e.
           let w = words c.insert_range-now.result c.locate_line-located.new.string_bytes c.locate_line-located.new.strings c.locate_line-located.new.files g c.loop-current_address.call_locations c.insert_range-now.new.ranges in
-          (let l = c.loop in
-    let n = c.line_row in
-    let b = c.line_boundaries in
-    line-walked ((let a = c.args in
+          (line-walked ((let a = c.args in
     fixed ((columns f64 f32 c.args.lines64.now c.args.lines32.now c.args.text.now)) i a.first_line a.function_idx a.function.lines a.own.others a.own.first a.inlinee_ranges.at a.inlinee_ranges.len a.s.now X
-    (words a.state a.string_bytes.now a.strings.now a.files.now g a.call_locations.now a.ranges.now))) l.s l.next_line l.call_location_iter l.next_inline l.current_address ((let l = c.loop in words l.now l.string_bytes l.strings l.files g l.call_locations l.ranges))
-    (l.invariant.6 X f64 f32 g i e) c.loop_test.true n.result n.ensures l.invariant.5.apart b.result b.ensures c.if1.false
-    c.comp_dir_part.result e c.find_call_location-call_location_iter.result c.find_call_location-call_location_iter.ensures.0 c.find_call_location-call_location_iter.ensures.1
-    c.locate_line-located.result.location ((words c.locate_line-located.result.state c.locate_line-located.new.string_bytes c.locate_line-located.new.strings c.locate_line-located.new.files g c.loop.call_locations c.loop.ranges)) (c.locate_line-located.ensures g l.call_locations l.ranges) c.loop-current_address.s c.loop-current_address.next_inline b.end w (no_range_left input (over_words X) r.at r.len c.locate_line-located.result.location b.end l.s l.next_inline b.start ((words c.locate_line-located.result.state c.locate_line-located.new.string_bytes c.locate_line-located.new.strings c.locate_line-located.new.files g c.loop.call_locations c.loop.ranges))
+    (words a.state a.string_bytes.now a.strings.now a.files.now g a.call_locations.now a.ranges.now))) c.loop-next_line.s c.loop-next_line.next_line c.loop-next_line.call_location_iter c.loop-next_line.next_inline c.loop-next_line.current_address ((words c.loop-next_line.now c.loop-next_line.string_bytes c.loop-next_line.strings c.loop-next_line.files g c.loop-next_line.call_locations c.loop-next_line.ranges))
+    (c.loop-next_line.invariant.6 X f64 f32 g i e) c.loop-next_line-test.true c.line_row-line.result c.line_row-line.ensures c.loop-next_line.invariant.5.apart c.line_boundaries-line_range.result c.line_boundaries-line_range.ensures c.if-address-current_address.false
+    c.comp_dir_part-comp_dir.result e c.find_call_location-call_location_iter.result c.find_call_location-call_location_iter.ensures.0 c.find_call_location-call_location_iter.ensures.1
+    c.locate_line-located.result.location ((words c.locate_line-located.result.state c.locate_line-located.new.string_bytes c.locate_line-located.new.strings c.locate_line-located.new.files g c.loop-next_line.call_locations c.loop-next_line.ranges)) (c.locate_line-located.ensures g c.loop-next_line.call_locations c.loop-next_line.ranges) c.loop-current_address.s c.loop-current_address.next_inline b.end w (no_range_left input (over_words X) r.at r.len c.locate_line-located.result.location b.end c.loop-next_line.s c.loop-next_line.next_inline b.start ((words c.locate_line-located.result.state c.locate_line-located.new.string_bytes c.locate_line-located.new.strings c.locate_line-located.new.files g c.loop-next_line.call_locations c.loop-next_line.ranges))
           c.loop-current_address.s c.loop-current_address.next_inline c.loop-current_address.current_address ((words c.loop-current_address.now c.locate_line-located.new.string_bytes c.locate_line-located.new.strings c.locate_line-located.new.files g c.loop-current_address.call_locations c.loop-current_address.ranges)) (c.loop-current_address.invariant.2 X g) c.if-line_range_end-current_address.false c.if-inline_len-next_inline.true w
           (c.insert_range-now.ensures c.locate_line-located.new.string_bytes c.locate_line-located.new.strings c.locate_line-located.new.files g c.loop-current_address.call_locations))),
     )
@@ -157,40 +143,27 @@ loop-next_line-preserved-then-inline_len-next_inline c =
 pub loop-next_line-preserved : goal.loop-next_line-preserved
 loop-next_line-preserved c =
     let r = c.args.inlinee_ranges in
-    let b = c.line_boundaries.result in
-    let l = c.loop in
-    let t = c.locate_line.last in
-    let q = c.locate_line.kept.1 in (
-      q.0 ∙ l.invariant.0,
-      q.1.0 ∙ l.invariant.1,
-      q.1.1.0 ∙ l.invariant.2,
-      c.loop2.invariant.0 ∙ l.invariant.3,
-      c.insert_self_range-now.auto.ranges ∙ c.loop2.invariant.1 ∙ l.invariant.4,
+    let b = c.line_boundaries-line_range.result in
+    (
+      c.locate_line-located.auto.string_bytes ∙ c.loop-next_line.invariant.0,
+      c.locate_line-located.auto.strings ∙ c.loop-next_line.invariant.1,
+      c.locate_line-located.auto.files ∙ c.loop-next_line.invariant.2,
+      c.loop-next_line.invariant.0 ∙ c.loop-next_line.invariant.3,
+      c.insert_self_range-now.auto.ranges ∙ c.loop-next_line.invariant.1 ∙ c.loop-next_line.invariant.4,
       (let a = c.args in
-    let l = c.loop in
-    let f = c.find_call_location in
-    let i = c.loop2.invariant.2 (switches true true) [] in
+    let i = c.loop-next_line.invariant.2 (switches true true) [] in
     keeps_done a.function.lines a.own.others.at a.own.others.len a.inlinee_ranges.at a.inlinee_ranges.len a.s.now
-    l.s l.next_line l.call_location_iter.next_call_location l.next_inline l.invariant.5 c.loop_test.taken
-    f.result.next_call_location f.ensures.0 c.loop2.s c.loop2.next_inline i.kept i.len i.few),
+    c.loop-next_line.s c.loop-next_line.next_line c.loop-next_line.call_location_iter.next_call_location c.loop-next_line.next_inline c.loop-next_line.invariant.5 c.loop-next_line-test.true
+    c.find_call_location-call_location_iter.result.next_call_location c.find_call_location-call_location_iter.ensures.0 c.loop-next_line.s c.loop-next_line.next_inline i.kept i.len i.few),
       λ X f64 f32 g i e.
-          (let l = c.loop in
-    let n = c.line_row in
-    let b = c.line_boundaries in
-    let f = c.find_call_location in
-    line-walked ((let a = c.args in
+          (line-walked ((let a = c.args in
     fixed ((columns f64 f32 c.args.lines64.now c.args.lines32.now c.args.text.now)) i a.first_line a.function_idx a.function.lines a.own.others a.own.first a.inlinee_ranges.at a.inlinee_ranges.len a.s.now X
-    (words a.state a.string_bytes.now a.strings.now a.files.now g a.call_locations.now a.ranges.now))) l.s l.next_line l.call_location_iter l.next_inline l.current_address ((let l = c.loop in words l.now l.string_bytes l.strings l.files g l.call_locations l.ranges))
-    (l.invariant.6 X f64 f32 g i e) c.loop_test.true n.result n.ensures l.invariant.5.apart b.result b.ensures c.if1.false
-    c.comp_dir_part.result e f.result f.ensures.0 f.ensures.1
-    c.locate_line.result.location ((let d = c.locate_line in
-    words d.result.state d.new.1.0 d.new.1.1.0 d.new.1.1.1.0 g c.loop.call_locations c.loop.ranges)) (c.locate_line.ensures g l.call_locations l.ranges) c.loop2.s c.loop2.next_inline b.end ((let d = c.locate_line in
-    words c.insert_self_range-now.result d.last.1.0 d.last.1.1.0 d.last.1.1.1.0 g c.loop2.call_locations c.insert_self_range-now.new.ranges)) (range_after input (over_words X) r.at r.len c.locate_line.result.location b.end l.s l.next_inline b.start ((let d = c.locate_line in
-    words d.result.state d.new.1.0 d.new.1.1.0 d.new.1.1.1.0 g c.loop.call_locations c.loop.ranges))
-          c.loop2.s c.loop2.next_inline c.loop2.current_address ((let d = c.locate_line in
-    words c.loop2.now d.last.1.0 d.last.1.1.0 d.last.1.1.1.0 g c.loop2.call_locations c.loop2.ranges)) (c.loop2.invariant.2 X g) c.if2.left c.if3.left
-          c.word-inline_start.result c.word-inline_start.ensures ((let d = c.locate_line in
-    words c.insert_self_range-now.result d.last.1.0 d.last.1.1.0 d.last.1.1.1.0 g c.loop2.call_locations c.insert_self_range-now.new.ranges)) (c.insert_self_range-now.ensures t.1.0 t.1.1.0 t.1.1.1.0 g c.loop2.call_locations) c.if-line_range_end-inline_start.true)),
+    (words a.state a.string_bytes.now a.strings.now a.files.now g a.call_locations.now a.ranges.now))) c.loop-next_line.s c.loop-next_line.next_line c.loop-next_line.call_location_iter c.loop-next_line.next_inline c.loop-next_line.current_address ((words c.loop-next_line.now c.loop-next_line.string_bytes c.loop-next_line.strings c.loop-next_line.files g c.loop-next_line.call_locations c.loop-next_line.ranges))
+    (c.loop-next_line.invariant.6 X f64 f32 g i e) c.loop-next_line-test.true c.line_row-line.result c.line_row-line.ensures c.loop-next_line.invariant.5.apart c.line_boundaries-line_range.result c.line_boundaries-line_range.ensures c.if-address-current_address.false
+    c.comp_dir_part-comp_dir.result e c.find_call_location-call_location_iter.result c.find_call_location-call_location_iter.ensures.0 c.find_call_location-call_location_iter.ensures.1
+    c.locate_line-located.result.location ((words c.locate_line-located.result.state c.locate_line-located.new.string_bytes c.locate_line-located.new.strings c.locate_line-located.new.files g c.loop-next_line.call_locations c.loop-next_line.ranges)) (c.locate_line-located.ensures g c.loop-next_line.call_locations c.loop-next_line.ranges) c.loop-next_line.s c.loop-next_line.next_inline b.end ((words c.insert_self_range-now.result c.locate_line-located.new.string_bytes c.locate_line-located.new.strings c.locate_line-located.new.files g c.loop-next_line.call_locations c.insert_self_range-now.new.ranges)) (range_after input (over_words X) r.at r.len c.locate_line-located.result.location b.end c.loop-next_line.s c.loop-next_line.next_inline b.start ((words c.locate_line-located.result.state c.locate_line-located.new.string_bytes c.locate_line-located.new.strings c.locate_line-located.new.files g c.loop-next_line.call_locations c.loop-next_line.ranges))
+          c.loop-next_line.s c.loop-next_line.next_inline c.loop-next_line.current_address ((words c.loop-next_line.now c.locate_line-located.new.string_bytes c.locate_line-located.new.strings c.locate_line-located.new.files g c.loop-next_line.call_locations c.loop-next_line.ranges)) (c.loop-next_line.invariant.2 X g) c.if-line_range_end-current_address.false c.if-inline_len-next_inline.false
+          c.word-inline_start.result c.word-inline_start.ensures ((words c.insert_self_range-now.result c.locate_line-located.new.string_bytes c.locate_line-located.new.strings c.locate_line-located.new.files g c.loop-next_line.call_locations c.insert_self_range-now.new.ranges)) (c.insert_self_range-now.ensures c.locate_line-located.new.string_bytes c.locate_line-located.new.strings c.locate_line-located.new.files g c.loop-next_line.call_locations) c.if-line_range_end-inline_start.true)),
     )
 
 pub returns : goal.returns
@@ -210,39 +183,39 @@ loop-next_line-smaller-then-address-current_address c = omega (arith, c.loop-nex
 pub overflow_mul-k : goal.overflow_mul-k
 overflow_mul-k c =
     omega (arith, (let i = c.loop-current_address.invariant.2 (switches true true) [] in
-    omega (arith, i.room, c.if-inline_len-next_inline.false, c.loop.invariant.5.len, c.good.1.1.1.1.1.1.0.0)))
+    omega (arith, i.room, c.if-inline_len-next_inline.false, c.loop-next_line.invariant.5.len, c.good.1.1.1.1.1.1.0.0)))
 
 pub overflow_add-k : goal.overflow_add-k
 overflow_add-k c =
     omega (arith, (let i = c.loop-current_address.invariant.2 (switches true true) [] in
-    omega (arith, i.room, c.if-inline_len-next_inline.false, c.loop.invariant.5.len, c.good.1.1.1.1.1.1.0.0)))
+    omega (arith, i.room, c.if-inline_len-next_inline.false, c.loop-next_line.invariant.5.len, c.good.1.1.1.1.1.1.0.0)))
 
 pub overflow_add-k-in-loop-current_address : goal.overflow_add-k-in-loop-current_address
 overflow_add-k-in-loop-current_address c =
-    omega (arith, (let i = c.loop2.invariant.2 (switches true true) [] in
-    omega (arith, i.room, c.if3.false, c.loop.invariant.5.len, c.good.1.1.1.1.1.1.0.0)))
+    omega (arith, (let i = c.loop-next_line.invariant.2 (switches true true) [] in
+    omega (arith, i.room, c.if-inline_len-next_inline.false, c.loop-next_line.invariant.5.len, c.good.1.1.1.1.1.1.0.0)))
 
 pub overflow_add-k-in-loop-current_address-2 : goal.overflow_add-k-in-loop-current_address-2
 overflow_add-k-in-loop-current_address-2 c =
-    omega (arith, (let i = c.loop2.invariant.2 (switches true true) [] in
-    omega (arith, i.room, c.if3.false, c.loop.invariant.5.len, c.good.1.1.1.1.1.1.0.0)))
+    omega (arith, (let i = c.loop-next_line.invariant.2 (switches true true) [] in
+    omega (arith, i.room, c.if-inline_len-next_inline.false, c.loop-next_line.invariant.5.len, c.good.1.1.1.1.1.1.0.0)))
 
 pub overflow_add-next_inline : goal.overflow_add-next_inline
 overflow_add-next_inline c =
-    omega (arith, (let i = c.loop2.invariant.2 (switches true true) [] in
-    omega (arith, i.room, c.if3.false, c.loop.invariant.5.len, c.good.1.1.1.1.1.1.0.0)))
+    omega (arith, (let i = c.loop-next_line.invariant.2 (switches true true) [] in
+    omega (arith, i.room, c.if-inline_len-next_inline.false, c.loop-next_line.invariant.5.len, c.good.1.1.1.1.1.1.0.0)))
 
 pub loop-current_address-smaller : goal.loop-current_address-smaller
-loop-current_address-smaller c = falls_more c.if3.left
+loop-current_address-smaller c = falls_more c.if-inline_len-next_inline.false
 
 pub loop-next_line-smaller-then-line_range_end-current_address : goal.loop-next_line-smaller-then-line_range_end-current_address
-loop-next_line-smaller-then-line_range_end-current_address c = omega (arith, c.loop_test.taken)
+loop-next_line-smaller-then-line_range_end-current_address c = omega (arith, c.loop-next_line-test.true)
 
 pub loop-next_line-smaller-then-inline_len-next_inline : goal.loop-next_line-smaller-then-inline_len-next_inline
-loop-next_line-smaller-then-inline_len-next_inline c = omega (arith, c.loop_test.taken)
+loop-next_line-smaller-then-inline_len-next_inline c = omega (arith, c.loop-next_line-test.true)
 
 pub loop-next_line-smaller : goal.loop-next_line-smaller
-loop-next_line-smaller c = omega (arith, c.loop_test.taken)
+loop-next_line-smaller c = omega (arith, c.loop-next_line-test.true)
 
 pub shape_of-string_bytes : goal.shape_of-string_bytes
 shape_of-string_bytes c = c.loop-next_line.invariant.0

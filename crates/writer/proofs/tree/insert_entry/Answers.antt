@@ -15,4 +15,4 @@ returns c =
     let a = c.args in
     λ X p x i f g k ea ei h.
     entry-own X p a.function_idx (words a.state x i f g k a.ranges.now) (a.q.address % 4294967296) (words c.insert_source_location.result x i f g k c.insert_source_location.new.ranges)
-    (ei ∙ c.if-q.left) (address_is p a.q ea h) (c.insert_source_location.ensures X x i f g k)
+    (ei ∙ c.if-q.false) (address_is p a.q ea h) (c.insert_source_location.ensures X x i f g k)

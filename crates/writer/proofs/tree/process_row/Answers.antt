@@ -22,13 +22,13 @@ pub visit_row-requires : goal.visit_row-requires
 visit_row-requires c =
     let a = c.args in
     visit-ready a.functions64.now a.functions32.now a.lines64.now a.lines32.now a.text.now a.base a.row.i a.row.first_line a.s.now c.pre.ready a.row.function c.pre.is
-    c.own_calls-own.result c.own_calls-own.ensures c.is_passed_over.result c.is_passed_over.ensures c.if-is_passed_over.left
+    c.own_calls-own.result c.own_calls-own.ensures c.is_passed_over.result c.is_passed_over.ensures c.if-is_passed_over.false
 
 pub returns : goal.returns
 returns c =
     let a = c.args in
     λ Y.
     row_visits a.functions64.now a.functions32.now a.lines64.now a.lines32.now a.text.now a.base a.row.i a.row.first_line a.s.now c.pre.ready a.row.function c.pre.is
-    c.own_calls-own.result c.own_calls-own.ensures c.is_passed_over.result c.is_passed_over.ensures c.if-is_passed_over.left (switches a.undecorate Y)
+    c.own_calls-own.result c.own_calls-own.ensures c.is_passed_over.result c.is_passed_over.ensures c.if-is_passed_over.false (switches a.undecorate Y)
     (words a.state a.string_bytes.now a.strings.now a.files.now a.functions.now a.call_locations.now a.ranges.now)
     (words c.visit_row.result c.visit_row.new.string_bytes c.visit_row.new.strings c.visit_row.new.files c.visit_row.new.functions c.visit_row.new.call_locations c.visit_row.new.ranges) c.visit_row.new.s (c.visit_row.ensures Y)
