@@ -9,4 +9,4 @@ pub returns : goal.returns
 unfolding open_call
 returns c =
     let a = c.args in
-    c.put_parsed.ensures ∙ ap (λ (o : Answer SymCache). cached o a.cache.now) c.«open».ensures
+    c.put_parsed.ensures ∙ ap (λ (o : Answer SymCache). cached o a.cache.now) c.open.ensures

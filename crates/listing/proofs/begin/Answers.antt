@@ -14,7 +14,7 @@ returns-in-Cache c =
     rw (
       c.if-too_long.false,
       c.start.ensures,
-      sym c.«open».ensures ∙ ap parse_answer c.in-Cache.is,
+      sym c.open-opened.ensures ∙ ap parse_answer c.in-Cache.is,
     )
 
 pub returns-in-Refused : goal.returns-in-Refused
@@ -23,5 +23,5 @@ returns-in-Refused c =
     rw (
       c.if-too_long.false,
       c.number.ensures,
-      sym c.«open».ensures ∙ ap parse_answer c.in-Refused.is,
+      sym c.open-opened.ensures ∙ ap parse_answer c.in-Refused.is,
     )

@@ -16,13 +16,13 @@ use Rattle.listing.proofs.print_frames.Goals as goal
 pub loop-step-smaller : goal.loop-step-smaller
 loop-step-smaller c =
     let r = leb-true (c.loop-step.at + 62) (length c.loop-step.out) ((sym c.has_room.ensures ∙ c.loop-step-test.true)) in
-    let (n, e) = (frame-put c.args.address c.loop-step.walk.steps ((record { frame = c.in-Frame.frame; next = c.in-Frame.next })).frame c.loop-step.out c.loop-step.at ((sym c.has_room.ensures ∙ c.loop-step-test.true)) c.print_frame-at.ensures) in
+    let (n, e) = (frame-put c.args.address c.loop-step.walk.steps c.in-Frame.frame c.loop-step.out c.loop-step.at ((sym c.has_room.ensures ∙ c.loop-step-test.true)) c.print_frame-at.ensures) in
     omega arith
 
 pub loop-step-preserved : goal.loop-step-preserved
 loop-step-preserved c =
     let a = c.args in (
-      ((frame-put c.args.address c.loop-step.walk.steps ((record { frame = c.in-Frame.frame; next = c.in-Frame.next })).frame c.loop-step.out c.loop-step.at ((sym c.has_room.ensures ∙ c.loop-step-test.true)) c.print_frame-at.ensures)).1 ∙ c.loop-step.invariant.0,
+      ((frame-put c.args.address c.loop-step.walk.steps c.in-Frame.frame c.loop-step.out c.loop-step.at ((sym c.has_room.ensures ∙ c.loop-step-test.true)) c.print_frame-at.ensures)).1 ∙ c.loop-step.invariant.0,
       frame-printed a.file.now a.address c.loop-step.walk ((record { frame = c.in-Frame.frame; next = c.in-Frame.next })) c.loop-step.out c.loop-step.at ((sym c.next-step.ensures ∙ ap step_answer c.in-Frame.is)) ((sym c.has_room.ensures ∙ c.loop-step-test.true)) c.print_frame-at.ensures
           ∙ c.loop-step.invariant.1,
     )

@@ -11,9 +11,9 @@ pub returns-in-Cache : goal.returns-in-Cache
 returns-in-Cache c =
     let a = c.args in
     let cache = c.in-Cache.c in
-    let accepted = sym c.«open».ensures ∙ ap parse_answer c.in-Cache.is in
+    let accepted = sym c.open-opened.ensures ∙ ap parse_answer c.in-Cache.is in
     ap gives c.walk.ensures ∙ (by_meaning a.s.now cache accepted a.addr).walk
 
 pub returns-in-Refused : goal.returns-in-Refused
 unfolding looked_up_lem
-returns-in-Refused c = then-refuses (opened c.args.s.now) _ _ (sym c.«open».ensures ∙ ap parse_answer c.in-Refused.is)
+returns-in-Refused c = then-refuses (opened c.args.s.now) _ _ (sym c.open-opened.ensures ∙ ap parse_answer c.in-Refused.is)

@@ -7,24 +7,24 @@ use borrow.Author.Rules.{rules}
 use Rattle.serialize.proofs.write_sections.Goals as goal
 
 pub write_files-requires : goal.write_files-requires
-write_files-requires c = files_fit c.args.converter.state c.args.converter.state.ranges c.lay_out-at.result c.lay_out-at.ensures c.write_head.auto.out c.pre.room
+write_files-requires c = files_fit c.args.converter.state c.args.converter.state.ranges c.lay_out-at.result c.lay_out-at.ensures c.write_head.auto.out c.requires.room
 
 pub write_functions-requires : goal.write_functions-requires
-write_functions-requires c = functions_fit c.args.converter.state c.args.converter.state.ranges c.lay_out-at.result c.lay_out-at.ensures (c.write_files.auto.out ∙ c.write_head.auto.out) c.pre.room
+write_functions-requires c = functions_fit c.args.converter.state c.args.converter.state.ranges c.lay_out-at.result c.lay_out-at.ensures (c.write_files.auto.out ∙ c.write_head.auto.out) c.requires.room
 
 pub write_call_locations-requires : goal.write_call_locations-requires
-write_call_locations-requires c = calls_fit c.args.converter.state c.args.converter.state.ranges c.lay_out-at.result c.lay_out-at.ensures (c.write_functions.auto.out ∙ c.write_files.auto.out ∙ c.write_head.auto.out) c.pre.room
+write_call_locations-requires c = calls_fit c.args.converter.state c.args.converter.state.ranges c.lay_out-at.result c.lay_out-at.ensures (c.write_functions.auto.out ∙ c.write_files.auto.out ∙ c.write_head.auto.out) c.requires.room
 
 pub write_sorted-requires : goal.write_sorted-requires
-write_sorted-requires c = ranges_fit c.args.converter.state c.args.converter.state.ranges c.lay_out-at.result c.lay_out-at.ensures (c.write_call_locations.auto.out ∙ c.write_functions.auto.out ∙ c.write_files.auto.out ∙ c.write_head.auto.out) c.pre.room
+write_sorted-requires c = ranges_fit c.args.converter.state c.args.converter.state.ranges c.lay_out-at.result c.lay_out-at.ensures (c.write_call_locations.auto.out ∙ c.write_functions.auto.out ∙ c.write_files.auto.out ∙ c.write_head.auto.out) c.requires.room
 
 pub write_texts-requires : goal.write_texts-requires
-write_texts-requires c = (c.pre.texts_there, texts_fit c.args.converter.state c.args.converter.state.ranges c.lay_out-at.result c.lay_out-at.ensures (c.write_padding.auto.out ∙ c.write_sorted.auto.out ∙ c.write_call_locations.auto.out ∙ c.write_functions.auto.out ∙ c.write_files.auto.out ∙ c.write_head.auto.out) c.pre.room)
+write_texts-requires c = (c.requires.texts_there, texts_fit c.args.converter.state c.args.converter.state.ranges c.lay_out-at.result c.lay_out-at.ensures (c.write_padding.auto.out ∙ c.write_sorted.auto.out ∙ c.write_call_locations.auto.out ∙ c.write_functions.auto.out ∙ c.write_files.auto.out ∙ c.write_head.auto.out) c.requires.room)
 
 pub returns : goal.returns
 returns c =
     let a = c.args in
-    let id = (search (rules, c.good.1.0)) in
+    let id = (search (rules, c.well_formed.1.0)) in
     λ i.
     sections-written a.converter (memory a.string_bytes.now i a.files.now a.functions.now a.call_locations.now a.ranges.now) id c.lay_out-at.result c.lay_out-at.ensures a.out.now
     c.write_head.new.out

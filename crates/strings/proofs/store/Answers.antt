@@ -96,7 +96,7 @@ returns-then-fits c =
     let e2 = c.text_capacity-limit.ensures in
     let e3 = c.leb128_len-prefix.ensures in
     storing a.text.now a.strings.now a.bytes a.count a.t.now e1 e2 e3 c.fits.ensures c.if-fits.true
-    c.pre refl c.write.ensures
+    c.requires refl c.write.ensures
     (indexed a.text.now a.strings.now a.bytes a.count a.t.now e1 e2 e3 c.fits.ensures c.if-fits.true
     {y = left c.push-count.result c.push-count.new.t} c.row_of_text-row.ensures c.push-count.ensures)
 

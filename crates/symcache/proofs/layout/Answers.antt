@@ -4,8 +4,7 @@ use Rattle.symcache.proofs.ReaderLaws.{layout_made}
 use Rattle.symcache.proofs.layout.Goals as goal
 
 pub returns : goal.returns
-returns c =
-    (
+returns c = (
   layout_made c.args.h c.align_to_8-files.result c.align_to_8-functions.result
       c.align_to_8-source_locations.result c.align_to_8-ranges.result c.align_to_8-strings.result
       c.align_to_8-files.ensures.0 c.align_to_8-functions.ensures.0

@@ -10,13 +10,13 @@ pub returns-then-not-is_usable : goal.returns-then-not-is_usable
 returns-then-not-is_usable c =
     let a = c.args in
     tree-closed a.converter (memory a.string_bytes.now a.strings.now a.files.now a.functions.now a.call_locations.now a.ranges.now) a.scratch.now (columns a.functions64.now a.functions32.now a.lines64.now a.lines32.now a.text.now)
-    c.lent-tables.ensures c.is_usable.ensures (not-true _ c.if-not-is_usable.true)
+    c.lent-tables.ensures c.is_usable.ensures (not-true _ c.if-not-is_usable.true-raw)
 
 pub returns-then-refused-ne0 : goal.returns-then-refused-ne0
 returns-then-refused-ne0 c =
     let a = c.args in
     tree-refused a.converter (memory a.string_bytes.now a.strings.now a.files.now a.functions.now a.call_locations.now a.ranges.now) a.scratch.now (columns a.functions64.now a.functions32.now a.lines64.now a.lines32.now a.text.now)
-    c.lent-tables.ensures c.is_usable.ensures (not-false _ c.if-not-is_usable.false) c.refusal-refused.ensures c.if-refused-ne0.true
+    c.lent-tables.ensures c.is_usable.ensures (not-false _ c.if-not-is_usable.false-raw) c.refusal-refused.ensures c.if-refused-ne0.true
 
 pub shape_of-string_bytes : goal.shape_of-string_bytes
 shape_of-string_bytes c = c.finish.auto.string_bytes ∙ c.process_rows-state.auto.string_bytes
@@ -43,7 +43,7 @@ pub returns : goal.returns
 returns c =
     let a = c.args in
     tree-taken a.converter (memory a.string_bytes.now a.strings.now a.files.now a.functions.now a.call_locations.now a.ranges.now) a.scratch.now (columns a.functions64.now a.functions32.now a.lines64.now a.lines32.now a.text.now)
-    c.lent-tables.ensures c.is_usable.ensures (not-false _ c.if-not-is_usable.false) c.refusal-refused.ensures c.if-refused-ne0.false
+    c.lent-tables.ensures c.is_usable.ensures (not-false _ c.if-not-is_usable.false-raw) c.refusal-refused.ensures c.if-refused-ne0.false
     {w = words c.process_rows-state.result c.process_rows-state.new.string_bytes c.process_rows-state.new.strings c.process_rows-state.new.files c.process_rows-state.new.functions c.process_rows-state.new.call_locations c.process_rows-state.new.ranges} (c.process_rows-state.ensures a.converter.undecorate_symbols)
     c.process_rows-state.new.s c.process_rows-state.auto.s {s₂ = c.zero.new.t} c.zero.ensures
     {lines = c.clamped_lines_in.result} c.clamped_lines_in.ensures

@@ -23,7 +23,7 @@ loop-next_line-init c =
       refl,
       refl,
       refl,
-      keeps_start a.function.lines a.own.others.at a.own.others.len a.inlinee_ranges.at a.inlinee_ranges.len a.s.now c.pre.room c.pre.apart,
+      keeps_start a.function.lines a.own.others.at a.own.others.len a.inlinee_ranges.at a.inlinee_ranges.len a.s.now c.requires.room c.requires.apart,
       λ X f64 f32 g i e. goes-start ((let a = c.args in
     fixed ((columns f64 f32 c.args.lines64.now c.args.lines32.now c.args.text.now)) i a.first_line a.function_idx a.function.lines a.own.others a.own.first a.inlinee_ranges.at a.inlinee_ranges.len a.s.now X
     (words a.state a.string_bytes.now a.strings.now a.files.now g a.call_locations.now a.ranges.now))),
@@ -183,27 +183,27 @@ loop-next_line-smaller-then-address-current_address c = omega (arith, c.loop-nex
 pub overflow_mul-k : goal.overflow_mul-k
 overflow_mul-k c =
     omega (arith, (let i = c.loop-current_address.invariant.2 (switches true true) [] in
-    omega (arith, i.room, c.if-inline_len-next_inline.false, c.loop-next_line.invariant.5.len, c.good.1.1.1.1.1.1.0.0)))
+    omega (arith, i.room, c.if-inline_len-next_inline.false, c.loop-next_line.invariant.5.len, c.well_formed.1.1.1.1.1.1.0.0)))
 
 pub overflow_add-k : goal.overflow_add-k
 overflow_add-k c =
     omega (arith, (let i = c.loop-current_address.invariant.2 (switches true true) [] in
-    omega (arith, i.room, c.if-inline_len-next_inline.false, c.loop-next_line.invariant.5.len, c.good.1.1.1.1.1.1.0.0)))
+    omega (arith, i.room, c.if-inline_len-next_inline.false, c.loop-next_line.invariant.5.len, c.well_formed.1.1.1.1.1.1.0.0)))
 
 pub overflow_add-k-in-loop-current_address : goal.overflow_add-k-in-loop-current_address
 overflow_add-k-in-loop-current_address c =
     omega (arith, (let i = c.loop-next_line.invariant.2 (switches true true) [] in
-    omega (arith, i.room, c.if-inline_len-next_inline.false, c.loop-next_line.invariant.5.len, c.good.1.1.1.1.1.1.0.0)))
+    omega (arith, i.room, c.if-inline_len-next_inline.false, c.loop-next_line.invariant.5.len, c.well_formed.1.1.1.1.1.1.0.0)))
 
 pub overflow_add-k-in-loop-current_address-2 : goal.overflow_add-k-in-loop-current_address-2
 overflow_add-k-in-loop-current_address-2 c =
     omega (arith, (let i = c.loop-next_line.invariant.2 (switches true true) [] in
-    omega (arith, i.room, c.if-inline_len-next_inline.false, c.loop-next_line.invariant.5.len, c.good.1.1.1.1.1.1.0.0)))
+    omega (arith, i.room, c.if-inline_len-next_inline.false, c.loop-next_line.invariant.5.len, c.well_formed.1.1.1.1.1.1.0.0)))
 
 pub overflow_add-next_inline : goal.overflow_add-next_inline
 overflow_add-next_inline c =
     omega (arith, (let i = c.loop-next_line.invariant.2 (switches true true) [] in
-    omega (arith, i.room, c.if-inline_len-next_inline.false, c.loop-next_line.invariant.5.len, c.good.1.1.1.1.1.1.0.0)))
+    omega (arith, i.room, c.if-inline_len-next_inline.false, c.loop-next_line.invariant.5.len, c.well_formed.1.1.1.1.1.1.0.0)))
 
 pub loop-current_address-smaller : goal.loop-current_address-smaller
 loop-current_address-smaller c = falls_more c.if-inline_len-next_inline.false

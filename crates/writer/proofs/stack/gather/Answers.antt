@@ -6,6 +6,7 @@ use lib.ListN.{length}
 use Rattle.rows.specs.Columns.{Columns, columns}
 use Rattle.writer.proofs.ScratchLaws.{Gathers, gathers_begin, gathers_stop, gathers_end, gathers_pass, gathers_push, gathers_room, lines_fit}
 use Rattle.writer.proofs.stack.gather.Goals as goal
+use Rattle.writer.proofs.stack.gather.Goals.{then-d-depth-2, else-d-depth-2}
 
 pub loop-r-init : goal.loop-r-init
 loop-r-init c =
@@ -23,19 +24,20 @@ push_lines-requires c =
     let r =
     gathers_room ((columns c.args.functions64.now c.args.functions32.now c.args.lines64.now c.args.lines32.now [])) a.depth a.at a.i a.first a.s.now c.loop-r.s c.loop-r.r c.loop-r.line c.loop-r.n c.loop-r.invariant c.function_row-q.result c.function_row-q.ensures c.loop-r-test.true
     c.if-d-depth-2.true in
-    (omega (arith, r, c.loop-r.invariant.len, c.pre.room), (lines_fit ((columns c.args.functions64.now c.args.functions32.now c.args.lines64.now c.args.lines32.now [])) c.loop-r.r c.loop-r.line c.function_row-q.result c.function_row-q.ensures c.loop-r.invariant.line_is (c.pre.within c.loop-r.r c.loop-r-test.true)))
+    (omega (arith, r, c.loop-r.invariant.len, c.requires.room), (lines_fit ((columns c.args.functions64.now c.args.functions32.now c.args.lines64.now c.args.lines32.now [])) c.loop-r.r c.loop-r.line c.function_row-q.result c.function_row-q.ensures c.loop-r.invariant.line_is (c.requires.within c.loop-r.r c.loop-r-test.true)))
 
 pub loop-r-preserved : goal.loop-r-preserved
 loop-r-preserved c =
     let a = c.args in
     let h = c.loop-r-test.true in
-    ⊎_elim
-    (λ w. rw (w.5, w.6)
-    (gathers_push ((columns c.args.functions64.now c.args.functions32.now c.args.lines64.now c.args.lines32.now [])) a.depth a.at a.i a.first a.s.now c.loop-r.s c.loop-r.r c.loop-r.line c.loop-r.n c.loop-r.invariant c.function_row-q.result c.function_row-q.ensures h w.0.taken _
-    (w.2.ensures a.functions64.now a.functions32.now []) w.2.kept.0))
-    (λ w. rw (w.1, w.2)
-    (gathers_pass ((columns c.args.functions64.now c.args.functions32.now c.args.lines64.now c.args.lines32.now [])) a.depth a.at a.i a.first a.s.now c.loop-r.s c.loop-r.r c.loop-r.line c.loop-r.n c.loop-r.invariant c.function_row-q.result c.function_row-q.ensures h c.if-d-depth.false w.0.left))
-    c.if-d-depth-2.branch
+    let k = (columns c.args.functions64.now c.args.functions32.now c.args.lines64.now c.args.lines32.now []) in
+    elim c.if-d-depth-2.branch [
+      then-d-depth-2 w ↦ rw (w.line-is, w.n-is)
+      (gathers_push k a.depth a.at a.i a.first a.s.now c.loop-r.s c.loop-r.r c.loop-r.line c.loop-r.n c.loop-r.invariant c.function_row-q.result c.function_row-q.ensures h w.if-d-depth-2.true _
+      (w.push_lines.ensures a.functions64.now a.functions32.now []) w.push_lines.auto.s)
+      | else-d-depth-2 w ↦ rw (w.line-is, w.n-is)
+      (gathers_pass k a.depth a.at a.i a.first a.s.now c.loop-r.s c.loop-r.r c.loop-r.line c.loop-r.n c.loop-r.invariant c.function_row-q.result c.function_row-q.ensures h c.if-d-depth.false w.if-d-depth-2.false)
+    ]
 
 pub returns : goal.returns
 returns c =
