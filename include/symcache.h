@@ -1,8 +1,8 @@
 /*
  * SymCache version 9 in C: from function trees to inline frames.
  *
- * The functions below are in libexports.a, which `rt staticlib exports` proves and writes to
- * target/staticlib. Each is total: it takes any content of any length, always ends, and gives one
+ * The functions below are in libexports.a, which `rt lib` in crates/exports proves and writes to
+ * crates/exports/out. Each is total: it takes any content of any length, always ends, and gives one
  * answer.
  *
  * Lending. A slice is lent as a pointer and its length in ELEMENTS (not bytes), for the call only:

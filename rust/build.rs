@@ -1,5 +1,5 @@
 //! Writes the C declarations of src/ffi.rs from include/symcache.h, and finds the proved library,
-//! libexports.a: in the folder that SYMCACHE_LIB_DIR names, or else in target/staticlib of the
+//! libexports.a: in the folder that SYMCACHE_LIB_DIR names, or else in crates/exports/out of the
 //! repository.
 
 mod header;
@@ -11,7 +11,7 @@ use std::{env, fs};
 fn main() {
     let here = PathBuf::from(env::var_os("CARGO_MANIFEST_DIR").unwrap());
     declare(&here.join("../include/symcache.h"));
-    link(&here.join("../target/staticlib"));
+    link(&here.join("../crates/exports/out"));
 }
 
 fn declare(header: &Path) {
@@ -33,7 +33,7 @@ fn link(made: &Path) {
     println!("cargo:rerun-if-changed={}", library.display());
     if !library.is_file() {
         eprintln!("There is no {}.", library.display());
-        eprintln!("Run `rt staticlib exports` at the top of the repository, which proves the library and writes it to target/staticlib,");
+        eprintln!("Run `rt lib` in crates/exports, which proves the library and writes it to crates/exports/out,");
         eprintln!("or name the folder that holds libexports.a in the variable SYMCACHE_LIB_DIR.");
         exit(1);
     }

@@ -3,7 +3,7 @@
  * line 10, is converted, written and looked up, and its frames are printed as the lister prints
  * them. From the top of the repository:
  *
- *   cc -std=c11 -Wall -Wextra -Wpedantic -Iinclude examples/c/frames.c target/staticlib/libexports.a -o target/frames
+ *   cc -std=c11 -Wall -Wextra -Wpedantic -Iinclude examples/c/frames.c crates/exports/out/libexports.a -o target/frames
  *   target/frames
  */
 #include <inttypes.h>

@@ -60,8 +60,8 @@
 //!
 //! # Linking
 //!
-//! `rt staticlib exports`, at the top of the repository, proves the library and writes it to
-//! target/staticlib. The variable SYMCACHE_LIB_DIR names another folder that holds it.
+//! `rt lib`, in the repository's folder crates/exports, proves the library and writes it to
+//! crates/exports/out. The variable SYMCACHE_LIB_DIR names another folder that holds it.
 
 #![deny(missing_docs)]
 #![deny(unsafe_code)]

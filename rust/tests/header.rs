@@ -47,7 +47,7 @@ fn typed(list: &str) -> Vec<Typed> {
 /// The exported functions.
 fn exported() -> Vec<Function> {
     let source = source("exports");
-    let first = "#[no_mangle]\npub extern \"C\" fn ";
+    let first = "#[unsafe(no_mangle)]\npub extern \"C\" fn ";
     assert_eq!(
         source.matches("extern \"C\"").count(),
         source.matches(first).count()
@@ -115,8 +115,9 @@ fn the_library_takes_the_rows_of_the_header() {
     let source = source("rows");
     for (name, fields) in header().structs {
         let row = source
-            .split("#[repr(C)]\npub struct ")
+            .split("#[repr(C)]\n")
             .skip(1)
+            .map(|row| row.split_once("pub struct ").unwrap().1)
             .map(|row| row.split_once(" {").unwrap())
             .find(|(library, _)| c_name(library) == name);
         let (_, rest) = row.expect(&name);
