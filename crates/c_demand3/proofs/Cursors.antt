@@ -1,6 +1,6 @@
 -- The words of a cursor, a frame and a cache survive between two calls. So the frames that `lookup` and `next` show are those that the exported calls show, and an address is found by the words that
 -- `symcache_open` stored as by the cache that `open` gave.
-use Prim.Native.Nat.{ℕ, zero, suc, ◌+◌, ◌-◌, ◌*◌, ◌%◌, ◌<◌, ◌≤◌}
+use Prim.Native.Nat.{ℕ, zero, suc, ◌+◌, ◌-◌, ◌%◌, ◌<◌, ◌≤◌}
 use native.Mathlib.Omega.{arith}
 use mathlib.Core.Path.{◌≡◌, refl, sym, ap, subst, ◌∙◌}
 use mathlib.Core.Option.{none, some}

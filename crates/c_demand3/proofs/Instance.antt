@@ -3,7 +3,7 @@
 -- By `exported-demand3`: the frames that the file shows, by value and by the exported readers.
 use Prim.Native.Nat.{ℕ}
 use mathlib.Core.Path.{◌≡◌, refl, sym, ap, ◌∙◌, subst}
-use mathlib.Core.List.{List, [], ◌∷◌, ◌++◌}
+use mathlib.Core.List.{List, [], ◌∷◌}
 use native.Mathlib.Omega.{arith}
 use lib.ListN.{replicate, get_or}
 use Rattle.text.specs.Leb128.{encoded_in, encoded}

@@ -29,7 +29,6 @@ use Rattle.table_laws.specs.Plain.{Holds}
 use Rattle.table_laws.specs.PlainTexts.{Texts}
 use Rattle.tables.proofs.Room.{cap-most}
 use Rattle.strings.proofs.TextRoom.{text-room}
-use Rattle.table_laws.proofs.Sets as sets
 use Rattle.table_laws.proofs.TextTables as text-tables
 use Rattle.memory.specs.Memory.{Words}
 use Rattle.memory.specs.Record.{fits_in_lem, fits?}

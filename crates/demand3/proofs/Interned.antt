@@ -5,19 +5,19 @@ use mathlib.Core.Bool.{Bool, true, false, cond, ◌&&◌}
 use mathlib.Core.Option.{Option, none, some}
 use mathlib.Core.Logic.{◌⊎◌, inl, inr, ⊎_elim}
 use mathlib.Core.List.{List, [], ◌∷◌, map}
-use Prim.Native.Nat.{ℕ, zero, suc, ◌+◌, ◌≤◌, ◌<◌}
+use Prim.Native.Nat.{ℕ, suc, ◌≤◌, ◌<◌}
 use native.Mathlib.Omega.{arith}
 use lib.Dec.{eqb, ltb}
 use lib.ListN.{length, take, length-map}
 use borrow.Author.Tests.{eqb-true, eqb-false, eq-eqb, ne_eqb, ltb-true, ltb-false}
 use Rattle.slices.proofs.Cases.{false-true}
 use Rattle.model.specs.Basics.{Entry, Interned, intern}
-use Rattle.model.specs.Rows.{MAX, Text}
+use Rattle.model.specs.Rows.{Text}
 use Rattle.model.specs.Converter.{Location, text_eq, intern_text, range_at, range_put}
-use Rattle.model.specs.Counts.{text_size, text_bytes, text_offset}
+use Rattle.model.specs.Counts.{text_size, text_bytes}
 use Rattle.model.specs.FileWords.{text_word}
-use Rattle.model.proofs.Intern.{At, Grows, intern-at, at_length}
-use Rattle.model.proofs.Chains.{text_eq-ok, store_grows, store_reads}
+use Rattle.model.proofs.Intern.{At, intern-at, at_length}
+use Rattle.model.proofs.Chains.{store_grows, store_reads}
 use Rattle.model.proofs.Always.{Within, reads_within}
 use Rattle.tables.specs.Table.{Left, capacity_of, insert_of, same_row, same_words, row_words, key_of, row_at}
 use Rattle.tables.specs.Ranges.{get_of, put_of, location_of_lem}
@@ -27,9 +27,7 @@ use Rattle.table_laws.specs.Plain.{row_intern}
 use Rattle.table_laws.specs.PlainTexts.{text_bytes_lem, text_offset_lem, with_text, offset_in, Texts}
 use Rattle.tables.specs.declared.Row.{Row}
 use Rattle.tables.specs.declared.Inserted.{Inserted}
-use Rattle.tables.specs.declared.ranges.Found.{Found}
-use Rattle.tables.specs.declared.ranges.Found.TheVariants.{Absent, At as Held}
-use Rattle.tables.specs.declared.ranges.Change.{Change}
+use Rattle.tables.specs.declared.ranges.Found.TheVariants.{At as Held}
 use Rattle.table_laws.proofs.Rows.{same-eq, words-refl}
 use Rattle.table_laws.proofs.Sets.{Over}
 use Rattle.table_laws.proofs.Sets as sets

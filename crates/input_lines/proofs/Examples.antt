@@ -1,5 +1,5 @@
 -- Lines of document 01's lister example, computed.
-use Rattle.std.proofs.Common.{◌≡◌, ℕ, List, [], ◌∷◌, refl}
+use Rattle.std.proofs.Common.{◌≡◌, [], ◌∷◌, refl}
 use Rattle.input_lines.specs.declared.LineRead.TheVariants.{Address, Bad}
 use Rattle.input_lines.specs.Line.{digit_of, all_digits, number_from, meaning, lines_after}
 

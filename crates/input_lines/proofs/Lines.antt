@@ -1,6 +1,6 @@
 -- Feeding a line's bytes one by one gives the line's meaning (`line_read`), and running over an input gives the meanings
 -- of its lines (`lines-read`). The three fields of the state are followed each by itself.
-use Rattle.std.proofs.Common.{◌≡◌, ℕ, suc, ◌+◌, ◌*◌, ◌^◌, ◌<◌, ◌≤◌, Bool, true, false, cond, not, ◌&&◌, ◌||◌, eqb, ltb, leb, ◌⊎◌, List, [], ◌∷◌, ◌++◌, map, length, refl, ap, ◌∙◌, inl, inr, ⊎_elim, pow-suc, zero-add, arith, ltb-false, ltb-true, lt-ltb, ne_eqb, le-leb, leb-false, leb-true}
+use Rattle.std.proofs.Common.{◌≡◌, ℕ, suc, ◌+◌, ◌*◌, ◌^◌, ◌<◌, ◌≤◌, Bool, true, false, cond, not, ◌&&◌, ◌||◌, eqb, ltb, leb, ◌⊎◌, List, [], ◌∷◌, ◌++◌, map, length, refl, ap, ◌∙◌, inl, inr, ⊎_elim, pow-suc, zero-add, arith, ltb-false, ltb-true, lt-ltb, ne_eqb, le-leb}
 use native.Mathlib.Nat.{pow-le-pow_right}
 use borrow.Author.Tests.{lt-leb}
 use Rattle.slices.proofs.Cases.{lt-or_ge, both_true}

@@ -4,7 +4,6 @@ use Rattle.std.proofs.Common.{◌≡◌, ℕ, suc, ◌+◌, ◌-◌, ◌%◌, �
 use lib.Seq.{drop-nil}
 use Rattle.input_lines.specs.declared.LineRead.{LineRead}
 use Rattle.input_lines.specs.declared.LineRead.TheVariants as Line-read
-use Rattle.input_lines.specs.declared.LineState.{LineState}
 use Rattle.input_lines.specs.declared.Input.{Input}
 use Rattle.input_lines.specs.declared.Got.{Got}
 use Rattle.input_lines.specs.declared.Got.TheVariants as got

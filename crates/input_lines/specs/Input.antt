@@ -1,5 +1,5 @@
 -- AN INPUT OF LINES (document 01, "Lister"), and how it is read in pieces of any length.
-use Rattle.std.specs.Prelude.{ℕ, ◌+◌, ◌%◌, cond, List, [], ◌∷◌, ◌++◌, ◌==◌}
+use Rattle.std.specs.Prelude.{ℕ, ◌+◌, ◌%◌, cond, List, [], ◌∷◌, ◌==◌}
 use Rattle.input_lines.specs.declared.LineRead.{LineRead}
 use Rattle.input_lines.specs.declared.LineRead.TheVariants as Line-read
 use Rattle.input_lines.specs.declared.Input.{Input}

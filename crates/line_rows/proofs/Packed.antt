@@ -5,11 +5,11 @@ use mathlib.Core.Bool.{Bool, true, false, cond, not, ◌&&◌}
 use mathlib.Core.List.{List, [], ◌∷◌, ◌++◌, append_assoc}
 use native.Mathlib.Omega.{arith}
 use lib.Dec.{eqb, ltb}
-use lib.ListN.{length, get_or, take, drop, length-append, length-drop, length-set, get_or-append}
+use lib.ListN.{length, get_or, take, drop, length-append, length-drop, get_or-append}
 use Rattle.slices.specs.Slices.{flag_of}
 use lib.Seq.{sets, sets-eq, length-sets, take_at, drop_at, drop-drop, get_or-append-add}
-use borrow.Author.Tests.{lt-ltb, le-ltb, eq-eqb, ne_eqb}
-use Rattle.rows.specs.Columns.{Columns, columns, line_fields, line_in_columns, line_rows, line_struct}
+use borrow.Author.Tests.{lt-ltb, eq-eqb}
+use Rattle.rows.specs.Columns.{Columns, line_fields, line_in_columns}
 use Rattle.refusals.specs.Refusals.{each, line_texts?, line_lengths?, tree_refusal, refusal_with}
 use Rattle.rows.specs.declared.LineRow.{LineRow}
 use Rattle.rows.proofs.Laws.{line_in}

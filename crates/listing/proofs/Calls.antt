@@ -1,12 +1,12 @@
 -- A call, line by line: a line of the piece (`list-line`), its end (`list_done`), something that waits (`list_waits`).
-use Prim.Native.Nat.{ℕ, suc, ◌+◌, ◌-◌, ◌<◌, ◌≤◌}
+use Prim.Native.Nat.{ℕ, suc, ◌+◌, ◌-◌, ◌≤◌}
 use mathlib.Core.Path.{◌≡◌, refl, sym, ◌∙◌, ap}
-use mathlib.Core.List.{List, [], ◌∷◌, ◌++◌}
+use mathlib.Core.List.{List, [], ◌∷◌}
 use mathlib.Core.Bool.{Bool, true, false, cond}
 use native.Mathlib.Omega.{arith}
 use lib.Dec.{eqb}
-use lib.ListN.{length, drop, get_or, drop_of_length-le}
-use lib.Seq.{drop-nil, drop-drop, drop-cons}
+use lib.ListN.{length, drop, drop_of_length-le}
+use lib.Seq.{drop-nil, drop-drop}
 use Rattle.symcache.specs.declared.SymCache.{SymCache}
 use Rattle.input_lines.specs.declared.Input.{Input}
 use Rattle.input_lines.specs.declared.ReadOn.{ReadOn}
@@ -14,7 +14,7 @@ use Rattle.input_lines.specs.Input.{fed, whole_line, line_at_lem, read_on}
 use Rattle.input_lines.proofs.Pieces.{read-further}
 use Rattle.listing.specs.declared.Waiting.{Waiting}
 use Rattle.listing.specs.declared.Waiting.TheVariants as waiting
-use Rattle.listing.specs.Pieces.{waits?, waiting_for, PrintedOut, printed_out, print_of, ListedOut, listed_to, list_from}
+use Rattle.listing.specs.Pieces.{waits?, waiting_for, PrintedOut, printed_out, print_of, listed_to, list_from}
 use Rattle.listing.proofs.Printing.{nothing-printed}
 
 pub none_waits : (w : Waiting) → waits? w ≡ false → w ≡ waiting.Nothing

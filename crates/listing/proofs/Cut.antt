@@ -6,26 +6,26 @@ use mathlib.Core.Path.{◌≡◌, refl, sym, ◌∙◌, ap}
 use mathlib.Core.List.{List, [], ◌∷◌, ◌++◌, map, append_assoc, append-nil}
 use mathlib.Core.Option.{Option, none, some}
 use mathlib.Core.Logic.{◌⊎◌, inl, inr, ⊎_elim}
-use mathlib.Core.Bool.{Bool, true, false, cond, not}
+use mathlib.Core.Bool.{Bool, true, false, cond}
 use native.Mathlib.Omega.{arith}
-use lib.Dec.{eqb, leb}
-use lib.ListN.{length, take, drop, length-append, length-take}
-use lib.Seq.{sets, sets-eq, length-sets, take_at, drop-nil, length-take-le}
-use borrow.Author.Tests.{leb-true, leb-false, ne_eqb, eq-eqb}
+use lib.Dec.{eqb}
+use lib.ListN.{length, take, drop, length-append}
+use lib.Seq.{sets, sets-eq, length-sets, take_at, length-take-le}
+use borrow.Author.Tests.{leb-true, leb-false, ne_eqb}
 use Rattle.symcache.specs.declared.SymCache.{SymCache}
-use Rattle.symcache.specs.Answers.{Answer, gives, refuses, and_then, refuse_if}
+use Rattle.symcache.specs.Answers.{Answer, gives, refuses, and_then}
 use Rattle.raw.specs.Rows.{max32, is_no_source_location}
 use Rattle.symcache.specs.Reader.{parsed, opened, location_in_lem}
 use Rattle.symcache.proofs.ReaderLaws.{opened-parsed}
 use Rattle.lookup.specs.declared.SourceLocations.{SourceLocations}
 use Rattle.lookup.specs.declared.Frame.{Frame}
 use Rattle.lookup.specs.Answers.{Framed}
-use Rattle.lookup.specs.Lookup.{belongs_to, found_at, walk_from_lem, walk_tested, walk_at_lem, step_in_lem, stepped, frames_in}
+use Rattle.lookup.specs.Lookup.{belongs_to, walk_from_lem, walk_tested, walk_at_lem, step_in_lem, stepped, frames_in}
 use Rattle.lookup.proofs.ByMeaning.{by_meaning}
 use Rattle.input_lines.specs.declared.Input.{Input}
 use Rattle.input_lines.specs.declared.Got.{Got}
 use Rattle.input_lines.specs.declared.Got.TheVariants as got
-use Rattle.input_lines.specs.Input.{input_says, input_start, fed, whole_line, at_end}
+use Rattle.input_lines.specs.Input.{input_says, fed, whole_line, at_end}
 use Rattle.input_lines.proofs.Pieces.{kept, says, says_all}
 use Rattle.printed_lines.specs.Printed.{no_frame_line, bad_line, refused_line}
 use Rattle.printed_lines.proofs.Whole.{frame-length, no_frame-length, bad-length}
@@ -37,7 +37,7 @@ use Rattle.listing.specs.Listing.{frames_of, frame_lines, address_lines, line_pr
 use Rattle.listing.specs.Pieces.{listing_start, begun_by, begun_of, waits?, waiting_for, count_in, frame_in, walked, frames_left, Turn, turn, frame_line, frame_turns, turns, PrintedOut, printed_out, room?, emitted, print_of, ListedOut, listed_to, list_from, list_of, end_of}
 use Rattle.listing.specs.Cut.{printed_by, Drains, Prints, PrintsAll, loaded_as, HoweverCut, GetsOn}
 use Rattle.listing.specs.Cut as cut
-use Rattle.listing.proofs.Steps.{Stepped, a_step}
+use Rattle.listing.proofs.Steps.{a_step}
 use Rattle.listing.proofs.Calls.{none_waits}
 
 -- ── What is to come ──

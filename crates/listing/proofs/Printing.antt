@@ -1,15 +1,15 @@
 -- Printing what waits: nothing where there is no room (`no_room`); a bad line (`bad-printed`); a frame (`frame-printed`); the end of a walk (`end-printed`).
-use Prim.Native.Nat.{ℕ, ◌+◌, ◌<◌, ◌≤◌}
-use mathlib.Core.Path.{◌≡◌, refl, sym, ◌∙◌, ap}
-use mathlib.Core.List.{List, [], ◌∷◌, ◌++◌}
-use mathlib.Core.Option.{Option, none, some}
+use Prim.Native.Nat.{ℕ, ◌+◌, ◌≤◌}
+use mathlib.Core.Path.{◌≡◌, refl, ◌∙◌, ap}
+use mathlib.Core.List.{List, [], ◌∷◌}
+use mathlib.Core.Option.{none, some}
 use mathlib.Core.Bool.{Bool, true, false, cond}
 use native.Mathlib.Omega.{arith}
 use lib.Dec.{eqb, leb}
 use lib.ListN.{length}
 use lib.Seq.{sets, length-sets}
 use borrow.Author.Tests.{le-leb, leb-true}
-use Rattle.symcache.specs.Answers.{Answer, gives, refuses}
+use Rattle.symcache.specs.Answers.{gives}
 use Rattle.lookup.specs.declared.SourceLocations.{SourceLocations}
 use Rattle.lookup.specs.Answers.{Framed}
 use Rattle.lookup.specs.Lookup.{stepped}
@@ -17,7 +17,7 @@ use Rattle.printed_lines.specs.Printed.{no_frame_line, bad_line, WroteLine, wrot
 use Rattle.printed_lines.proofs.Whole.{frame-length, no_frame-length, bad-length}
 use Rattle.listing.specs.declared.Waiting.{Waiting}
 use Rattle.listing.specs.declared.Waiting.TheVariants as waiting
-use Rattle.listing.specs.Pieces.{frame_in, Turn, turn, frame_line, frame_turns, turns, PrintedOut, printed_out, room?, emitted, print_of, bad_printed, last_put, no_more}
+use Rattle.listing.specs.Pieces.{frame_in, Turn, turn, frame_line, frame_turns, turns, printed_out, room?, emitted, print_of, bad_printed, last_put, no_more}
 use Rattle.listing.proofs.Steps.{turns-step, turns-end}
 
 -- ── A line ──

@@ -1,8 +1,8 @@
 -- What waits, line by line: a frame more (`turns-step`), or none (`turns-end`).
-use Prim.Native.Nat.{ℕ, zero, suc, ◌+◌, ◌-◌, ◌<◌, ◌≤◌}
-use mathlib.Core.Path.{◌≡◌, refl, sym, ◌∙◌, ap}
-use mathlib.Core.List.{List, [], ◌∷◌, ◌++◌}
-use mathlib.Core.Option.{Option, none, some}
+use Prim.Native.Nat.{ℕ, zero, suc, ◌+◌, ◌-◌, ◌<◌}
+use mathlib.Core.Path.{◌≡◌, refl, ◌∙◌, ap}
+use mathlib.Core.List.{List, [], ◌∷◌}
+use mathlib.Core.Option.{none, some}
 use mathlib.Core.Bool.{Bool, true, false, cond}
 use native.Mathlib.Omega.{arith}
 use Rattle.slices.proofs.Cases.{none-some}
@@ -14,7 +14,7 @@ use Rattle.lookup.specs.Answers.{Framed}
 use Rattle.lookup.specs.Lookup.{ended, framed, step_in_lem, stepped}
 use Rattle.lookup.proofs.LookupLaws.{goes_on}
 use Rattle.listing.specs.declared.Waiting.TheVariants as waiting
-use Rattle.listing.specs.Pieces.{count_in, frame_in, walked, Turn, turn, frame_line, frame_turns, turns}
+use Rattle.listing.specs.Pieces.{count_in, frame_in, walked, turn, frame_line, frame_turns, turns}
 
 -- a step of a walk: it made fewer than there are locations, and makes one more
 abbrev pub Stepped : ℕ → SourceLocations → Framed → Type 0

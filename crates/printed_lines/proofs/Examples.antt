@@ -1,7 +1,6 @@
 -- Document 01's lister example, computed: the three lines printed; a bad line, and a refused file.
-use Prim.Native.Nat.{ℕ}
 use mathlib.Core.Path.{◌≡◌, refl}
-use mathlib.Core.List.{List, [], ◌∷◌}
+use mathlib.Core.List.{[], ◌∷◌}
 use Rattle.printed_lines.specs.Printed.{hex_digit, hex_field, spaced, frame_line_lem, no_frame_line, bad_line, refused_line}
 
 -- '0000000000001003 00000000 00000002 00000001 00000032 00000001 0A'

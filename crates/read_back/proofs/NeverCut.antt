@@ -17,7 +17,7 @@ use Rattle.lookup.specs.declared.SourceLocations.{SourceLocations}
 use Rattle.lookup.specs.declared.Frame.{Frame}
 use Rattle.lookup.specs.Answers.{Framed}
 use Rattle.lookup.specs.Lookup.{belongs_to, walk_from_lem, walk_tested, looked_up_lem, met, frame_in_lem, framed, ended, step_in_lem, stepped}
-use Rattle.read_back.specs.Ends.{ends_by_rule?, Reached, from_lookup, step_further, NeverCut, Handed, by_lookup, by_next, EndsByRule, NextEndsByRule}
+use Rattle.read_back.specs.Ends.{ends_by_rule?, Reached, from_lookup, step_further, NeverCut, Handed, by_lookup, by_next, NextEndsByRule}
 use Rattle.read_back.proofs.Walks.{Has, begins, goes_on, steps-left, step_is, stops, steps_on}
 
 -- ── The clauses ──

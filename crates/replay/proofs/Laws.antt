@@ -1,5 +1,5 @@
 -- A count of at most a slice's length is the length of the part that it counts; the checksum of what is still to come; digits.
-use Rattle.std.proofs.Common.{◌≡◌, ℕ, ◌+◌, ◌<◌, ◌≤◌, List, length, get_or, take, drop, sym, add-one, length-take-le, drop-cons, le-ltb, lt-ltb}
+use Rattle.std.proofs.Common.{◌≡◌, ℕ, ◌+◌, ◌<◌, ◌≤◌, List, length, get_or, drop, sym, add-one, length-take-le, drop-cons, le-ltb, lt-ltb}
 use lib.Seq.{drop-length}
 use Rattle.replay.specs.Counts.{IsPrefixLen}
 use Rattle.replay.specs.Sums.{sum_with, sum_with_all, sum_digit}

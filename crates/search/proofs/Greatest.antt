@@ -1,16 +1,16 @@
 -- On ascending starts the search ends at the greatest start at most the address.
-use Prim.Native.Nat.{ℕ, zero, suc, ◌+◌, ◌*◌, ◌/◌, ◌-◌, ◌≤◌, ◌<◌}
+use Prim.Native.Nat.{ℕ, zero, suc, ◌+◌, ◌*◌, ◌-◌, ◌≤◌, ◌<◌}
 use mathlib.Core.Path.{◌≡◌, refl, ◌∙◌}
-use mathlib.Core.Bool.{Bool, true, false, cond}
+use mathlib.Core.Bool.{true, cond}
 use mathlib.Core.Logic.{◌⊎◌, inl, inr, ⊎_elim}
 use native.Mathlib.Nat.{mul-suc, mul-le-mul_left, mul-lt-mul_of_pos_left}
 use native.Mathlib.Omega.{arith}
 use lib.Dec.{ltb, leb, eqb}
-use borrow.Author.Tests.{le-leb, lt-leb, ltb-true, ltb-false, eq-eqb, ne_eqb}
+use borrow.Author.Tests.{le-leb, lt-leb, ltb-true, eq-eqb, ne_eqb}
 use Rattle.slices.proofs.Cases.{lt-or_ge, both_true}
 use Rattle.raw.specs.Rows.{max32}
 use Rattle.search.specs.Search.{ascending_from, ascending, count_in_lem, search_in, found_among}
-use Rattle.search.proofs.SearchLaws.{at-most-or-above, few, spaced, led, led-most, Turn, turn, search_done}
+use Rattle.search.proofs.SearchLaws.{at-most-or-above, few, spaced, led, turn, search_done}
 
 -- cases
 meets : (i j : ℕ) → i ≤ j → (i ≡ j) ⊎ (i < j)

@@ -1,6 +1,6 @@
 -- Undoing takes back what inserting added: `insert-added` is one call, `undo_inserts` any list of calls. Undoing to a mark after an insert is undoing to it before,
 -- whatever the insert found or had room for; so undoing to the former count gives the former words.
-use Prim.Native.Nat.{ℕ, zero, suc, ◌+◌, ◌*◌, ◌-◌, ◌<◌, ◌≤◌}
+use Prim.Native.Nat.{ℕ, zero, suc, ◌+◌, ◌*◌, ◌<◌, ◌≤◌}
 use mathlib.Core.Path.{◌≡◌, refl, sym, ◌∙◌, ap}
 use mathlib.Core.List.{List, [], ◌∷◌}
 use mathlib.Core.Bool.{Bool, true, false, cond}

@@ -1,6 +1,6 @@
 -- LEB128: the standard's algorithm gives the shortest form of a number; decoding gives back what it encoded, and accepts exactly
 -- the well-formed sequences of at most ten bytes and 64 bits. Assumes nothing.
-use Prim.Native.Nat.{ℕ, zero, suc, ◌+◌, ◌-◌, ◌/◌, ◌%◌, ◌^◌, ◌≤◌, ◌<◌}
+use Prim.Native.Nat.{ℕ, zero, suc, ◌+◌, ◌/◌, ◌%◌, ◌^◌, ◌≤◌, ◌<◌}
 use mathlib.Core.Path.{◌≡◌, refl, ap}
 use mathlib.Core.Logic.{◌⊎◌, inl, inr, ⊎_elim, ◌↔◌}
 use mathlib.Core.List.{List, [], ◌∷◌, ◌++◌}
@@ -12,7 +12,7 @@ use lib.Dec.{ltb, leb, lit<}
 use lib.ListN.{length, drop, set, drop_of_length-le}
 use lib.Pow.{are_bytes}
 use lib.Seq.{drop_at, sets}
-use borrow.Author.Tests.{ltb-true, ltb-false, leb-true, lt-ltb, le-ltb, le-leb, lt-leb}
+use borrow.Author.Tests.{ltb-true, leb-true, lt-ltb, le-ltb, le-leb, lt-leb}
 use Rattle.slices.proofs.Cases.{lt-or_ge, and_left, and_right}
 use Rattle.text.specs.Leb128.{leb_value, well_formed, encoded_in, encoded, leb_prefix, leb_number, decoded, Accepted, written, wrote_leb}
 use Rattle.text.specs.declared.leb128.Leb.TheVariants.{Absent, Number}

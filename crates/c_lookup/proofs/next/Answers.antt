@@ -1,7 +1,6 @@
 -- `next` meets its contract: the next one, as words, and the cursor after it.
 use mathlib.Core.Path.{ap, ◌∙◌}
 use mathlib.Core.Option.{Option}
-use Prim.Native.Nat.{ℕ}
 use Rattle.lookup.specs.declared.SourceLocations.{SourceLocations}
 use Rattle.symcache.specs.Answers.{Answer}
 use Rattle.lookup.specs.Answers.{Framed}

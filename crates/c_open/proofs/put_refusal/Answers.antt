@@ -2,7 +2,7 @@
 use Prim.Native.Nat.{ℕ}
 use native.Mathlib.Omega.{arith}
 use mathlib.Core.Path.{◌≡◌, refl, sym, ◌∙◌}
-use mathlib.Core.List.{List, [], ◌∷◌}
+use mathlib.Core.List.{List}
 use lib.ListN.{set}
 use Rattle.symcache.specs.Answers.{refusal_of}
 use Rattle.symcache.specs.declared.ErrorKind.{ErrorKind}

@@ -2,7 +2,6 @@
 use mathlib.Core.Path.{ap, ◌∙◌}
 use mathlib.Core.Option.{Option}
 use Prim.Native.Nat.{ℕ}
-use Rattle.lookup.specs.declared.SourceLocations.{SourceLocations}
 use Rattle.symcache.specs.Answers.{Answer}
 use Rattle.lookup.specs.Answers.{NextFile}
 use Rattle.lookup.specs.Lookup.{files_next}

@@ -1,10 +1,7 @@
 -- `function_name` meets its contract.
 use native.Mathlib.Omega.{arith}
-use mathlib.Core.Path.{◌≡◌, ap, sym, ◌∙◌}
-use lib.ListN.{length}
-use Rattle.symcache.specs.declared.SymCache.{SymCache}
-use Rattle.symcache.specs.Answers.{gives, parse_answer}
-use Rattle.symcache.specs.Reader.{parsed, Within}
+use mathlib.Core.Path.{ap, sym, ◌∙◌}
+use Rattle.symcache.specs.Answers.{parse_answer}
 use Rattle.symcache.proofs.ReaderLaws.{parsed-within}
 use Rattle.file_texts.proofs.StringLaws.{name-refused, name-given, name-missing}
 use Rattle.file_texts.proofs.function_name.Goals as goal

@@ -1,10 +1,7 @@
 -- `read_string` meets its contract.
 use native.Mathlib.Omega.{arith}
-use mathlib.Core.Path.{◌≡◌, ap, sym, ◌∙◌}
-use lib.ListN.{length}
-use Rattle.symcache.specs.declared.SymCache.{SymCache}
-use Rattle.symcache.specs.Answers.{gives, parse_answer}
-use Rattle.symcache.specs.Reader.{parsed, Within}
+use mathlib.Core.Path.{ap, sym, ◌∙◌}
+use Rattle.symcache.specs.Answers.{parse_answer}
 use Rattle.symcache.proofs.ReaderLaws.{parsed-within}
 use Rattle.file_texts.proofs.StringLaws.{string_inside, string_there, string_absent, string_refused}
 use Rattle.file_texts.proofs.read_string.Goals as goal

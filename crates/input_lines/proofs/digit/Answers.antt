@@ -1,5 +1,5 @@
 -- Each way through the `match` is one case of `digit_of`.
-use Rattle.std.proofs.Common.{arith, rules}
+use Rattle.std.proofs.Common.{arith}
 use Rattle.input_lines.proofs.Digits.{digit-number, digit_upper, digit_lower, digit-none}
 use Rattle.input_lines.proofs.digit.Goals as goal
 

@@ -1,4 +1,4 @@
-use Rattle.std.proofs.Common.{rules, le-ltb, lt-ltb}
+use Rattle.std.proofs.Common.{le-ltb, lt-ltb}
 use Rattle.input_lines.proofs.one_more.Goals as goal
 
 pub returns-then-n-lt17 : goal.returns-then-n-lt17

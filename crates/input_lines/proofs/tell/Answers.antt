@@ -1,4 +1,3 @@
-use Rattle.std.proofs.Common.{rules}
 use Rattle.input_lines.specs.Input.{told}
 use Rattle.input_lines.proofs.tell.Goals as goal
 

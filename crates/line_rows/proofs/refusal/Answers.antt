@@ -1,5 +1,4 @@
 -- `refusal` meets its contract: each number by the tests that led to it.
-use mathlib.Core.Path.{sym, ◌∙◌}
 use Rattle.line_rows.proofs.Numbers.{number_0, number_16_64, number_16_32, number-rows, number_19}
 use Rattle.line_rows.proofs.refusal.Goals as goal
 

@@ -1,13 +1,8 @@
 -- The invariant: what the calls from here on leave is what those from the first print on leave.
 use Prim.Native.Nat.{◌-◌}
-use mathlib.Core.Path.{◌≡◌, refl, sym, ◌∙◌, ap}
-use native.Mathlib.Omega.{arith}
+use mathlib.Core.Path.{◌≡◌}
 use lib.ListN.{length, drop}
-use Rattle.input_lines.proofs.Pieces.{read_past}
-use Rattle.input_lines.specs.declared.ReadOn.{ReadOn}
-use Rattle.listing.specs.Pieces.{PrintedOut, printed_out, print_of, list_from, list_of}
-use Rattle.listing.proofs.Printing.{print_length}
-use Rattle.listing.proofs.Calls.{list-turn, list_done, list_waits}
+use Rattle.listing.specs.Pieces.{printed_out, list_from}
 use Rattle.listing.proofs.list.Given as goal
 
 abbrev pub invariant-loop-used : goal.invariant-loop-used

@@ -1,9 +1,8 @@
 -- By the test of the count.
-use mathlib.Core.Path.{◌≡◌, sym, ◌∙◌, ap}
+use mathlib.Core.Path.{◌∙◌, ap}
 use native.Mathlib.Omega.{arith}
 use lib.ListN.{length}
 use Rattle.printed_lines.specs.Printed.{WroteLine, no_frame_line}
-use Rattle.listing.specs.declared.Waiting.TheVariants as waiting
 use borrow.Author.Tests.{eq-eqb, ne_eqb}
 use Rattle.listing.specs.Pieces.{last_put, no_more}
 use Rattle.listing.proofs.Printing.{put-length}

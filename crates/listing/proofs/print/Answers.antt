@@ -1,9 +1,9 @@
 -- By what waits.
-use mathlib.Core.Path.{◌≡◌, sym, ◌∙◌, ap}
+use mathlib.Core.Path.{sym, ◌∙◌, ap}
 use lib.ListN.{length}
 use Rattle.listing.specs.declared.Waiting.{Waiting}
 use Rattle.listing.specs.declared.Waiting.TheVariants as waiting
-use Rattle.listing.specs.Pieces.{PrintedOut, printed_out, print_of}
+use Rattle.listing.specs.Pieces.{PrintedOut, print_of}
 use Rattle.listing.proofs.Printing.{nothing-printed, bad-is, print_length}
 use Rattle.listing.proofs.print.Goals as goal
 

@@ -1,5 +1,5 @@
 -- The line where there is room (`bad-printed`), and nothing where there is none (`bad_no_room`).
-use mathlib.Core.Path.{◌≡◌, sym, ◌∙◌, ap}
+use mathlib.Core.Path.{sym, ◌∙◌, ap}
 use lib.ListN.{length}
 use borrow.Author.Tests.{not-true, not-false}
 use Rattle.printed_lines.specs.Printed.{WroteLine, bad_line}

@@ -1,15 +1,11 @@
-use Prim.Native.Nat.{◌+◌, ◌-◌}
-use mathlib.Core.Path.{◌≡◌, refl, sym, ◌∙◌, ap}
-use mathlib.Core.Option.{some}
-use mathlib.Core.Bool.{true}
+use Prim.Native.Nat.{◌+◌}
+use mathlib.Core.Path.{refl, sym, ◌∙◌, ap}
 use native.Mathlib.Omega.{arith}
 use lib.ListN.{length}
 use borrow.Author.Tests.{leb-true}
-use Rattle.symcache.specs.Answers.{gives}
-use Rattle.lookup.specs.Answers.{Framed, step_answer}
-use Rattle.lookup.specs.Lookup.{stepped}
+use Rattle.lookup.specs.Answers.{step_answer}
 use Rattle.listing.specs.declared.Waiting.TheVariants as waiting
-use Rattle.listing.specs.Pieces.{frame_in, room?, PrintedOut, print_of, no_more}
+use Rattle.listing.specs.Pieces.{frame_in, PrintedOut}
 use Rattle.listing.proofs.Printing.{no_room, frame-printed, frame-put, end-printed, no_more-length}
 use Rattle.listing.proofs.print_frames.Goals as goal
 

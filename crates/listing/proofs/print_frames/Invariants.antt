@@ -1,17 +1,9 @@
 -- The invariant: printing from here on is printing from the start.
-use Prim.Native.Nat.{◌+◌, ◌-◌}
-use mathlib.Core.Path.{◌≡◌, refl, sym, ◌∙◌, ap}
-use mathlib.Core.Option.{some}
-use mathlib.Core.Bool.{true}
-use native.Mathlib.Omega.{arith}
+use Prim.Native.Nat.{◌-◌}
+use mathlib.Core.Path.{◌≡◌}
 use lib.ListN.{length}
-use borrow.Author.Tests.{leb-true}
-use Rattle.symcache.specs.Answers.{gives}
-use Rattle.lookup.specs.Answers.{Framed, step_answer}
-use Rattle.lookup.specs.Lookup.{stepped}
 use Rattle.listing.specs.declared.Waiting.TheVariants as waiting
-use Rattle.listing.specs.Pieces.{frame_in, room?, PrintedOut, print_of, no_more}
-use Rattle.listing.proofs.Printing.{no_room, frame-printed, frame-put, end-printed, no_more-length}
+use Rattle.listing.specs.Pieces.{print_of}
 use Rattle.listing.proofs.print_frames.Given as goal
 
 abbrev pub invariant-loop-step : goal.invariant-loop-step

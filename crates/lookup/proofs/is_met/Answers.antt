@@ -1,6 +1,4 @@
-use native.Mathlib.Omega.{arith}
-use mathlib.Core.Path.{◌≡◌, refl, sym, ◌∙◌}
-use Rattle.lookup.specs.Lookup.{met}
+use mathlib.Core.Path.{refl, sym, ◌∙◌}
 use Rattle.lookup.proofs.LookupLaws.{met-here, met-outside, met-further, met-nowhere}
 use Rattle.lookup.proofs.is_met.Goals as goal
 

@@ -1,8 +1,6 @@
 -- `is_met` meets its contract. The invariant: what is left of the walk decides.
-use native.Mathlib.Omega.{arith}
-use mathlib.Core.Path.{◌≡◌, refl, sym, ◌∙◌}
+use mathlib.Core.Path.{◌≡◌}
 use Rattle.lookup.specs.Lookup.{met}
-use Rattle.lookup.proofs.LookupLaws.{met-here, met-outside, met-further, met-nowhere}
 use Rattle.lookup.proofs.is_met.Given as goal
 
 abbrev pub invariant-loop-left : goal.invariant-loop-left

@@ -1,8 +1,5 @@
 use Rattle.symcache.specs.Answers.{gives}
-use mathlib.Core.Path.{ap, ◌≡◌, refl, ◌∙◌}
-use native.Mathlib.Omega.{arith}
-use Prim.Native.Nat.{◌-◌}
-use Rattle.lookup.specs.Lookup.{next_function}
+use mathlib.Core.Path.{ap, refl, ◌∙◌}
 use Rattle.lookup.proofs.LookupLaws.{function-passed, function-given, functions-end}
 use Rattle.lookup.proofs.next_function.Goals as goal
 

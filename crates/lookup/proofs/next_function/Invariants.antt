@@ -1,10 +1,7 @@
 -- `next_function` meets its contract. The invariant: what is still to be read decides.
-use Rattle.symcache.specs.Answers.{gives}
-use mathlib.Core.Path.{ap, ◌≡◌, refl, ◌∙◌}
-use native.Mathlib.Omega.{arith}
+use mathlib.Core.Path.{◌≡◌}
 use Prim.Native.Nat.{◌-◌}
 use Rattle.lookup.specs.Lookup.{next_function}
-use Rattle.lookup.proofs.LookupLaws.{function-passed, function-given, functions-end}
 use Rattle.lookup.proofs.next_function.Given as goal
 
 abbrev pub invariant-loop-i : goal.invariant-loop-i

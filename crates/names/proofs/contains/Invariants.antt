@@ -1,10 +1,8 @@
 -- The invariant of `contains`: what is left has the answer of the whole.
 use Prim.Native.Nat.{◌≤◌, ◌-◌}
-use mathlib.Core.Path.{◌≡◌, refl, sym, ◌∙◌}
-use native.Mathlib.Omega.{arith}
+use mathlib.Core.Path.{◌≡◌}
 use lib.ListN.{length, drop}
 use Rattle.names.specs.Names.{contains}
-use Rattle.names.proofs.Laws.{contains-none, contains-here, contains-later}
 use Rattle.names.proofs.contains.Given as goal
 
 abbrev pub invariant-loop-i : goal.invariant-loop-i

@@ -1,10 +1,7 @@
-use Prim.Native.Nat.{◌≤◌, ◌-◌}
-use mathlib.Core.Path.{◌≡◌, sym, ◌∙◌}
+use mathlib.Core.Path.{sym, ◌∙◌}
 use native.Mathlib.Omega.{arith}
-use lib.ListN.{length, drop}
 use borrow.Author.Tests.{not-true, not-false}
-use Rattle.names.specs.Names.{number}
-use Rattle.names.proofs.Laws.{fits, number-empty, number-some, fits-done, fits-other, fits_more, fits-over, digit_low}
+use Rattle.names.proofs.Laws.{number-empty, number-some, fits-done, fits-other, fits_more, fits-over, digit_low}
 use Rattle.names.proofs.number.Goals as goal
 
 pub returns-then-s-eq0 : goal.returns-then-s-eq0

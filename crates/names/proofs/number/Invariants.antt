@@ -1,11 +1,9 @@
 -- The invariant of `number`: what is left, read after the value so far, has the answer of the whole, and the value fits 32 bits.
 use Prim.Native.Nat.{◌≤◌, ◌-◌}
-use mathlib.Core.Path.{◌≡◌, sym, ◌∙◌}
-use native.Mathlib.Omega.{arith}
+use mathlib.Core.Path.{◌≡◌}
 use lib.ListN.{length, drop}
-use borrow.Author.Tests.{not-true, not-false}
 use Rattle.names.specs.Names.{number}
-use Rattle.names.proofs.Laws.{fits, number-empty, number-some, fits-done, fits-other, fits_more, fits-over, digit_low}
+use Rattle.names.proofs.Laws.{fits}
 use Rattle.names.proofs.number.Given as goal
 
 abbrev pub invariant-loop-i : goal.invariant-loop-i

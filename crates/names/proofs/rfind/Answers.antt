@@ -1,8 +1,6 @@
-use Prim.Native.Nat.{◌≤◌, ◌-◌}
-use mathlib.Core.Path.{◌≡◌, refl, sym, ap, ◌∙◌}
+use Prim.Native.Nat.{◌-◌}
+use mathlib.Core.Path.{refl, sym, ap, ◌∙◌}
 use native.Mathlib.Omega.{arith}
-use lib.ListN.{length}
-use Rattle.names.specs.Names.{rfind}
 use Rattle.names.specs.Found.{found}
 use Rattle.names.proofs.Laws.{rest, rfind-none, rfind-here, rfind_lower}
 use Rattle.names.proofs.rfind.Goals as goal

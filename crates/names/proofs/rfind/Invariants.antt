@@ -1,11 +1,8 @@
 -- The invariant of `rfind`: the places at i and above hold no pattern.
-use Prim.Native.Nat.{◌≤◌, ◌-◌}
-use mathlib.Core.Path.{◌≡◌, refl, sym, ap, ◌∙◌}
-use native.Mathlib.Omega.{arith}
+use Prim.Native.Nat.{◌≤◌}
+use mathlib.Core.Path.{◌≡◌}
 use lib.ListN.{length}
 use Rattle.names.specs.Names.{rfind}
-use Rattle.names.specs.Found.{found}
-use Rattle.names.proofs.Laws.{rest, rfind-none, rfind-here, rfind_lower}
 use Rattle.names.proofs.rfind.Given as goal
 
 abbrev pub invariant-loop-i : goal.invariant-loop-i

@@ -1,8 +1,5 @@
-use Prim.Native.Nat.{◌≤◌, ◌-◌}
-use mathlib.Core.Path.{◌≡◌, refl, sym, ◌∙◌}
+use mathlib.Core.Path.{refl, sym, ◌∙◌}
 use native.Mathlib.Omega.{arith}
-use lib.ListN.{length, drop}
-use Rattle.names.specs.Names.{starts_with}
 use Rattle.names.proofs.Laws.{starts-done, starts-short, starts_differ, starts-same}
 use Rattle.names.proofs.starts_with.Goals as goal
 

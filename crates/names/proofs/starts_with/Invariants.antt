@@ -1,10 +1,8 @@
 -- The invariant of `starts_with`: what is left to compare has the answer of the whole.
 use Prim.Native.Nat.{◌≤◌, ◌-◌}
-use mathlib.Core.Path.{◌≡◌, refl, sym, ◌∙◌}
-use native.Mathlib.Omega.{arith}
+use mathlib.Core.Path.{◌≡◌}
 use lib.ListN.{length, drop}
 use Rattle.names.specs.Names.{starts_with}
-use Rattle.names.proofs.Laws.{starts-done, starts-short, starts_differ, starts-same}
 use Rattle.names.proofs.starts_with.Given as goal
 
 abbrev pub invariant-loop-i : goal.invariant-loop-i

@@ -1,9 +1,8 @@
 -- The line by the calls' stores (`bad-run`); where it has no room, nothing changes.
-use Prim.Native.Nat.{◌+◌}
 use native.Mathlib.Omega.{arith}
-use lib.ListN.{set, length-set}
+use lib.ListN.{length-set}
 use Rattle.printed_lines.specs.Printed.{bad_line}
-use Rattle.printed_lines.proofs.Runs.{Run, kept, no_room, printed}
+use Rattle.printed_lines.proofs.Runs.{kept, no_room, printed}
 use Rattle.printed_lines.proofs.Whole.{bad-length, bad-run}
 use Rattle.printed_lines.proofs.bad_line.Goals as goal
 

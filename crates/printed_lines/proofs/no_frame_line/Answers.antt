@@ -1,9 +1,7 @@
 -- The line by the calls' stores (`no_frame-run`); where it has no room, nothing changes.
-use Prim.Native.Nat.{◌+◌}
 use native.Mathlib.Omega.{arith}
-use lib.ListN.{set}
 use Rattle.printed_lines.specs.Printed.{no_frame_line}
-use Rattle.printed_lines.proofs.Runs.{Run, kept, no_room, printed}
+use Rattle.printed_lines.proofs.Runs.{kept, no_room, printed}
 use Rattle.printed_lines.proofs.Whole.{no_frame-length, no_frame-run}
 use Rattle.printed_lines.proofs.no_frame_line.Goals as goal
 

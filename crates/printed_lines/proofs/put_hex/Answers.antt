@@ -1,9 +1,6 @@
-use Prim.Native.Nat.{◌≤◌}
-use mathlib.Core.Path.{◌≡◌, refl, sym, ◌∙◌}
+use mathlib.Core.Path.{refl, sym, ◌∙◌}
 use native.Mathlib.Omega.{arith}
-use lib.ListN.{length, length-set}
-use lib.Seq.{sets}
-use Rattle.printed_lines.specs.Printed.{hex_field}
+use lib.ListN.{length-set}
 use Rattle.printed_lines.proofs.Runs.{hex_turn, hex_done}
 use Rattle.printed_lines.proofs.put_hex.Goals as goal
 

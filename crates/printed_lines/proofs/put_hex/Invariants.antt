@@ -1,11 +1,9 @@
 -- The invariant: the digits that are left, stored from `at` on, give what all of them stored at entry give.
 use Prim.Native.Nat.{◌≤◌}
-use mathlib.Core.Path.{◌≡◌, refl, sym, ◌∙◌}
-use native.Mathlib.Omega.{arith}
-use lib.ListN.{length, length-set}
+use mathlib.Core.Path.{◌≡◌}
+use lib.ListN.{length}
 use lib.Seq.{sets}
 use Rattle.printed_lines.specs.Printed.{hex_field}
-use Rattle.printed_lines.proofs.Runs.{hex_turn, hex_done}
 use Rattle.printed_lines.proofs.put_hex.Given as goal
 
 abbrev pub invariant-loop-left : goal.invariant-loop-left

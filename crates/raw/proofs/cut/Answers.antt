@@ -1,7 +1,6 @@
 use Rattle.slices.proofs.Bytes.{copied, copy_turn}
-use lib.ListN.{length-set, length, take}
-use mathlib.Core.Path.{◌≡◌, refl}
-use Prim.Native.Nat.{◌≤◌, ◌-◌}
+use lib.ListN.{length-set}
+use mathlib.Core.Path.{refl}
 use native.Mathlib.Omega.{arith}
 use Rattle.slices.specs.Bytes.{bytes_at}
 use Rattle.raw.proofs.cut.Goals as goal

@@ -1,9 +1,7 @@
 -- `cut` meets its contract. The invariant: the bytes copied so far are those from `at` on.
-use Rattle.slices.proofs.Bytes.{copied, copy_turn}
-use lib.ListN.{length-set, length, take}
-use mathlib.Core.Path.{◌≡◌, refl}
+use lib.ListN.{length, take}
+use mathlib.Core.Path.{◌≡◌}
 use Prim.Native.Nat.{◌≤◌, ◌-◌}
-use native.Mathlib.Omega.{arith}
 use Rattle.slices.specs.Bytes.{bytes_at}
 use Rattle.raw.proofs.cut.Given as goal
 

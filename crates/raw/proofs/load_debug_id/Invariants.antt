@@ -1,10 +1,8 @@
 -- `load_debug_id` meets its contract. The invariant: the bytes copied so far are those from `at` on.
 use Prim.Native.Nat.{◌≤◌, ◌-◌}
-use native.Mathlib.Omega.{arith}
-use mathlib.Core.Path.{◌≡◌, refl}
-use lib.ListN.{length, take, length-set}
+use mathlib.Core.Path.{◌≡◌}
+use lib.ListN.{length, take}
 use Rattle.slices.specs.Bytes.{bytes_at}
-use Rattle.slices.proofs.Bytes.{copy_turn, copied}
 use Rattle.raw.proofs.load_debug_id.Given as goal
 
 abbrev pub invariant-loop-i : goal.invariant-loop-i

@@ -4,7 +4,6 @@ use mathlib.Core.Path.{◌≡◌}
 use mathlib.Core.List.{List}
 use Rattle.slices.specs.Bytes.{le_at}
 use Rattle.raw.specs.Rows.{location_at}
-use Rattle.raw.specs.declared.SourceLocation.{SourceLocation}
 use Rattle.raw.proofs.load_location.Goals as goal
 
 loaded : (s : List ℕ) (at : ℕ) {a b c d : ℕ} → a ≡ le_at 4 s at → b ≡ le_at 4 s (at + 4) → c ≡ le_at 4 s (at + 8) → d ≡ le_at 4 s (at + 12)

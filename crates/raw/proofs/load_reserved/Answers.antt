@@ -1,7 +1,6 @@
-use Prim.Native.Nat.{◌≤◌, ◌-◌}
 use native.Mathlib.Omega.{arith}
-use mathlib.Core.Path.{◌≡◌, refl}
-use lib.ListN.{length, take, length-set}
+use mathlib.Core.Path.{refl}
+use lib.ListN.{length-set}
 use Rattle.slices.specs.Bytes.{bytes_at}
 use Rattle.slices.proofs.Bytes.{copy_turn, copied}
 use Rattle.raw.proofs.load_reserved.Goals as goal

@@ -4,7 +4,6 @@ use mathlib.Core.Path.{◌≡◌}
 use mathlib.Core.List.{List}
 use Rattle.slices.specs.Bytes.{le_at}
 use Rattle.raw.specs.Rows.{version_info_at}
-use Rattle.raw.specs.declared.VersionInfo.{VersionInfo}
 use Rattle.raw.proofs.load_version_info.Goals as goal
 
 loaded : (s : List ℕ) (at : ℕ) {a b : ℕ} → a ≡ le_at 4 s at → b ≡ le_at 4 s (at + 4)

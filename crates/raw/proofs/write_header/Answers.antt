@@ -1,6 +1,5 @@
 -- `write_header` meets its contract: the four parts make the row, and the row is copied.
-use mathlib.Core.Path.{◌≡◌, refl}
-use lib.ListN.{length}
+use mathlib.Core.Path.{refl}
 use Rattle.slices.specs.Bytes.{le}
 use Rattle.raw.proofs.Rows.{header_made}
 use borrow.Author.Rules.{rules}

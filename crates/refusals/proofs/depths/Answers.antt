@@ -1,10 +1,8 @@
-use Prim.Native.Nat.{ℕ, ◌≤◌, ◌+◌, ◌-◌}
-use mathlib.Core.Path.{◌≡◌, sym, ap, ◌∙◌}
-use mathlib.Core.Bool.{true}
+use Prim.Native.Nat.{ℕ, ◌+◌}
+use mathlib.Core.Path.{sym, ap, ◌∙◌}
 use native.Mathlib.Omega.{arith}
 use Rattle.rows.specs.Columns.{function_in_columns}
 use Rattle.rows.specs.declared.FunctionRow.{FunctionRow}
-use Rattle.refusals.specs.Refusals.{each, depth?}
 use Rattle.refusals.proofs.Laws.{each-end, depths-first, depths-not-first, depths-zero, depths-high, depths-more, depths-most}
 use borrow.Author.Rules.{rules}
 use Rattle.refusals.proofs.depths.Goals as goal

@@ -1,12 +1,9 @@
 -- `refusals::depths` meets its contract. The loop's invariant: the depths of the rows passed are right, and `most` is the last of them plus 1.
 use Prim.Native.Nat.{ℕ, ◌≤◌, ◌+◌, ◌-◌}
-use mathlib.Core.Path.{◌≡◌, sym, ap, ◌∙◌}
+use mathlib.Core.Path.{◌≡◌}
 use mathlib.Core.Bool.{true}
-use native.Mathlib.Omega.{arith}
 use Rattle.rows.specs.Columns.{function_in_columns}
-use Rattle.rows.specs.declared.FunctionRow.{FunctionRow}
 use Rattle.refusals.specs.Refusals.{each, depth?}
-use Rattle.refusals.proofs.Laws.{each-end, depths-first, depths-not-first, depths-zero, depths-high, depths-more, depths-most}
 use Rattle.refusals.proofs.depths.Given as goal
 
 abbrev pub invariant-loop-i : goal.invariant-loop-i

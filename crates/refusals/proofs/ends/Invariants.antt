@@ -1,11 +1,9 @@
 -- `refusals::ends` meets its contract. The loop's invariant: address plus size is below 2^64 in the rows passed.
 use Prim.Native.Nat.{ℕ, ◌≤◌, ◌-◌}
-use mathlib.Core.Path.{◌≡◌, sym, ap, ◌∙◌}
+use mathlib.Core.Path.{◌≡◌}
 use mathlib.Core.Bool.{true}
-use native.Mathlib.Omega.{arith}
 use Rattle.rows.specs.Columns.{function_in_columns}
 use Rattle.refusals.specs.Refusals.{each, end?}
-use Rattle.refusals.proofs.Laws.{each_none, each_more, each-not, each-end, end_no, end-yes}
 use Rattle.refusals.proofs.ends.Given as goal
 
 abbrev pub invariant-loop-i : goal.invariant-loop-i

@@ -1,9 +1,6 @@
-use Prim.Native.Nat.{ℕ, ◌≤◌, ◌-◌}
-use mathlib.Core.Path.{◌≡◌, sym, ap, ◌∙◌}
-use mathlib.Core.Bool.{true}
+use mathlib.Core.Path.{sym, ap, ◌∙◌}
 use native.Mathlib.Omega.{arith}
-use Rattle.rows.specs.Columns.{function_in_columns}
-use Rattle.refusals.specs.Refusals.{each, function_texts?}
+use Rattle.refusals.specs.Refusals.{function_texts?}
 use Rattle.refusals.proofs.Laws.{each_none, each_more, each-not, each-end}
 use Rattle.refusals.proofs.functions_texts.Goals as goal
 

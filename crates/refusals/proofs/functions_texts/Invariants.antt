@@ -1,11 +1,9 @@
 -- `refusals::functions_texts` meets its contract. The loop's invariant: the texts of the rows passed are right.
 use Prim.Native.Nat.{ℕ, ◌≤◌, ◌-◌}
-use mathlib.Core.Path.{◌≡◌, sym, ap, ◌∙◌}
+use mathlib.Core.Path.{◌≡◌}
 use mathlib.Core.Bool.{true}
-use native.Mathlib.Omega.{arith}
 use Rattle.rows.specs.Columns.{function_in_columns}
 use Rattle.refusals.specs.Refusals.{each, function_texts?}
-use Rattle.refusals.proofs.Laws.{each_none, each_more, each-not, each-end}
 use Rattle.refusals.proofs.functions_texts.Given as goal
 
 abbrev pub invariant-loop-i : goal.invariant-loop-i

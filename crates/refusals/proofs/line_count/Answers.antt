@@ -1,9 +1,6 @@
-use Prim.Native.Nat.{ℕ, ◌≤◌, ◌-◌, ◌*◌}
-use mathlib.Core.Path.{◌≡◌, ap}
+use mathlib.Core.Path.{ap}
 use native.Mathlib.Omega.{arith}
-use Rattle.rows.specs.Columns.{function_in_columns}
 use Rattle.rows.specs.declared.FunctionRow.{FunctionRow}
-use Rattle.refusals.specs.Refusals.{total}
 use Rattle.refusals.proofs.Laws.{total-none, total-more, total-end}
 use Rattle.refusals.proofs.line_count.Goals as goal
 

@@ -1,11 +1,8 @@
 -- `refusals::line_count` meets its contract. The loop's invariant: the sum is that of the rows passed, each below 2^32.
 use Prim.Native.Nat.{ℕ, ◌≤◌, ◌-◌, ◌*◌}
-use mathlib.Core.Path.{◌≡◌, ap}
-use native.Mathlib.Omega.{arith}
+use mathlib.Core.Path.{◌≡◌}
 use Rattle.rows.specs.Columns.{function_in_columns}
-use Rattle.rows.specs.declared.FunctionRow.{FunctionRow}
 use Rattle.refusals.specs.Refusals.{total}
-use Rattle.refusals.proofs.Laws.{total-none, total-more, total-end}
 use Rattle.refusals.proofs.line_count.Given as goal
 
 abbrev pub invariant-loop-row : goal.invariant-loop-row

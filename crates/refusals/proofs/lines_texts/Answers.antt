@@ -1,9 +1,6 @@
-use Prim.Native.Nat.{ℕ, ◌≤◌, ◌-◌}
-use mathlib.Core.Path.{◌≡◌, sym, ap, ◌∙◌}
-use mathlib.Core.Bool.{true}
+use mathlib.Core.Path.{sym, ap, ◌∙◌}
 use native.Mathlib.Omega.{arith}
-use Rattle.rows.specs.Columns.{line_in_columns}
-use Rattle.refusals.specs.Refusals.{each, line_texts?}
+use Rattle.refusals.specs.Refusals.{line_texts?}
 use Rattle.refusals.proofs.Laws.{each_none, each_more, each-not, each-end}
 use Rattle.refusals.proofs.lines_texts.Goals as goal
 

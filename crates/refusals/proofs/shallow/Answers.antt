@@ -1,9 +1,6 @@
-use Prim.Native.Nat.{ℕ, ◌≤◌, ◌-◌}
-use mathlib.Core.Path.{◌≡◌, sym, ap, ◌∙◌}
-use mathlib.Core.Bool.{true}
+use mathlib.Core.Path.{sym, ap, ◌∙◌}
 use native.Mathlib.Omega.{arith}
-use Rattle.rows.specs.Columns.{function_in_columns}
-use Rattle.refusals.specs.Refusals.{each, shallow_row?}
+use Rattle.refusals.specs.Refusals.{shallow_row?}
 use Rattle.refusals.proofs.Laws.{each_none, each_more, each-not, each-end, deep, not-deep}
 use Rattle.refusals.proofs.shallow.Goals as goal
 

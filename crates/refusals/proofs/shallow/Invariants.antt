@@ -1,11 +1,9 @@
 -- `refusals::shallow` meets its contract. The loop's invariant: no row passed is deeper than 41.
 use Prim.Native.Nat.{ℕ, ◌≤◌, ◌-◌}
-use mathlib.Core.Path.{◌≡◌, sym, ap, ◌∙◌}
+use mathlib.Core.Path.{◌≡◌}
 use mathlib.Core.Bool.{true}
-use native.Mathlib.Omega.{arith}
 use Rattle.rows.specs.Columns.{function_in_columns}
 use Rattle.refusals.specs.Refusals.{each, shallow_row?}
-use Rattle.refusals.proofs.Laws.{each_none, each_more, each-not, each-end, deep, not-deep}
 use Rattle.refusals.proofs.shallow.Given as goal
 
 abbrev pub invariant-loop-i : goal.invariant-loop-i

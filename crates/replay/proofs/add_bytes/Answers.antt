@@ -1,6 +1,5 @@
-use Rattle.std.proofs.Common.{◌≡◌, ◌-◌, ◌≤◌, length, drop, arith, rules}
+use Rattle.std.proofs.Common.{arith}
 use Rattle.replay.proofs.Laws.{sum_more, sum_done}
-use Rattle.replay.specs.Sums.{sum_with_all}
 use Rattle.replay.proofs.add_bytes.Goals as goal
 
 pub loop-i-preserved : goal.loop-i-preserved

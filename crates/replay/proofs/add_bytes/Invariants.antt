@@ -1,6 +1,5 @@
 -- The checksum of what is still to come, from the checksum so far, is that of all.
-use Rattle.std.proofs.Common.{◌≡◌, ◌-◌, ◌≤◌, length, drop, arith, rules}
-use Rattle.replay.proofs.Laws.{sum_more, sum_done}
+use Rattle.std.proofs.Common.{◌≡◌, ◌-◌, ◌≤◌, length, drop}
 use Rattle.replay.specs.Sums.{sum_with_all}
 use Rattle.replay.proofs.add_bytes.Given as goal
 

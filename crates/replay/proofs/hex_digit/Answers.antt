@@ -1,5 +1,5 @@
 -- By the size of the digit.
-use Rattle.std.proofs.Common.{arith, rules}
+use Rattle.std.proofs.Common.{arith}
 use Rattle.replay.proofs.Laws.{low_digit, high_digit}
 use Rattle.replay.proofs.hex_digit.Goals as goal
 

@@ -1,5 +1,4 @@
 -- Its two words.
-use Rattle.std.proofs.Common.{rules}
 use Rattle.replay.proofs.number.Goals as goal
 
 pub returns : goal.returns

@@ -1,5 +1,4 @@
 -- Digit by digit.
-use Rattle.std.proofs.Common.{rules}
 use Rattle.replay.proofs.sum_line.Goals as goal
 
 pub returns : goal.returns

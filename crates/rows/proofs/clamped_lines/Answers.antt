@@ -1,8 +1,6 @@
-use Prim.Native.Nat.{◌≤◌, ◌-◌}
-use mathlib.Core.Path.{◌≡◌, refl, sym}
-use mathlib.Core.Logic.{⊎_elim}
+use mathlib.Core.Path.{refl, sym}
 use native.Mathlib.Omega.{arith}
-use Rattle.rows.proofs.ClampedLaws.{clamped_before, before-none, before-cut, before-whole, before-all}
+use Rattle.rows.proofs.ClampedLaws.{before-none, before-cut, before-whole, before-all}
 use Rattle.rows.proofs.clamped_lines.Goals as goal
 use Rattle.rows.proofs.clamped_lines.Goals.{then-is_cut, else-is_cut}
 

@@ -1,9 +1,7 @@
 -- `rows::clamped_lines` meets its contract. The loop's invariant: the count is that of the rows passed, and at most one a row.
 use Prim.Native.Nat.{◌≤◌, ◌-◌}
-use mathlib.Core.Path.{◌≡◌, refl, sym}
-use mathlib.Core.Logic.{⊎_elim}
-use native.Mathlib.Omega.{arith}
-use Rattle.rows.proofs.ClampedLaws.{clamped_before, before-none, before-cut, before-whole, before-all}
+use mathlib.Core.Path.{◌≡◌}
+use Rattle.rows.proofs.ClampedLaws.{clamped_before}
 use Rattle.rows.proofs.clamped_lines.Given as goal
 
 abbrev pub invariant-loop-j : goal.invariant-loop-j

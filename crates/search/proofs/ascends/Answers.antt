@@ -1,8 +1,7 @@
-use mathlib.Core.Path.{◌≡◌, sym, ◌∙◌}
+use mathlib.Core.Path.{sym, ◌∙◌}
 use Rattle.search.proofs.SearchLaws.{ascending-begins, ascending-stops, ascending-more, ascending-ends}
-use Prim.Native.Nat.{◌≤◌, ◌-◌}
 use native.Mathlib.Omega.{arith}
-use Rattle.search.specs.Search.{start_at, ascending_from, ascending}
+use Rattle.search.specs.Search.{start_at, ascending}
 use Rattle.search.proofs.ascends.Goals as goal
 
 pub returns-then-n-eq0 : goal.returns-then-n-eq0

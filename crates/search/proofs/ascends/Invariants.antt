@@ -1,8 +1,6 @@
 -- `ascends` meets its contract. The invariant: what is still to be tested decides.
-use mathlib.Core.Path.{◌≡◌, sym, ◌∙◌}
-use Rattle.search.proofs.SearchLaws.{ascending-begins, ascending-stops, ascending-more, ascending-ends}
+use mathlib.Core.Path.{◌≡◌}
 use Prim.Native.Nat.{◌≤◌, ◌-◌}
-use native.Mathlib.Omega.{arith}
 use Rattle.search.specs.Search.{start_at, ascending_from, ascending}
 use Rattle.search.proofs.ascends.Given as goal
 

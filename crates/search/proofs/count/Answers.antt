@@ -1,10 +1,10 @@
 use Rattle.search.proofs.SearchLaws.{count-begins, count_turn, count-done}
 use native.Mathlib.Omega.{arith}
 use mathlib.Core.Path.{◌≡◌}
-use Prim.Native.Nat.{◌≤◌, ◌+◌, ◌-◌}
+use Prim.Native.Nat.{◌+◌, ◌-◌}
 use mathlib.Core.Bool.{cond}
 use lib.Dec.{leb}
-use Rattle.search.specs.Search.{start_at, count_in_lem}
+use Rattle.search.specs.Search.{start_at}
 use Rattle.search.proofs.count.Goals as goal
 
 pub loop-i-init : goal.loop-i-init

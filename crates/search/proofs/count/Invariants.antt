@@ -1,10 +1,6 @@
 -- `count` meets its contract. The invariant: what was counted and what is still to be counted make the whole.
-use Rattle.search.proofs.SearchLaws.{count-begins, count_turn, count-done}
-use native.Mathlib.Omega.{arith}
 use mathlib.Core.Path.{◌≡◌}
 use Prim.Native.Nat.{◌≤◌, ◌+◌, ◌-◌}
-use mathlib.Core.Bool.{cond}
-use lib.Dec.{leb}
 use Rattle.search.specs.Search.{start_at, count_in_lem}
 use Rattle.search.proofs.count.Given as goal
 

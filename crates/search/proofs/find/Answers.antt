@@ -1,10 +1,8 @@
 -- `find` meets its contract.
 use native.Mathlib.Omega.{arith}
-use mathlib.Core.Path.{◌≡◌, sym, ◌∙◌}
-use mathlib.Core.Bool.{true, false}
+use mathlib.Core.Path.{sym, ◌∙◌}
 use lib.ListN.{length}
-use Rattle.search.proofs.SearchLaws.{found-far, found-empty, found_unusable, found_here, found-above, Usable, usable-has}
-use Rattle.search.specs.Search.{usable}
+use Rattle.search.proofs.SearchLaws.{found-far, found-empty, found_unusable, found_here, found-above, usable-has}
 use Rattle.search.proofs.find.Goals as goal
 
 pub returns-then-addr : goal.returns-then-addr

@@ -1,7 +1,6 @@
 use native.Mathlib.Omega.{arith}
-use mathlib.Core.Path.{◌≡◌, refl, ◌∙◌}
-use Prim.Native.Nat.{◌≤◌, ◌+◌}
-use Rattle.search.specs.Search.{start_at, search_in}
+use mathlib.Core.Path.{refl, ◌∙◌}
+use Rattle.search.specs.Search.{start_at}
 use Rattle.search.proofs.SearchLaws.{half-turn}
 use Rattle.search.proofs.halves.Goals as goal
 

@@ -1,9 +1,7 @@
 -- `halves` meets its contract. The invariant is `search`'s: what is left of the search ends where all of it does.
-use native.Mathlib.Omega.{arith}
-use mathlib.Core.Path.{◌≡◌, refl, ◌∙◌}
+use mathlib.Core.Path.{◌≡◌}
 use Prim.Native.Nat.{◌≤◌, ◌+◌}
 use Rattle.search.specs.Search.{start_at, search_in}
-use Rattle.search.proofs.SearchLaws.{half-turn}
 use Rattle.search.proofs.halves.Given as goal
 
 abbrev pub invariant-loop-size : goal.invariant-loop-size

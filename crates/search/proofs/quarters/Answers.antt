@@ -1,8 +1,8 @@
 -- `quarters` meets its contract: the three tests, added up.
 use native.Mathlib.Omega.{arith}
-use mathlib.Core.Path.{◌≡◌, refl}
+use mathlib.Core.Path.{◌≡◌}
 use mathlib.Core.Bool.{cond}
-use Prim.Native.Nat.{ℕ, ◌+◌, ◌*◌, ◌≤◌}
+use Prim.Native.Nat.{ℕ, ◌+◌, ◌*◌}
 use lib.Dec.{leb}
 use Rattle.search.specs.Search.{start_at, quarters_in}
 use Rattle.search.proofs.quarters.Goals as goal

@@ -1,10 +1,7 @@
 -- `search` meets its contract. The invariant: what is left of the search ends where all of it does.
-use native.Mathlib.Nat.{mul-le-mul_left}
-use native.Mathlib.Omega.{arith}
-use mathlib.Core.Path.{◌≡◌, sym, ◌∙◌}
-use Prim.Native.Nat.{◌≤◌, ◌+◌, ◌*◌, ◌/◌}
+use mathlib.Core.Path.{◌≡◌}
+use Prim.Native.Nat.{◌≤◌, ◌+◌}
 use Rattle.search.specs.Search.{start_at, search_in}
-use Rattle.search.proofs.SearchLaws.{quarter-turn, search_done}
 use Rattle.search.proofs.search.Given as goal
 
 abbrev pub invariant-loop-size : goal.invariant-loop-size

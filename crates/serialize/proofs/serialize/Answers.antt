@@ -1,7 +1,5 @@
 -- `serialize` meets its contract: closed or over a capacity, an output that is too short, or the file.
-use mathlib.Core.Path.{◌≡◌}
-use lib.ListN.{length}
-use Rattle.memory.specs.Memory.{Memory, memory}
+use Rattle.memory.specs.Memory.{memory}
 use Rattle.serialize.proofs.Answers.{closed, short, ready, done}
 use borrow.Author.Rules.{rules}
 use Rattle.serialize.proofs.serialize.Goals as goal

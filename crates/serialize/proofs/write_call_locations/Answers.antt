@@ -1,4 +1,4 @@
-use Prim.Native.Nat.{◌≤◌, ◌+◌, ◌*◌, ◌-◌}
+use Prim.Native.Nat.{◌+◌, ◌*◌}
 use mathlib.Core.Path.{◌≡◌, refl, ap, ◌∙◌}
 use native.Mathlib.Omega.{arith}
 use lib.ListN.{length}
@@ -6,7 +6,7 @@ use lib.Seq.{sets, length-sets}
 use Rattle.slices.specs.Bytes.{table_bytes}
 use Rattle.raw.specs.Rows.{location_bytes}
 use Rattle.raw.specs.declared.SourceLocation.{SourceLocation}
-use Rattle.tables.specs.Table.{rows_from, rows_of}
+use Rattle.tables.specs.Table.{rows_from}
 use Rattle.serialize.specs.Sections.{call_row}
 use Rattle.serialize.proofs.Rows.{length-call_row, rows-turn}
 use Rattle.serialize.proofs.write_call_locations.Goals as goal

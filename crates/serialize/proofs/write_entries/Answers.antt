@@ -1,10 +1,10 @@
-use Prim.Native.Nat.{ℕ, ◌≤◌, ◌+◌, ◌*◌, ◌-◌}
+use Prim.Native.Nat.{ℕ, ◌+◌, ◌*◌}
 use mathlib.Core.Path.{◌≡◌, refl, ap, ◌∙◌}
 use native.Mathlib.Omega.{arith}
 use lib.ListN.{length}
 use lib.Seq.{sets, length-sets}
 use Rattle.slices.specs.Bytes.{table_bytes}
-use Rattle.tables.specs.Table.{rows_from, rows_of}
+use Rattle.tables.specs.Table.{rows_from}
 use Rattle.serialize.specs.Sections.{entries, entry_row}
 use Rattle.serialize.proofs.Rows.{entries-turn}
 use Rattle.serialize.proofs.write_entries.Goals as goal

@@ -1,13 +1,10 @@
 -- `write_entries` meets its contract. The invariant: the entries of the first i rows are stored.
-use Prim.Native.Nat.{ℕ, ◌≤◌, ◌+◌, ◌*◌, ◌-◌}
-use mathlib.Core.Path.{◌≡◌, refl, ap, ◌∙◌}
-use native.Mathlib.Omega.{arith}
-use lib.ListN.{length}
-use lib.Seq.{sets, length-sets}
+use Prim.Native.Nat.{◌≤◌, ◌-◌}
+use mathlib.Core.Path.{◌≡◌}
+use lib.Seq.{sets}
 use Rattle.slices.specs.Bytes.{table_bytes}
-use Rattle.tables.specs.Table.{rows_from, rows_of}
+use Rattle.tables.specs.Table.{rows_of}
 use Rattle.serialize.specs.Sections.{entries, entry_row}
-use Rattle.serialize.proofs.Rows.{entries-turn}
 use Rattle.serialize.proofs.write_entries.Given as goal
 
 abbrev pub invariant-loop-i : goal.invariant-loop-i

@@ -1,4 +1,4 @@
-use Prim.Native.Nat.{◌≤◌, ◌+◌, ◌*◌, ◌-◌}
+use Prim.Native.Nat.{◌+◌, ◌*◌}
 use mathlib.Core.Path.{◌≡◌, refl, ap, ◌∙◌}
 use native.Mathlib.Omega.{arith}
 use lib.ListN.{length}
@@ -6,7 +6,7 @@ use lib.Seq.{sets, length-sets}
 use Rattle.slices.specs.Bytes.{table_bytes}
 use Rattle.raw.specs.Rows.{file_bytes_lem}
 use Rattle.raw.specs.declared.File.{File}
-use Rattle.tables.specs.Table.{rows_from, rows_of}
+use Rattle.tables.specs.Table.{rows_from}
 use Rattle.serialize.specs.Sections.{file_row}
 use Rattle.serialize.proofs.Rows.{length-file_row, rows-turn}
 use Rattle.serialize.proofs.write_files.Goals as goal

@@ -1,9 +1,8 @@
-use Prim.Native.Nat.{◌≤◌, ◌-◌}
 use mathlib.Core.Path.{◌≡◌, ap, ◌∙◌}
 use native.Mathlib.Omega.{arith}
 use lib.ListN.{length}
 use Rattle.tables.specs.Kinds.{location_of_lem}
-use Rattle.serialize.proofs.Ranges.{turned, length-turned, turned_none, turned-step, turned-all}
+use Rattle.serialize.proofs.Ranges.{length-turned, turned_none, turned-step, turned-all}
 use Rattle.serialize.proofs.write_ranges.Goals as goal
 
 pub loop-i-init : goal.loop-i-init

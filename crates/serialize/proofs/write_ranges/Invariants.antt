@@ -1,10 +1,7 @@
 -- `write_ranges` meets its contract. The invariant: i entries are read, and their locations and starts stored.
 use Prim.Native.Nat.{◌≤◌, ◌-◌}
-use mathlib.Core.Path.{◌≡◌, ap, ◌∙◌}
-use native.Mathlib.Omega.{arith}
-use lib.ListN.{length}
-use Rattle.tables.specs.Kinds.{location_of_lem}
-use Rattle.serialize.proofs.Ranges.{turned, length-turned, turned_none, turned-step, turned-all}
+use mathlib.Core.Path.{◌≡◌}
+use Rattle.serialize.proofs.Ranges.{turned}
 use Rattle.serialize.proofs.write_ranges.Given as goal
 
 abbrev pub invariant-loop-i : goal.invariant-loop-i

@@ -1,13 +1,9 @@
-use Prim.Native.Nat.{ℕ, ◌+◌, ◌-◌, ◌<◌, ◌≤◌}
+use Prim.Native.Nat.{◌+◌, ◌<◌}
 use mathlib.Core.Path.{◌≡◌, refl, ◌∙◌}
-use mathlib.Core.Bool.{cond}
-use mathlib.Core.List.{List}
 use native.Mathlib.Omega.{arith}
-use lib.ListN.{length, get_or, set, take, length-set}
-use lib.Seq.{sets}
-use Rattle.slices.specs.Slices.{fitting}
+use lib.ListN.{length, get_or, length-set}
 use Rattle.slices.proofs.Bytes.{copied_more}
-use Rattle.slices.proofs.Fitting.{Fits, fits, copied_all}
+use Rattle.slices.proofs.Fitting.{fits, copied_all}
 use Rattle.slices.proofs.copy.Goals as goal
 
 pub loop-i-init : goal.loop-i-init

@@ -1,14 +1,9 @@
 -- `copy` meets its contract. The invariant: the first i bytes are stored, and no more have room than are stored in the end.
-use Prim.Native.Nat.{ℕ, ◌+◌, ◌-◌, ◌<◌, ◌≤◌}
-use mathlib.Core.Path.{◌≡◌, refl, ◌∙◌}
-use mathlib.Core.Bool.{cond}
-use mathlib.Core.List.{List}
-use native.Mathlib.Omega.{arith}
-use lib.ListN.{length, get_or, set, take, length-set}
+use Prim.Native.Nat.{◌-◌, ◌≤◌}
+use mathlib.Core.Path.{◌≡◌}
+use lib.ListN.{length, take}
 use lib.Seq.{sets}
-use Rattle.slices.specs.Slices.{fitting}
-use Rattle.slices.proofs.Bytes.{copied_more}
-use Rattle.slices.proofs.Fitting.{Fits, fits, copied_all}
+use Rattle.slices.proofs.Fitting.{Fits}
 use Rattle.slices.proofs.copy.Given as goal
 
 abbrev pub invariant-loop-i : goal.invariant-loop-i

@@ -1,10 +1,8 @@
 -- `zero_bytes` meets its contract: before word i all is zero.
 use Prim.Native.Nat.{◌-◌, ◌≤◌}
-use mathlib.Core.Path.{◌≡◌, refl, ◌∙◌}
+use mathlib.Core.Path.{◌≡◌}
 use mathlib.Core.List.{◌++◌}
-use native.Mathlib.Omega.{arith}
-use lib.ListN.{length, drop, replicate, length-set}
-use Rattle.slices.proofs.Fill.{zero_more, zero-done}
+use lib.ListN.{length, drop, replicate}
 use Rattle.slices.proofs.zero_bytes.Given as goal
 
 abbrev pub invariant-loop-i : goal.invariant-loop-i

@@ -1,8 +1,8 @@
 use Prim.Native.Nat.{ℕ, ◌-◌, ◌<◌, ◌≤◌}
-use mathlib.Core.Path.{◌≡◌, refl, sym, ◌∙◌}
+use mathlib.Core.Path.{refl, sym, ◌∙◌}
 use native.Mathlib.Omega.{arith}
 use borrow.Author.Tests.{leb-true, leb-false}
-use Rattle.tables.specs.Table.{walk, link_at}
+use Rattle.tables.specs.Table.{link_at}
 use Rattle.strings.specs.Strings.{text_at_lem}
 use Rattle.tables.proofs.Walk.{walk_none, walk-high, walk-found, walk-next}
 use Rattle.strings.proofs.follow.Goals as goal

@@ -1,11 +1,7 @@
 -- The loop's invariant: the walk from the start is the walk from here.
-use Prim.Native.Nat.{ℕ, ◌-◌, ◌<◌, ◌≤◌}
-use mathlib.Core.Path.{◌≡◌, refl, sym, ◌∙◌}
-use native.Mathlib.Omega.{arith}
-use borrow.Author.Tests.{leb-true, leb-false}
+use mathlib.Core.Path.{◌≡◌}
 use Rattle.tables.specs.Table.{walk, link_at}
 use Rattle.strings.specs.Strings.{text_at_lem}
-use Rattle.tables.proofs.Walk.{walk_none, walk-high, walk-found, walk-next}
 use Rattle.strings.proofs.follow.Given as goal
 
 abbrev pub invariant-loop-at : goal.invariant-loop-at

@@ -1,11 +1,8 @@
 -- The loop's invariant: what the bytes that are left make of x is what all of them make of the length.
-use Prim.Native.Nat.{ℕ, ◌+◌, ◌-◌, ◌%◌, ◌<◌, ◌≤◌}
-use mathlib.Core.Path.{◌≡◌, refl, ◌∙◌}
-use mathlib.Core.List.{List}
-use native.Mathlib.Omega.{arith}
-use lib.ListN.{length, get_or, take, drop, length-drop}
-use Rattle.strings.proofs.Fours.{four-left, rest-is}
-use Rattle.strings.specs.Strings.{mixed, four, hash_from, text_hash}
+use Prim.Native.Nat.{◌-◌, ◌≤◌}
+use mathlib.Core.Path.{◌≡◌}
+use lib.ListN.{length, drop}
+use Rattle.strings.specs.Strings.{hash_from}
 use Rattle.strings.proofs.hash.Given as goal
 
 abbrev pub invariant-loop-i : goal.invariant-loop-i

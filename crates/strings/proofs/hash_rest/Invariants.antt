@@ -1,12 +1,8 @@
 -- The loop's invariant: what the bytes that are left make of x is what all of them make of it at first.
-use Prim.Native.Nat.{ℕ, suc, ◌+◌, ◌-◌, ◌<◌, ◌≤◌}
-use mathlib.Core.Path.{◌≡◌, refl, sym, ◌∙◌}
-use mathlib.Core.List.{List, [], ◌∷◌}
-use native.Mathlib.Omega.{arith}
-use native.Mathlib.Numerals.{add-one}
-use lib.ListN.{length, get_or, drop, drop_of_length-le, length-drop}
-use lib.Seq.{drop-cons}
-use Rattle.strings.specs.Strings.{mixed, hash_from}
+use Prim.Native.Nat.{◌-◌, ◌≤◌}
+use mathlib.Core.Path.{◌≡◌}
+use lib.ListN.{length, drop}
+use Rattle.strings.specs.Strings.{hash_from}
 use Rattle.strings.proofs.hash_rest.Given as goal
 
 abbrev pub invariant-loop-i : goal.invariant-loop-i

@@ -1,12 +1,8 @@
 -- The loop's invariant: the lists are the same exactly where what is left of them is.
-use Prim.Native.Nat.{ℕ, ◌-◌, ◌≤◌}
-use mathlib.Core.Path.{◌≡◌, refl, sym, ◌∙◌}
-use mathlib.Core.List.{List}
-use mathlib.Core.Bool.{Bool}
-use native.Mathlib.Omega.{arith}
-use lib.ListN.{length, take, drop, length-drop}
+use Prim.Native.Nat.{◌-◌, ◌≤◌}
+use mathlib.Core.Path.{◌≡◌}
+use lib.ListN.{length, drop}
 use Rattle.tables.specs.Table.{same_words}
-use Rattle.strings.proofs.Fours.{rest-is, fours_same, fours_differ}
 use Rattle.strings.proofs.same.Given as goal
 
 abbrev pub invariant-loop-i : goal.invariant-loop-i

@@ -1,8 +1,6 @@
 -- `open` meets its contract: what `parse` refuses, and then the test of the starts.
-use mathlib.Core.Path.{◌≡◌, ap, sym, ◌∙◌}
-use Rattle.symcache.specs.declared.SymCache.{SymCache}
-use Rattle.symcache.specs.Answers.{gives, parse_answer}
-use Rattle.symcache.specs.Reader.{parsed}
+use mathlib.Core.Path.{ap, sym, ◌∙◌}
+use Rattle.symcache.specs.Answers.{parse_answer}
 use Rattle.symcache.proofs.ReaderLaws.{read-ordered, opened-accepted, opened-unordered, opened-refused}
 use Rattle.symcache.proofs.open.Goals as goal
 

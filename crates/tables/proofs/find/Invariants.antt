@@ -1,9 +1,5 @@
-use borrow.Author.Tests.{leb-true, leb-false}
-use Prim.Native.Nat.{ℕ, ◌-◌, ◌<◌, ◌≤◌}
-use mathlib.Core.Path.{◌≡◌, refl, sym, ◌∙◌}
-use native.Mathlib.Omega.{arith}
+use mathlib.Core.Path.{◌≡◌}
 use Rattle.tables.specs.Table.{walk, link_at, hit_at}
-use Rattle.tables.proofs.Walk.{walk_none, walk-high, walk-found, walk-next}
 use Rattle.tables.proofs.find.Given as goal
 
 abbrev pub invariant-loop-at : goal.invariant-loop-at

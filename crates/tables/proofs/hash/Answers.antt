@@ -1,9 +1,6 @@
 -- `hash` meets its contract: no product and no sum passes 64 bits, and the last sum none of 32.
 use mathlib.Core.Path.{refl}
-use native.Mathlib.Omega.{arith}
 use Rattle.tables.specs.Table.{hash_of}
-use Rattle.tables.proofs.hash.Reads as reads
-use Rattle.tables.proofs.hash.Lts as lts
 use Rattle.tables.proofs.hash.Goals as goal
 
 pub returns : goal.returns

@@ -1,5 +1,4 @@
 -- `clamped` meets its contract: two words.
-use native.Mathlib.Omega.{arith}
 use Rattle.c_words.proofs.RecordLaws.{clamped_read}
 use Rattle.c_words.proofs.record.clamped.Goals as goal
 

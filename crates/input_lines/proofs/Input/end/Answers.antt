@@ -1,5 +1,5 @@
 -- By the test of an empty line.
-use Rattle.std.proofs.Common.{sym, ◌∙◌, rules}
+use Rattle.std.proofs.Common.{sym, ◌∙◌}
 use Rattle.input_lines.specs.Input.{at_end}
 use Rattle.input_lines.proofs.Input.end.Goals as goal
 

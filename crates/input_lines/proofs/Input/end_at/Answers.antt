@@ -1,4 +1,3 @@
-use Rattle.std.proofs.Common.{rules}
 use Rattle.input_lines.specs.Input.{line_at_lem}
 use Rattle.input_lines.proofs.Input.end_at.Goals as goal
 

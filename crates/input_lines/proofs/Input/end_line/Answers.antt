@@ -1,4 +1,3 @@
-use Rattle.std.proofs.Common.{rules}
 use Rattle.input_lines.specs.Input.{whole_line}
 use Rattle.input_lines.proofs.Input.end_line.Goals as goal
 

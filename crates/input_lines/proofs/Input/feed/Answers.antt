@@ -1,4 +1,3 @@
-use Rattle.std.proofs.Common.{rules}
 use Rattle.input_lines.specs.Input.{fed}
 use Rattle.input_lines.proofs.Input.feed.Goals as goal
 

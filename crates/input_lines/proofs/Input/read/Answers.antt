@@ -1,5 +1,4 @@
-use Rattle.std.proofs.Common.{◌≡◌, ◌-◌, length, drop, refl, ◌∙◌, arith, rules}
-use Rattle.input_lines.specs.Input.{read_on}
+use Rattle.std.proofs.Common.{◌∙◌}
 use Rattle.input_lines.proofs.Pieces.{at-line, in_line, at_piece_end}
 use Rattle.input_lines.proofs.Input.read.Goals as goal
 

@@ -1,7 +1,6 @@
 -- The invariant: reading on from here is reading on from the start.
-use Rattle.std.proofs.Common.{◌≡◌, ◌-◌, length, drop, refl, ◌∙◌, arith, rules}
+use Rattle.std.proofs.Common.{◌≡◌, ◌-◌, length, drop}
 use Rattle.input_lines.specs.Input.{read_on}
-use Rattle.input_lines.proofs.Pieces.{at-line, in_line, at_piece_end}
 use Rattle.input_lines.proofs.Input.read.Given as goal
 
 abbrev pub invariant-loop-next : goal.invariant-loop-next

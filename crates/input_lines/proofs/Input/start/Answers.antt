@@ -1,4 +1,3 @@
-use Rattle.std.proofs.Common.{rules}
 use Rattle.input_lines.specs.Input.{input_start}
 use Rattle.input_lines.proofs.Input.start.Goals as goal
 

@@ -1,5 +1,5 @@
 -- The three fields, each as `feed_of` gives it; a line that is bad stays so.
-use Rattle.std.proofs.Common.{◌≡◌, ℕ, ◌+◌, ◌*◌, ◌%◌, Bool, true, false, cond, ltb, leb, rules}
+use Rattle.std.proofs.Common.{◌≡◌, ℕ, ◌+◌, ◌*◌, ◌%◌, Bool, true, false, cond, ltb, leb}
 use Rattle.input_lines.specs.declared.LineState.{LineState}
 use Rattle.input_lines.specs.Line.{digit_of, feed_of}
 use Rattle.input_lines.proofs.LineState.feed.Goals as goal

@@ -1,8 +1,4 @@
-use Prim.Native.Nat.{◌-◌}
-use mathlib.Core.Path.{◌≡◌, refl, sym, ◌∙◌}
-use native.Mathlib.Omega.{arith}
-use lib.ListN.{length}
-use Rattle.journal.specs.Undo.{undone_ranges}
+use mathlib.Core.Path.{refl, sym, ◌∙◌}
 use Rattle.journal.proofs.Undone.{ranges-done, ranges-turn}
 use borrow.Author.Rules.{rules}
 use Rattle.journal.proofs.ranges.undo_ranges.Goals as goal

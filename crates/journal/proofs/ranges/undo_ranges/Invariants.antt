@@ -1,9 +1,6 @@
-use Prim.Native.Nat.{◌-◌}
-use mathlib.Core.Path.{◌≡◌, refl, sym, ◌∙◌}
-use native.Mathlib.Omega.{arith}
+use mathlib.Core.Path.{◌≡◌}
 use lib.ListN.{length}
 use Rattle.journal.specs.Undo.{undone_ranges}
-use Rattle.journal.proofs.Undone.{ranges-done, ranges-turn}
 use Rattle.journal.proofs.ranges.undo_ranges.Given as goal
 
 abbrev pub invariant-loop-m : goal.invariant-loop-m

@@ -3,7 +3,7 @@ use mathlib.Core.Path.{◌≡◌, refl, sym, ◌∙◌}
 use mathlib.Core.List.{List}
 use native.Mathlib.Omega.{arith}
 use native.Mathlib.Numerals.{add-one}
-use lib.ListN.{length, set}
+use lib.ListN.{set}
 use Rattle.journal.specs.Undo.{cut_to}
 use borrow.Author.Rules.{rules}
 use Rattle.journal.proofs.undo.cut.Goals as goal

@@ -1,8 +1,4 @@
-use Prim.Native.Nat.{◌-◌}
-use mathlib.Core.Path.{◌≡◌, refl, sym, ◌∙◌}
-use native.Mathlib.Omega.{arith}
-use lib.ListN.{length}
-use Rattle.journal.specs.Undo.{undone_to}
+use mathlib.Core.Path.{refl, sym, ◌∙◌}
 use Rattle.journal.proofs.Undone.{undo_done, undo_turn}
 use borrow.Author.Rules.{rules}
 use Rattle.journal.proofs.undo.undo_rows.Goals as goal

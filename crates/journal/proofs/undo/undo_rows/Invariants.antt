@@ -1,9 +1,6 @@
-use Prim.Native.Nat.{◌-◌}
-use mathlib.Core.Path.{◌≡◌, refl, sym, ◌∙◌}
-use native.Mathlib.Omega.{arith}
+use mathlib.Core.Path.{◌≡◌}
 use lib.ListN.{length}
 use Rattle.journal.specs.Undo.{undone_to}
-use Rattle.journal.proofs.Undone.{undo_done, undo_turn}
 use Rattle.journal.proofs.undo.undo_rows.Given as goal
 
 abbrev pub invariant-loop-n : goal.invariant-loop-n

@@ -1,8 +1,5 @@
-use Prim.Native.Nat.{◌+◌}
-use mathlib.Core.Path.{◌≡◌, refl}
+use mathlib.Core.Path.{refl}
 use native.Mathlib.Omega.{arith}
-use lib.ListN.{length}
-use Rattle.text.specs.Leb128.{encoded}
 use Rattle.text.proofs.Leb128Laws.{length_last, length_more, encoded_ten}
 use borrow.Author.Rules.{rules}
 use Rattle.text.proofs.leb128.leb128_len.Goals as goal

@@ -1,9 +1,6 @@
-use Prim.Native.Nat.{◌+◌, ◌≤◌}
-use mathlib.Core.Path.{◌≡◌, refl, ◌∙◌}
+use mathlib.Core.Path.{refl, ◌∙◌}
 use native.Mathlib.Omega.{arith}
-use lib.ListN.{length, length-set}
-use lib.Seq.{sets}
-use Rattle.text.specs.Leb128.{encoded}
+use lib.ListN.{length-set}
 use Rattle.text.proofs.Leb128Laws.{put_last, put-more, length_last, length_more}
 use Rattle.text.proofs.leb128.put_leb128.Goals as goal
 

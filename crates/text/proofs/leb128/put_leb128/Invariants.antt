@@ -1,11 +1,9 @@
 -- `put_leb128` meets its contract. The invariant: what is left, stored from i on, gives what v stored from at on gives. Assumes nothing.
 use Prim.Native.Nat.{◌+◌, ◌≤◌}
-use mathlib.Core.Path.{◌≡◌, refl, ◌∙◌}
-use native.Mathlib.Omega.{arith}
-use lib.ListN.{length, length-set}
+use mathlib.Core.Path.{◌≡◌}
+use lib.ListN.{length}
 use lib.Seq.{sets}
 use Rattle.text.specs.Leb128.{encoded}
-use Rattle.text.proofs.Leb128Laws.{put_last, put-more, length_last, length_more}
 use Rattle.text.proofs.leb128.put_leb128.Given as goal
 
 abbrev pub invariant-loop-rest : goal.invariant-loop-rest

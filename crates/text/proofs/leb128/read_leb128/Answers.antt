@@ -1,6 +1,6 @@
 use Prim.Native.Nat.{◌+◌, ◌-◌}
 use native.Mathlib.Omega.{arith}
-use Rattle.text.proofs.Leb128Reading.{Read, read_first, read-cut, read_fits, read-last, read_more, tenth_fits, tenth_last, tenth_wide}
+use Rattle.text.proofs.Leb128Reading.{read_first, read-cut, read_fits, read-last, read_more, tenth_fits, tenth_last, tenth_wide}
 use Rattle.text.proofs.Leb128Laws.{decoded-past}
 use Rattle.text.proofs.leb128.read_leb128.Goals as goal
 

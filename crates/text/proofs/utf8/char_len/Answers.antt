@@ -1,6 +1,6 @@
 -- `char_len` meets its contract: an alternative that doesn't fit is passed over, and the first that does gives the length.
 use Prim.Native.Nat.{ℕ, ◌-◌}
-use mathlib.Core.Path.{◌≡◌, ◌∙◌}
+use mathlib.Core.Path.{◌∙◌}
 use mathlib.Core.List.{List, []}
 use lib.ListN.{get_or, drop}
 use Rattle.text.specs.Utf8.{Range, Utf8Char, char_len}

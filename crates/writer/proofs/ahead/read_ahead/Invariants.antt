@@ -1,7 +1,6 @@
 -- `read_ahead` ends, and keeps the length of scratch memory; nothing is said of what it leaves there.
 use Prim.Native.Nat.{◌-◌, ◌≤◌}
-use mathlib.Core.Path.{◌≡◌, refl}
-use native.Mathlib.Omega.{arith}
+use mathlib.Core.Path.{◌≡◌}
 use lib.ListN.{length}
 use Rattle.writer.proofs.ahead.read_ahead.Given as goal
 

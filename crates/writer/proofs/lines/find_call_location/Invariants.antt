@@ -1,10 +1,8 @@
 -- `find_call_location` meets its contract: from where the loop stands the cursor gets to where it got from the start.
-use Prim.Native.Nat.{ℕ, ◌+◌, ◌*◌, ◌-◌, ◌≤◌}
-use mathlib.Core.Path.{◌≡◌, refl, sym, ap, ◌∙◌}
-use native.Mathlib.Omega.{arith}
+use Prim.Native.Nat.{◌+◌, ◌*◌, ◌-◌, ◌≤◌}
+use mathlib.Core.Path.{◌≡◌}
 use Rattle.model.specs.Machine.{advance_m}
 use Rattle.scratch.specs.Scratch.{refs_at}
-use Rattle.scratch.proofs.Lines.{cursor-end, cursor-stays, cursor-moves}
 use Rattle.writer.proofs.lines.find_call_location.Given as goal
 
 abbrev pub invariant-loop-next_call_location : goal.invariant-loop-next_call_location

@@ -1,18 +1,15 @@
-use Prim.Native.Nat.{ℕ, ◌+◌, ◌*◌, ◌-◌, ◌<◌}
-use mathlib.Core.Path.{◌≡◌, refl, ◌∙◌}
+use mathlib.Core.Path.{refl, ◌∙◌}
 use mathlib.Core.Bool.{true}
-use mathlib.Core.List.{List, []}
+use mathlib.Core.List.{[]}
 use native.Mathlib.Omega.{arith}
-use lib.ListN.{length}
-use Rattle.model.specs.Converter.{Setup, input}
-use Rattle.rows.specs.Columns.{Columns, columns}
-use Rattle.memory.specs.Memory.{Words, words}
+use Rattle.model.specs.Converter.{input}
+use Rattle.rows.specs.Columns.{columns}
+use Rattle.memory.specs.Memory.{words}
 use Rattle.steps.specs.Steps.{over_words}
-use Rattle.steps.proofs.RowTexts.{dir_part}
-use Rattle.scratch.proofs.Walks.{Inner, Stopped, begins, line-ends, no_range_left, range_after, range_taken, falls_more}
+use Rattle.scratch.proofs.Walks.{begins, line-ends, no_range_left, range_after, range_taken, falls_more}
 use Rattle.scratch.proofs.Lines.{keeps_start, keeps_skipped, keeps_done}
 use Rattle.steps.specs.Symbols.{switches}
-use Rattle.writer.proofs.LineLaws.{Fixed, fixed, Kept, Goes, goes-start, line-passed, line-walked, lines-ended, dir_of, left_of}
+use Rattle.writer.proofs.LineLaws.{fixed, goes-start, line-passed, line-walked, lines-ended, dir_of, left_of}
 use Rattle.writer.proofs.lines.process_lines.Goals as goal
 
 pub loop-next_line-init : goal.loop-next_line-init

@@ -1,20 +1,16 @@
 -- `process_lines` meets its contract. Inner loop: the walk still to come is what was to come (`Inner`); outer loop: the lines still to come are what were to come (`Goes`).
 -- Each holds for both switches and for any table of functions, which the lines do not touch. Each way out of the inner loop goes on to the next line by itself.
-use Prim.Native.Nat.{ℕ, ◌+◌, ◌*◌, ◌-◌, ◌<◌}
-use mathlib.Core.Path.{◌≡◌, refl, ◌∙◌}
-use mathlib.Core.Bool.{true}
-use mathlib.Core.List.{List, []}
-use native.Mathlib.Omega.{arith}
+use Prim.Native.Nat.{ℕ, ◌-◌}
+use mathlib.Core.Path.{◌≡◌}
+use mathlib.Core.List.{List}
 use lib.ListN.{length}
 use Rattle.model.specs.Converter.{Setup, input}
-use Rattle.rows.specs.Columns.{Columns, columns}
-use Rattle.memory.specs.Memory.{Words, words}
+use Rattle.rows.specs.Columns.{columns}
+use Rattle.memory.specs.Memory.{words}
 use Rattle.steps.specs.Steps.{over_words}
 use Rattle.steps.proofs.RowTexts.{dir_part}
-use Rattle.scratch.proofs.Walks.{Inner, Stopped, begins, line-ends, no_range_left, range_after, range_taken, falls_more}
-use Rattle.scratch.proofs.Lines.{keeps_start, keeps_skipped, keeps_done}
-use Rattle.steps.specs.Symbols.{switches}
-use Rattle.writer.proofs.LineLaws.{Fixed, fixed, Kept, Goes, goes-start, line-passed, line-walked, lines-ended, dir_of, left_of}
+use Rattle.scratch.proofs.Walks.{Inner}
+use Rattle.writer.proofs.LineLaws.{fixed, Kept, Goes}
 use Rattle.writer.proofs.lines.process_lines.Given as goal
 
 abbrev pub invariant-loop-current_address : goal.invariant-loop-current_address

@@ -1,10 +1,7 @@
-use Prim.Native.Nat.{◌+◌, ◌-◌, ◌/◌, ◌≤◌}
-use mathlib.Core.Logic.{⊎_elim}
 use mathlib.Core.List.{[]}
 use native.Mathlib.Omega.{arith}
-use lib.ListN.{length}
-use Rattle.rows.specs.Columns.{Columns, columns}
-use Rattle.writer.proofs.ScratchLaws.{Gathers, gathers_begin, gathers_stop, gathers_end, gathers_pass, gathers_push, gathers_room, lines_fit}
+use Rattle.rows.specs.Columns.{columns}
+use Rattle.writer.proofs.ScratchLaws.{gathers_begin, gathers_stop, gathers_end, gathers_pass, gathers_push, gathers_room, lines_fit}
 use Rattle.writer.proofs.stack.gather.Goals as goal
 use Rattle.writer.proofs.stack.gather.Goals.{then-d-depth-2, else-d-depth-2}
 

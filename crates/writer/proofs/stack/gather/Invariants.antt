@@ -1,11 +1,9 @@
 -- `gather` meets its contract: what the rows to come still store leaves what all of them leave.
-use Prim.Native.Nat.{◌+◌, ◌-◌, ◌/◌, ◌≤◌}
-use mathlib.Core.Logic.{⊎_elim}
+use Prim.Native.Nat.{◌-◌, ◌/◌}
 use mathlib.Core.List.{[]}
-use native.Mathlib.Omega.{arith}
 use lib.ListN.{length}
-use Rattle.rows.specs.Columns.{Columns, columns}
-use Rattle.writer.proofs.ScratchLaws.{Gathers, gathers_begin, gathers_stop, gathers_end, gathers_pass, gathers_push, gathers_room, lines_fit}
+use Rattle.rows.specs.Columns.{columns}
+use Rattle.writer.proofs.ScratchLaws.{Gathers}
 use Rattle.writer.proofs.stack.gather.Given as goal
 
 abbrev pub invariant-loop-r : goal.invariant-loop-r

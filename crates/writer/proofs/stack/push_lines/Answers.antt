@@ -1,10 +1,7 @@
-use Prim.Native.Nat.{ℕ, ◌-◌, ◌≤◌}
-use mathlib.Core.Path.{◌≡◌, refl, ◌∙◌}
-use mathlib.Core.List.{List}
+use mathlib.Core.Path.{refl, ◌∙◌}
 use native.Mathlib.Omega.{arith}
-use lib.ListN.{length}
 use Rattle.rows.specs.Columns.{columns}
-use Rattle.scratch.proofs.Gathered.{Pushed, pushed_none, pushed_all}
+use Rattle.scratch.proofs.Gathered.{pushed_none, pushed_all}
 use Rattle.writer.proofs.ScratchLaws.{line_pushed}
 use Rattle.writer.proofs.stack.push_lines.Goals as goal
 

@@ -1,12 +1,10 @@
 -- `push_lines` meets its contract: what is still to be stored leaves what all lines leave.
 use Prim.Native.Nat.{ℕ, ◌-◌, ◌≤◌}
-use mathlib.Core.Path.{◌≡◌, refl, ◌∙◌}
+use mathlib.Core.Path.{◌≡◌}
 use mathlib.Core.List.{List}
-use native.Mathlib.Omega.{arith}
 use lib.ListN.{length}
 use Rattle.rows.specs.Columns.{columns}
-use Rattle.scratch.proofs.Gathered.{Pushed, pushed_none, pushed_all}
-use Rattle.writer.proofs.ScratchLaws.{line_pushed}
+use Rattle.scratch.proofs.Gathered.{Pushed}
 use Rattle.writer.proofs.stack.push_lines.Given as goal
 
 abbrev pub invariant-loop-i : goal.invariant-loop-i

@@ -1,8 +1,5 @@
 -- `own_calls` meets its contract: depth 0 has its one value, any other depth its pairs.
-use mathlib.Core.Path.{◌≡◌}
-use Prim.Native.Nat.{◌+◌}
 use native.Mathlib.Omega.{arith}
-use Rattle.scratch.specs.Scratch.{top_of}
 use Rattle.writer.proofs.TreeLaws.{own_root, own-top, own-none, own-some}
 use Rattle.writer.proofs.tree.own_calls.Goals as goal
 

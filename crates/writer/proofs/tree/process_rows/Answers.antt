@@ -1,15 +1,14 @@
-use Prim.Native.Nat.{ℕ, ◌+◌, ◌-◌, ◌/◌, ◌≤◌}
+use Prim.Native.Nat.{ℕ}
 use mathlib.Core.Path.{◌≡◌, refl, ◌∙◌}
-use mathlib.Core.Bool.{Bool, true}
-use mathlib.Core.List.{List}
+use mathlib.Core.Bool.{true}
 use native.Mathlib.Omega.{arith}
 use lib.ListN.{length}
 use Rattle.rows.specs.Columns.{Columns, columns}
 use Rattle.refusals.specs.Refusals.{tree_refusal}
-use Rattle.refusals.proofs.Accepted.{Accepted, accepted}
-use Rattle.memory.specs.Memory.{Words, words}
+use Rattle.refusals.proofs.Accepted.{accepted}
+use Rattle.memory.specs.Memory.{words}
 use Rattle.steps.specs.Steps.{over_words}
-use Rattle.scratch.proofs.Tree.{Rowing, starts, ends}
+use Rattle.scratch.proofs.Tree.{starts, ends}
 use Rattle.steps.specs.Symbols.{switches}
 use Rattle.writer.proofs.TreeLaws.{row-ready, first-low, row-after}
 use Rattle.writer.proofs.tree.process_rows.Goals as goal

@@ -1,19 +1,14 @@
 -- `process_rows` meets its contract: reading ahead leaves in scratch what nothing looks at, and the rows still to come leave what all rows leave (`Rowing`),
 -- for either switch of the symbols.
-use Prim.Native.Nat.{ℕ, ◌+◌, ◌-◌, ◌/◌, ◌≤◌}
-use mathlib.Core.Path.{◌≡◌, refl, ◌∙◌}
-use mathlib.Core.Bool.{Bool, true}
-use mathlib.Core.List.{List}
-use native.Mathlib.Omega.{arith}
+use Prim.Native.Nat.{◌-◌}
+use mathlib.Core.Path.{◌≡◌}
+use mathlib.Core.Bool.{Bool}
 use lib.ListN.{length}
-use Rattle.rows.specs.Columns.{Columns, columns}
-use Rattle.refusals.specs.Refusals.{tree_refusal}
-use Rattle.refusals.proofs.Accepted.{Accepted, accepted}
-use Rattle.memory.specs.Memory.{Words, words}
+use Rattle.rows.specs.Columns.{columns}
+use Rattle.memory.specs.Memory.{words}
 use Rattle.steps.specs.Steps.{over_words}
-use Rattle.scratch.proofs.Tree.{Rowing, starts, ends}
+use Rattle.scratch.proofs.Tree.{Rowing}
 use Rattle.steps.specs.Symbols.{switches}
-use Rattle.writer.proofs.TreeLaws.{row-ready, first-low, row-after}
 use Rattle.writer.proofs.tree.process_rows.Given as goal
 
 abbrev pub invariant-loop-i : goal.invariant-loop-i

@@ -1,11 +1,11 @@
 -- `visit_row` meets its contract: `row_walked`, from what its five calls ensure.
 use mathlib.Core.Path.{◌≡◌, sym, ap, subst, ◌∙◌}
-use Prim.Native.Nat.{◌+◌, ◌/◌, ◌≤◌}
+use Prim.Native.Nat.{◌≤◌}
 use native.Mathlib.Omega.{arith}
 use lib.ListN.{length}
 use Rattle.model.specs.Rows.{MAX}
 use Rattle.rows.specs.declared.FunctionRow.{FunctionRow as FunctionStruct}
-use Rattle.rows.specs.Columns.{Columns, columns, tree_row}
+use Rattle.rows.specs.Columns.{columns, tree_row}
 use Rattle.rows.proofs.RowLaws.{tree_row-address, tree_row-size, tree_row-inline}
 use Rattle.memory.specs.Memory.{words}
 use Rattle.steps.proofs.RowTexts.{address_below}
