@@ -31,3 +31,6 @@ unfolding begin_call
 begin_law r id arch f s m {i = i} {a = a} {b = b} h ei ea eb e er =
     rw (le-ltb (length r) 20 h)
     (rw er (ap (λ (p : Converter × Memory). call_left 0 (stored (words_of p.0) r) p.1 []) (e ∙ rw (ei, ea, eb))))
+
+-- by the length of the record
+pub ruleset begin_cases = (begin-closed)

@@ -20,6 +20,7 @@ fn debug_id_of(bytes: &[u8]) -> [u8; 32]
 }
 
 // A new converter. 0, or 19 where the record has fewer than twenty words.
+#[tactic(auto, using(crate::proofs::BeginLaws::begin_cases))]
 pub fn begin(
     record: &mut [u32],
     debug_id: &[u8],

@@ -157,6 +157,7 @@ pub fn store(record: &mut [u32], c: Converter)
 }
 
 // Accepted calls and 17 store it; no other refusal does.
+#[tactic(auto, unfolding(crate::specs::Record::kept))]
 pub fn store_answer(record: &mut [u32], code: u32, c: Converter)
     ensures { «record».new ≡ kept code c «record».old }
 {

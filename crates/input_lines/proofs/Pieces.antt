@@ -24,6 +24,9 @@ module _ (s : Input) (bytes : List ℕ) (i : ℕ) where
   unfolding read_on
   at_piece_end h = rw (drop_of_length-le bytes h)
 
+-- what a turn of `read` needs
+pub ruleset read_cases = (at-line, in_line, at_piece_end)
+
 -- ── However an input is cut ──
 
 -- what is read, before what comes after it

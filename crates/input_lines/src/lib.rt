@@ -84,6 +84,7 @@ impl LineState {
     }
 
     // What the line says, now that it is whole.
+    #[tactic(auto, unfolding(crate::specs::Line::finish_of))]
     fn finish(self) -> LineRead
         ensures { result ≡ finish_of self }
     {
@@ -195,6 +196,7 @@ impl Input {
     }
 
     // Reads on in a piece of the input from `from` on, up to the end of a line or of the piece.
+    #[tactic(auto, using(crate::proofs::Pieces::read_cases))]
     pub fn read(self, bytes: &[u8], from: usize) -> ReadOn
         ensures { result ≡ read_on self from (drop from bytes.now) }
     {

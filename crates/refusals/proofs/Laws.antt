@@ -129,6 +129,9 @@ module _ (t : List ℕ) (o : OptionalPart) where
   unfolding optional?
   optional-absent e = rw e
 
+-- by the flag
+pub ruleset optional_cases = (optional-present, optional-absent)
+
 -- ── 13 to 16 and 25 ──
 
 module _ (n : ℕ) where

@@ -157,6 +157,7 @@ fn readable(text: &[u8], p: TextPart) -> bool
 }
 
 // 14: an absent text is not looked at. A symbol's name is tested by this too.
+#[tactic(auto, using(crate::proofs::Laws::optional_cases))]
 pub fn optional(text: &[u8], o: OptionalPart) -> bool
     ensures { result ≡ optional? text.now o }
 {

@@ -67,3 +67,6 @@ module _ (X : Setup) (text : List ℕ) (a z : ℕ) (o : OptionalPart) (s : Words
   pub symbol-unnamed : o.present ≡ false → s ≡ convert_symbol_m input (over_words X) (symbol_row_lem text a z o) s
   unfolding convert_symbol_m
   symbol-unnamed h = rw h
+
+-- by the size, and by whether the end is representable
+pub ruleset symbol_end_cases = (end-placed, end-above, end_large, end-absent)

@@ -41,6 +41,7 @@ fn insert_symbol(
 }
 
 // The empty mapping at a symbol's end, if it has a size and the end is representable.
+#[tactic(auto, using(crate::proofs::SymbolLaws::symbol_end_cases))]
 fn insert_symbol_end(state: State, ranges: &mut [u32], address: u32, size: u64) -> State
     ensures { (X : Setup) (t : Text) (x i f g c : List ℕ) →
         let before = words state x i f g c ranges.old in
