@@ -69,6 +69,10 @@ module _ (X : Setup) where
   pub tables-same : (gs : List Given) → (referred X gs).tables ≡ converted X gs
   tables-same gs = run-same (map op gs) reference_begun
 
+-- a is a start of the tables
+abbrev pub Held : Tables → ℕ → Type 0
+Held = IsStart
+
 module _ (X : Setup) where
   -- after the branch at writing the last end is a start, whatever the tables were
   pub sentinel_held : (s : Reference) (a : ℕ) → s.last ≡ some a → IsStart (with_sentinel X s) a

@@ -17,7 +17,7 @@ use Rattle.model.proofs.Ideal.{Op, Map, empty, run, Well, covering}
 use Rattle.model.proofs.Maps.{Sees}
 use Rattle.model.proofs.Spans.{∈-cases, ∈-left, ∈-right, ∈-append, ∈-map, map-∈, asc-from}
 use Rattle.model.proofs.Means.{SoundOp, op_of_lem, deep_of}
-use Rattle.model.proofs.Simulate.{machine_good, machine_holds, machine_sees, machine_demand, machine_plain}
+use Rattle.model.proofs.Simulate.{machine_good, machine_holds, machine_sees, machine_stack, machine_plain}
 use Rattle.model.proofs.Chains.{frames-found, best-is}
 use Rattle.model.proofs.Keeps.{Any, Ordered, ordered-nothing, means, relates, plain_laws}
 use Rattle.model.proofs.Derive.{stack-nested, sound-op, well-op, all-clear, first-deep, found-is, covers_is, root_line}
@@ -72,7 +72,7 @@ module _ (X : Setup) (gs : List Given) (well : (g : Given) → g ∈ gs → Well
         let w = well (tree_rows q rs) i in
         let cov : Covers (boundaries n) x = subst (λ (s : Span). Covers s x) (sym (covers_is X q w.rows.0 n j)) c in
         let clear = all-clear X gs well separate in
-        let sees = machine_demand input (plain X) (means X) (relates X) (plain_laws X) (map op gs) nothing (ordered-nothing Any) vacant (sounds X gs well) wells clear q (map deep rs) (∈-map op i) n j x cov in
+        let sees = machine_stack input (plain X) (means X) (relates X) (plain_laws X) (map op gs) nothing (ordered-nothing Any) vacant (sounds X gs well) wells clear q (map deep rs) (∈-map op i) n j x cov in
         let p = machine_plain input (plain X) (means X) (relates X) (plain_laws X) (map op gs) nothing (ordered-nothing Any) vacant (sounds X gs well) wells clear q (map deep rs) (∈-map op i) n j x cov in
         let found-eq : covering x (map (deep_of input (means X)) (record { depth = 0; item = q } ∷ map deep rs)) ≡ nested_at X x (q ∷ rs) =
         ap (λ (t : List (Deep FunctionRow)). covering x (map (deep_of input (means X)) t)) (first-deep X q rs w) ∙ found-is X x (q ∷ rs) w.rows in (

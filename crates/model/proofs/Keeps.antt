@@ -163,6 +163,9 @@ module _ (Fine : List Frame → Type 0) where
     abbrev pub bare-frame : FunctionRow → Frame
     bare-frame q = record { name = known (function_name X q); entry = entry_of q; language = q.language; number = 0; file = none }
 
+    abbrev pub symbol-frame : SymbolRow → Frame
+    symbol-frame = wanted_symbol X
+
     module _ (q : FunctionRow) (r : ℕ) (n : LineRow) (c : Option ℕ) (s : Tables) where
       pub locate-larger : Larger s (locate_line q r n c s).1
       unfolding locate_line

@@ -12,8 +12,8 @@ use borrow.Author.Tests.{le-leb, lt-leb}
 use Rattle.slices.proofs.Cases.{lt-or_ge, eq-or-ne}
 use Rattle.model.specs.Basics.{◌∈◌, here, there, Span, items, depths, upto, Covers, Deep, sort}
 use Rattle.model.specs.Machine.{Input, Machine, OpM, tree_m, symbol_m, Ref, WalkedM, LoopedM, CursorM, advance_m, set_at_m, kid_spans_m, unless_held, put_end, walk_m, loop_m, entry_m, closing_m, row_m, convert_m, start_m, named_symbol_m, convert_symbol_m, convert_op_m, run_m}
-use Rattle.model.proofs.Ideal.{Row, Map, insert, insert_soft, insert-end, Call, Walked, Looped, Cursor, walk, advance, loop, nil, row, empty, spans_of, convert-symbol, convert-op, run, preorder, covering, stack_at, Well, AllClear}
-use Rattle.model.proofs.Maps.{insert-same, insert-other, Sees}
+use Rattle.model.proofs.Ideal.{Row, Map, insert, insert_soft, insert-end, Call, Walked, Looped, Cursor, walk, advance, loop, look, nil, row, empty, spans_of, convert-symbol, convert-op, run, preorder, covering, stack_at, Well, AllClear}
+use Rattle.model.proofs.Maps.{insert-same, insert-other, Sees, look_down, sees_look}
 use Rattle.model.proofs.Spans.{∈-elim, ∈-map, map-∈}
 use Rattle.model.proofs.Stacks.{plain-tree}
 use Rattle.model.proofs.Theorem.{run_sees}
@@ -377,6 +377,12 @@ module _ {Q N Y R P L C S F : Type 0} (I : Input Q N Y) (M : Machine Q N Y R P L
   match_some s l none none e neither = let z : ◌≡◌ {A = ℕ} 0 1 = cc in absurd (omega arith)
   match_some s l (some k) (some v) e (both h) = (v, refl, subst (λ (t : L). K.Loc s t v) (cc) h)
 
+  match_none : (s : S) (o : Option L) (p : Option (List F)) → o ≡ none → Match s o p → p ≡ none
+  match_none s none none e neither = refl
+  match_none s none (some _) e x = elim x [ ]
+  match_none s (some k) none e x = elim x [ ]
+  match_none s (some k) (some v) e (both h) = cc
+
   match_here : (s : S) (v : List F) (o : Option L) (p : Option (List F)) → p ≡ some v → Match s o p → (l : L) × (o ≡ some l)
   match_here s v none (some _) e x = elim x [ ]
   match_here s v (some k) none e x = elim x [ ]
@@ -427,10 +433,21 @@ module _ {Q N Y R P L C S F : Type 0} (I : Input Q N Y) (M : Machine Q N Y R P L
         stack = stack_at (row (row_of_lem I T q) (kids_of I T rs) nil) x
 
         -- the map sees the tree's stack
-        pub machine_demand : Sees mapped (I.span n).from x stack
-        machine_demand =
+        pub machine_stack : Sees mapped (I.span n).from x stack
+        machine_stack =
             run_sees (row_of_lem I T q) (kids_of I T rs) (line_of_lem I T q n) (∈-map (line_of_lem I T q) j) x cov (map (op_of_lem I T) os) empty
             (λ o k. let (p, y, e) = map-∈ (op_of_lem I T) os k in subst Well (sym e) (well p y)) clear (∈-map (op_of_lem I T) i) (λ k g y. refl)
+
+        -- so the location at the greatest start that is at most x stands for that stack
+        pub machine_demand : (key : ℕ) (l : L) → key ≤ x → M.get s key ≡ some l → ((k : ℕ) → key < k → k ≤ x → M.get s k ≡ none) → K.Loc s l stack
+        machine_demand key l h e b =
+            let (v, z, loc) = machine_holds key l e in
+            let seen : look mapped x ≡ v = look_down mapped key v z x h (λ k g y. match_none s (M.get s k) (mapped k) (b k g y) (done.keys k)) in
+            subst (K.Loc s l) (sym seen ∙ sees_look machine_stack) loc
+
+        -- and there is one
+        pub machine_finds : (key : ℕ) × (l : L) × (key ≤ x) × (M.get s key ≡ some l) × ((k : ℕ) → key < k → k ≤ x → M.get s k ≡ none)
+        machine_finds = let (key, l, h, e, b, loc) = machine_sees (I.span n).from x stack machine_stack in (key, l, h, e, b)
 
         -- the stack, said plainly of the rows as they came
         abbrev pub found : List (Deep F)
