@@ -119,6 +119,12 @@ impl Tables<'_> {
         }
     }
 
+    pub fn lengths(&self) -> Lengths
+        ensures { result ≡ lent (memory_of self.now) }
+    {
+        self.lent().lengths()
+    }
+
     // All lent memory becomes zero.
     pub fn zero(&mut self)
         ensures same { SameTables self.old self.new }
