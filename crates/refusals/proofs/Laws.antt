@@ -28,12 +28,12 @@ joined-then e f h g = rw (← e, h) (g ∙ f)
 pub joined-else : {x v a : Bool} (y : Bool) → a ≡ x → a ≡ false → v ≡ a → v ≡ (x && y)
 joined-else y e h g = rw (← e, h) (g ∙ h)
 
+pub and-and : (a b c : Bool) → (a && b) && c ≡ a && (b && c)
+and-and true b c = refl
+and-and false b c = refl
+
 pub and_five : (a b c d e : Bool) → (((a && b) && c) && d) && e ≡ a && (b && (c && (d && e)))
-and_five true true true true e = refl
-and_five true true true false e = refl
-and_five true true false d e = refl
-and_five true false c d e = refl
-and_five false b c d e = refl
+and_five a b c d e = and-and ((a && b) && c) d e ∙ (and-and (a && b) c (d && e) ∙ and-and a b (c && (d && e)))
 
 -- ── Loops over rows ──
 
@@ -72,10 +72,6 @@ total-more f i e g = rw (add-one, e, g)
 
 -- the rows by their numbers, as `all` goes through them
 module _ (p : ℕ → Bool) where
-  and-and : (a b c : Bool) → (a && b) && c ≡ a && (b && c)
-  and-and true b c = refl
-  and-and false b c = refl
-
   each_from : (n a : ℕ) → each p a && list_all p (range_with_len a n) ≡ each p (a + n)
   unfolding each
   each_from zero a = and-true (each p a) ∙ ap (each p) (sym (add-zero a))

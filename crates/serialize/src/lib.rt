@@ -10,16 +10,15 @@ ghost use Rattle.serialize.specs.Sections.{file_row, function_row, call_row, ent
 ghost use Rattle.serialize.specs.Sections.{in_order, range_sections};
 ghost use Rattle.raw.specs.Rows.{version_info_bytes, header_bytes};
 ghost use Rattle.raw.specs.Head.{version_info, padding};
-ghost use Rattle.memory.specs.Memory.{memory};
-ghost use Rattle.serialize.specs.File.{header_of, layout_of, written_file, Ready, wrote, serialize_of};
+ghost use Rattle.errors.specs.Numbers.{code_of};
+ghost use Rattle.memory.specs.Memory.{memory_in};
+ghost use Rattle.serialize.specs.File.{header_of, layout_of, written_file, Ready, wrote, len_of, serialize_of};
 
-use memory::{Converter, State, is_usable, lent};
+use errors::Refusal;
+use memory::{Converter, Lent, State, is_usable};
 use raw::{Header, Range, VersionInfo};
 use slices::{copy, load_u32, store_u32};
 use tables::kinds::{call_of_row, file_of_row, function_of_row, location_of_row, start_of_row};
-
-// Document 01's number for an output that is shorter than the file.
-const SYMCACHE_OUTPUT_TOO_SHORT: u32 = 18;
 
 // Magic, version and header; then the rows, of these sizes in bytes.
 const HEAD_SIZE: usize = 80;
@@ -35,88 +34,41 @@ const RANGE_SIZE: usize = 4;
 // An entry, while the ranges are sorted: a start and a row number.
 const ENTRY_SIZE: usize = 8;
 
-// What writing answers: document 01's number, 0 for success, and the file's length.
-#[derive(Clone, Copy)]
-pub struct Written {
-    pub code: u32,
-    pub len: usize,
-}
-
-// The file of what was converted: its length, and its bytes at the front of the output. The converter is as it was, and may write again.
-pub fn serialize(
-    converter: Converter,
-    string_bytes: &[u8],
-    strings: &[u32],
-    files: &[u32],
-    functions: &[u32],
-    call_locations: &[u32],
-    ranges: &[u32],
-    out: &mut [u8],
-) -> Written
-    ensures { let lent = memory string_bytes.now strings.now files.now
-        functions.now call_locations.now ranges.now in
-        wrote result.code result.len out.new ≡ serialize_of converter lent out.old }
+// The file of what was converted: it answers its length, and its bytes stand at the front of the output. The converter is as it was, and may write again.
+pub fn serialize(converter: Converter, lent: Lent, out: &mut [u8]) -> Result<usize, Refusal>
+    ensures { wrote (code_of result) (len_of result) out.new ≡ serialize_of converter (memory_in lent.entry) out.old }
 {
-    let state = converter.state;
-    let tables = lent(
-        string_bytes,
-        strings,
-        files,
-        functions,
-        call_locations,
-        ranges,
-    );
-    if !is_usable(converter, tables) {
-        return Written {
-            code: memory::SYMCACHE_CLOSED,
-            len: 0,
-        };
+    if !is_usable(converter, lent.lengths()) {
+        return Err(Refusal::Closed);
     }
-    let at = lay_out(state);
+    let at = lay_out(converter.state);
     let len = at.len;
     if out.len() < len {
-        return Written {
-            code: SYMCACHE_OUTPUT_TOO_SHORT,
-            len: 0,
-        };
+        return Err(Refusal::OutputTooShort);
     }
-    write_sections(
-        out,
-        converter,
-        string_bytes,
-        files,
-        functions,
-        call_locations,
-        ranges,
-    );
-    Written { code: 0, len }
+    write_sections(out, converter, lent);
+    Ok(len)
 }
 
 // The file, from the front of the output on.
-fn write_sections(
-    out: &mut [u8],
-    converter: Converter,
-    string_bytes: &[u8],
-    files: &[u32],
-    functions: &[u32],
-    call_locations: &[u32],
-    ranges: &[u32],
-)
-    requires { Ready converter (length string_bytes.now) (length out.old) }
-    ensures { (index : List ℕ) →
-        let lent = memory string_bytes.now index files.now
-        functions.now call_locations.now ranges.now in
-        out.new ≡ sets out.old 0 (written_file converter lent) }
+fn write_sections(out: &mut [u8], converter: Converter, lent: Lent)
+    requires { Ready converter (length lent.string_bytes.now) (length out.old) }
+    ensures { out.new ≡ sets out.old 0 (written_file converter (memory_in lent.entry)) }
 {
     let state = converter.state;
     let at = lay_out(state);
     write_head(out, converter);
-    write_files(out, HEAD_SIZE, files, state.files);
-    write_functions(out, at.functions, functions, state.functions);
-    write_call_locations(out, at.call_locations, call_locations, state.call_locations);
-    write_sorted(out, at.locations, ranges, state.ranges);
+    write_files(out, HEAD_SIZE, lent.files, state.files);
+    write_functions(out, at.functions, lent.functions, state.functions);
+    write_call_locations(
+        out,
+        at.call_locations,
+        lent.call_locations,
+        state.call_locations,
+    );
+    write_sorted(out, at.locations, lent.ranges, state.ranges);
     write_padding(out, at.padding, state.ranges);
-    write_texts(out, at.texts, string_bytes, state.string_bytes);
+    write_texts(out, at.texts, lent.string_bytes, state.string_bytes);
 }
 
 // Where the sections begin, and the file's length. The files follow the head.

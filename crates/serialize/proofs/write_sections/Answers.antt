@@ -1,7 +1,7 @@
 -- `write_sections` meets its contract: each section has room, and the sections joined are the file.
 use mathlib.Core.Path.{◌≡◌, ◌∙◌}
 use lib.ListN.{length}
-use Rattle.memory.specs.Memory.{memory}
+use Rattle.memory.specs.Memory.{memory_in}
 use Rattle.serialize.proofs.Whole.{files_fit, functions_fit, calls_fit, ranges_fit, texts_fit, sections-written}
 use borrow.Author.Rules.{rules}
 use Rattle.serialize.proofs.write_sections.Goals as goal
@@ -25,8 +25,7 @@ pub returns : goal.returns
 returns c =
     let a = c.args in
     let id : length c.args.converter.debug_id ≡ 32 = search rules in
-    λ i.
-    sections-written a.converter (memory a.string_bytes.now i a.files.now a.functions.now a.call_locations.now a.ranges.now) id c.lay_out-at.result c.lay_out-at.ensures a.out.now
+    sections-written a.converter (memory_in a.lent) id c.lay_out-at.result c.lay_out-at.ensures a.out.now
     c.write_head.new.out
     c.write_files.new.out
     c.write_functions.new.out
