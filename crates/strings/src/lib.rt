@@ -10,7 +10,8 @@ ghost use Rattle.strings.specs.Strings.{text_capacity_of, stored_text, text_at_l
 ghost use Rattle.strings.specs.Strings.{max_bytes, mixed, four_at, hash_from, text_hash};
 
 use slices::copy;
-use tables::kinds::{IndexedText, row_of_text, text_of_row};
+use tables::Row;
+use tables::kinds::IndexedText;
 use text::leb128::{leb128_len, write_leb128};
 
 // A string section has room for so many bytes at most.
@@ -51,7 +52,7 @@ pub fn insert(text: &mut [u8], strings: &mut [u32], bytes: u32, count: u32, t: &
     let hash = hash(t);
     let i = find(text, strings, count, t, hash);
     if i < count {
-        let found = text_of_row(tables::row_at(strings, i));
+        let found = IndexedText::from(tables::row_at(strings, i));
         return Stored {
             offset: found.offset,
             bytes,
@@ -81,7 +82,7 @@ fn store(
         let at = bytes as usize;
         let start = at + prefix;
         write(text, at, start, t);
-        let row = row_of_text(IndexedText {
+        let row = Row::from(IndexedText {
             offset: bytes,
             start: start as u32,
             len: t.len() as u32,
@@ -195,7 +196,7 @@ fn is_text(text: &[u8], strings: &[u32], i: u32, t: &[u8], hash: u32) -> bool
     requires { hash ≡ text_hash t.now }
     ensures { result ≡ text_at_lem text.now strings.now t.now i }
 {
-    let found = text_of_row(tables::row_at(strings, i));
+    let found = IndexedText::from(tables::row_at(strings, i));
     if found.hash == hash {
         if found.len as usize == t.len() {
             return same_at(text, found.start as usize, t);

@@ -31,7 +31,7 @@ pub returns-then-i-count : goal.returns-then-i-count
 returns-then-i-count c =
     let a = c.args in
     found a.text.now a.strings.now a.bytes a.count a.t.now c.if-t-eq0.false c.find-i.ensures
-    c.if-i-count.true c.row_at.ensures c.text_of_row-found.ensures
+    c.if-i-count.true c.row_at.ensures c.from-found.ensures
 
 pub returns : goal.returns
 returns c =

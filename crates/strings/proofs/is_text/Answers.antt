@@ -27,16 +27,16 @@ module _ (text strings : List ℕ) (i : ℕ) (t : List ℕ) {hash : ℕ} {r : Ro
 pub returns-then-found-t : goal.returns-then-found-t
 returns-then-found-t c =
     let a = c.args in
-    compared a.text.now a.strings.now a.i a.t.now c.requires c.row_at.ensures c.text_of_row-found.ensures
+    compared a.text.now a.strings.now a.i a.t.now c.requires c.row_at.ensures c.from-found.ensures
     c.if-found-hash.true c.if-found-t.true c.same_at.ensures
 
 pub returns-else-found-t : goal.returns-else-found-t
 returns-else-found-t c =
     let a = c.args in
-    other_length a.text.now a.strings.now a.i a.t.now c.requires c.row_at.ensures c.text_of_row-found.ensures
+    other_length a.text.now a.strings.now a.i a.t.now c.requires c.row_at.ensures c.from-found.ensures
     c.if-found-hash.true c.if-found-t.false
 
 pub returns-else-found-hash : goal.returns-else-found-hash
 returns-else-found-hash c =
     let a = c.args in
-    other-hash a.text.now a.strings.now a.i a.t.now c.requires c.row_at.ensures c.text_of_row-found.ensures c.if-found-hash.false
+    other-hash a.text.now a.strings.now a.i a.t.now c.requires c.row_at.ensures c.from-found.ensures c.if-found-hash.false
