@@ -2,7 +2,8 @@
 -- can be taken off again in reverse order; a journal says which rows of the ranges were added and what the others held.
 use Rattle.std.specs.Prelude.{ℕ, zero, suc, ◌+◌, ◌*◌, ◌-◌, List, ◌∷◌, Bool, cond, ltb, eqb, length, get_or, set, replicate}
 use Rattle.std.proofs.lemmas.List.Edits.{sets}
-use Rattle.tables.specs.Table.{words_at, row_words, row_of, row_at, link_at, set_row, capacity_of, bucket_of, hash_of, width_of, key_of, over_of, lookup_of, Left, left}
+use Rattle.tables.specs.Table.{words_at, row_words, row_of, row_at, link_at, set_row, capacity_of, bucket_of, hash_of, width_of, key_of}
+use Rattle.tables.specs.Table.{over_of, lookup_of, Left, left}
 use Rattle.tables.specs.Kinds.{text_of_row}
 use Rattle.tables.specs.Ranges.{put_of}
 use Rattle.tables.specs.declared.Row.{Row}
