@@ -74,7 +74,8 @@ fn store(
     let cap = tables::capacity(strings);
     let limit = text_capacity(text);
     let prefix = leb128_len(t.len() as u64);
-    if fits(bytes, count, prefix, t.len(), limit, cap) {
+    let size = prefix + t.len();
+    if fits(bytes, count, size, limit, cap) {
         let at = bytes as usize;
         let start = at + prefix;
         write(text, at, start, t);
@@ -91,36 +92,31 @@ fn store(
             count,
         };
     }
-    full(strings, bytes, count, prefix, t.len(), limit)
+    full(strings, bytes, count, size, limit)
 }
 
-// Whether there is room for a text of so many bytes, and for its row.
-fn fits(bytes: u32, count: u32, prefix: usize, len: usize, limit: u32, cap: u32) -> bool
-    ensures { result ≡ leb (bytes + (prefix + len)) limit && ltb count cap }
+// Whether there is room for so many bytes, and for a row.
+fn fits(bytes: u32, count: u32, size: usize, limit: u32, cap: u32) -> bool
+    ensures { result ≡ leb (bytes + size) limit && ltb count cap }
 {
-    room(bytes, prefix, len, limit) && count < cap
+    room(bytes, size, limit) && count < cap
 }
 
-// Whether there is room for a text of so many bytes.
-fn room(bytes: u32, prefix: usize, len: usize, limit: u32) -> bool
-    ensures { result ≡ leb (bytes + (prefix + len)) limit }
+// Whether there is room for so many bytes.
+fn room(bytes: u32, size: usize, limit: u32) -> bool
+    ensures { result ≡ leb (bytes + size) limit }
 {
-    if limit < bytes {
-        return false;
-    }
-    let left = (limit - bytes) as usize;
-    if left < prefix {
-        return false;
-    }
-    len <= left - prefix
+    limit
+        .checked_sub(bytes)
+        .is_some_and(|left| size <= left as usize)
 }
 
 // The answer where there is no room: the count of bytes is above its capacity if the text had none, else the count of texts.
-fn full(strings: &[u32], bytes: u32, count: u32, prefix: usize, len: usize, limit: u32) -> Stored
+fn full(strings: &[u32], bytes: u32, count: u32, size: usize, limit: u32) -> Stored
     requires { limit ≤ max_bytes }
-    ensures { result ≡ full_of bytes count (prefix + len) limit (capacity_of (length strings.now)) }
+    ensures { result ≡ full_of bytes count size limit (capacity_of (length strings.now)) }
 {
-    if room(bytes, prefix, len, limit) {
+    if room(bytes, size, limit) {
         return Stored {
             offset: bytes,
             bytes,
