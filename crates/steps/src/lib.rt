@@ -17,8 +17,6 @@ use memory::State;
 use raw::{File, Function, SourceLocation};
 use rows::{LineRow, OptionalPart, TextPart};
 use tables::Row;
-use tables::kinds::{row_of_call, row_of_file, row_of_function};
-use tables::ranges::Found;
 
 pub mod symbols;
 
@@ -63,7 +61,7 @@ pub fn insert_function(
         let after = words result.state x i f functions.new c n in
         gave result.index after ≡ add_function name_offset entry_pc lang before }
 {
-    let row = row_of_function(Function {
+    let row = Row::from(Function {
         name_offset,
         comp_dir_offset: u32::MAX,
         entry_pc,
@@ -103,7 +101,7 @@ pub fn insert_call_location(
         let after = words result.state x i f g call_locations.new n in
         gave result.index after ≡ add_call l before }
 {
-    let row = row_of_call(l);
+    let row = Row::from(l);
     let got = tables::index_set::insert_full(call_locations, state.call_locations, row);
     state.call_locations = got.count;
     Indexed {
@@ -125,10 +123,9 @@ pub fn insert_range(mut state: State, ranges: &mut [u32], start: u32, l: SourceL
 pub fn is_free(ranges: &[u32], count: u32, start: u32) -> bool
     ensures { result ≡ free (get_of ranges.now count start) }
 {
-    let found = tables::ranges::get(ranges, count, start);
-    match found {
-        Found::Absent => true,
-        Found::At(l) => l.is_no_source_location(),
+    match tables::ranges::get(ranges, count, start) {
+        Some(l) => l.is_no_source_location(),
+        None => true,
     }
 }
 
@@ -154,11 +151,7 @@ pub fn insert_source_location(
 fn is_vacant(ranges: &[u32], count: u32, start: u32) -> bool
     ensures { result ≡ vacant (get_of ranges.now count start) }
 {
-    let found = tables::ranges::get(ranges, count, start);
-    match found {
-        Found::Absent => true,
-        Found::At(_) => false,
-    }
+    tables::ranges::get(ranges, count, start).is_none()
 }
 
 // An explicit empty mapping at the end of a function or symbol, where the start is vacant.
@@ -292,7 +285,7 @@ pub fn insert_texts(
         line.srcsrv_dir,
     );
     let revision = insert_optional(srcsrv_dir.state, string_bytes, strings, text, line.revision);
-    let row = row_of_file(File {
+    let row = Row::from(File {
         comp_dir_offset: dir.index,
         directory_offset: directory.index,
         name_offset: name.index,

@@ -1,3 +1,2 @@
 pub mod Fours
-pub mod RowFound
 pub mod TextRoom

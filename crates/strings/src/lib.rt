@@ -2,15 +2,16 @@
 // A table indexes the texts, with a row for each.
 #![tactic(auto)]
 
-ghost use Rattle.std.specs.Prelude.{◌≡◌, ◌&&◌, ◌+◌, ◌≤◌, if◌then◌else◌, leb, ltb, length, take, drop};
+ghost use Rattle.std.specs.Prelude.{◌≡◌, ◌&&◌, ◌+◌, ◌≤◌, leb, ltb, length, take, drop};
 ghost use Rattle.std.proofs.lemmas.List.Edits.{sets};
 ghost use Rattle.text.specs.Leb128.{encoded};
-ghost use Rattle.tables.specs.Table.{capacity_of, link_at, same_words, walk};
+ghost use Rattle.tables.specs.Table.{capacity_of, found_of, link_at, same_words, walk};
 ghost use Rattle.strings.specs.Strings.{text_capacity_of, stored_text, text_at_lem, newest_text, find_text, full_of, store_of, insert_text_of, strings_left};
 ghost use Rattle.strings.specs.Strings.{max_bytes, mixed, text_hash};
 
 use slices::copy;
-use tables::kinds::{IndexedText, row_of_text, text_of_row};
+use tables::Row;
+use tables::kinds::IndexedText;
 use text::leb128::{leb128_len, write_leb128};
 
 // A string section has room for so many bytes at most.
@@ -48,7 +49,7 @@ pub fn insert(text: &mut [u8], strings: &mut [u32], bytes: u32, count: u32, t: &
     }
     let hash = hash(t);
     if let Some(i) = find(text, strings, count, t, hash) {
-        let found = text_of_row(tables::row_at(strings, i));
+        let found = IndexedText::from(tables::row_at(strings, i));
         return Stored {
             offset: found.offset,
             bytes,
@@ -79,7 +80,7 @@ fn store(
         let at = bytes as usize;
         let start = at + prefix;
         write(text, at, start, t);
-        let row = row_of_text(IndexedText {
+        let row = Row::from(IndexedText {
             offset: bytes,
             start: start as u32,
             len: t.len() as u32,
@@ -149,8 +150,7 @@ pub fn newest(strings: &[u32], t: &[u8]) -> u32
 // The number of the row whose text is t among the first n.
 fn find(text: &[u8], strings: &[u32], n: u32, t: &[u8], hash: u32) -> Option<u32>
     requires { hash ≡ text_hash t.now }
-    ensures { let i = find_text text.now strings.now n t.now in
-        result ≡ (if ltb i n then Some i else None) }
+    ensures { result ≡ found_of n (find_text text.now strings.now n t.now) }
 {
     follow(text, strings, n, tables::head_of(strings, hash), t, hash)
 }
@@ -158,8 +158,7 @@ fn find(text: &[u8], strings: &[u32], n: u32, t: &[u8], hash: u32) -> Option<u32
 // The same, along the chain that starts at link l. Row numbers must fall on the way, so it ends on any content.
 fn follow(text: &[u8], strings: &[u32], n: u32, l: u32, t: &[u8], hash: u32) -> Option<u32>
     requires { hash ≡ text_hash t.now }
-    ensures { let i = walk (link_at strings.now) (text_at_lem text.now strings.now t.now) n n l in
-        result ≡ (if ltb i n then Some i else None) }
+    ensures { result ≡ found_of n (walk (link_at strings.now) (text_at_lem text.now strings.now t.now) n n l) }
 {
     let mut bound = n;
     let mut at = l;
@@ -181,7 +180,7 @@ fn is_text(text: &[u8], strings: &[u32], i: u32, t: &[u8], hash: u32) -> bool
     requires { hash ≡ text_hash t.now }
     ensures { result ≡ text_at_lem text.now strings.now t.now i }
 {
-    let found = text_of_row(tables::row_at(strings, i));
+    let found = IndexedText::from(tables::row_at(strings, i));
     found.hash == hash && found.len as usize == t.len() && same_at(text, found.start as usize, t)
 }
 

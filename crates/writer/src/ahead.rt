@@ -74,7 +74,7 @@ fn function_link(
 ) {
     let k = (i as usize) * 4;
     let q = rows::function_row(functions64, functions32, i as usize);
-    let row = tables::kinds::row_of_function(raw::Function {
+    let row = Row::from(raw::Function {
         name_offset: word(s, k),
         comp_dir_offset: u32::MAX,
         entry_pc: entry_pc(q),

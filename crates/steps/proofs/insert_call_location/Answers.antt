@@ -9,4 +9,4 @@ pub returns : goal.returns
 returns c =
     let a = c.args in
     call_law a.state a.l a.call_locations.now {c1 = c.insert_full-got.new.t} {got = c.insert_full-got.result}
-    (c.insert_full-got.ensures ∙ ap (λ (row : Row). insert_of 6 a.call_locations.now a.state.call_locations row) c.row_of_call-row.ensures)
+    (c.insert_full-got.ensures ∙ ap (λ (row : Row). insert_of 6 a.call_locations.now a.state.call_locations row) c.from-row.ensures)

@@ -9,4 +9,4 @@ pub returns : goal.returns
 returns c =
     let a = c.args in
     function_law a.state a.name_offset a.entry_pc a.lang a.functions.now {g1 = c.insert_full-got.new.t} {got = c.insert_full-got.result}
-    (c.insert_full-got.ensures ∙ ap (λ (row : Row). insert_of 6 a.functions.now a.state.functions row) c.row_of_function-row.ensures)
+    (c.insert_full-got.ensures ∙ ap (λ (row : Row). insert_of 6 a.functions.now a.state.functions row) c.from-row.ensures)

@@ -17,7 +17,7 @@ unfolding six_of
 returns c =
     let x = c.args in
     λ f g m n.
-    ap (λ (row : Row). gave row (words c.insert_optional-revision.result.state c.insert_optional-revision.new.string_bytes c.insert_optional-revision.new.strings f g m n)) c.row_of_file-row.ensures
+    ap (λ (row : Row). gave row (words c.insert_optional-revision.result.state c.insert_optional-revision.new.string_bytes c.insert_optional-revision.new.strings f g m n)) c.from-row.ensures
     ∙ six_law (six_of x.text.now x.comp_dir x.line)
     (words x.state x.string_bytes.now x.strings.now f g m n)
     (words c.insert_part-name.result.state c.insert_part-name.new.string_bytes c.insert_part-name.new.strings f g m n) (words c.insert_part-directory.result.state c.insert_part-directory.new.string_bytes c.insert_part-directory.new.strings f g m n) (words c.insert_part-dir.result.state c.insert_part-dir.new.string_bytes c.insert_part-dir.new.strings f g m n) (words c.insert_optional-srcsrv_name.result.state c.insert_optional-srcsrv_name.new.string_bytes c.insert_optional-srcsrv_name.new.strings f g m n) (words c.insert_optional-srcsrv_dir.result.state c.insert_optional-srcsrv_dir.new.string_bytes c.insert_optional-srcsrv_dir.new.strings f g m n) (words c.insert_optional-revision.result.state c.insert_optional-revision.new.string_bytes c.insert_optional-revision.new.strings f g m n)

@@ -102,7 +102,7 @@ returns-then-fits c =
     storing a.text.now a.strings.now a.bytes a.count a.t.now e1 e2 e3 c.fits.ensures c.if-fits.true
     c.requires refl c.write.ensures
     (indexed a.text.now a.strings.now a.bytes a.count a.t.now e1 e2 e3 c.fits.ensures c.if-fits.true
-    {y = left c.push-count.result c.push-count.new.t} c.row_of_text-row.ensures c.push-count.ensures)
+    {y = left c.push-count.result c.push-count.new.t} c.from-row.ensures c.push-count.ensures)
 
 pub full-requires : goal.full-requires
 full-requires c =
