@@ -1,45 +1,36 @@
-use Prim.Native.Nat.{ℕ, ◌-◌, ◌<◌, ◌≤◌}
-use mathlib.Core.Path.{refl, sym, ◌∙◌}
+use mathlib.Core.Path.{◌∙◌}
 use native.Mathlib.Omega.{arith}
-use borrow.Author.Tests.{leb-true, leb-false}
 use Rattle.tables.specs.Table.{link_at}
 use Rattle.strings.specs.Strings.{text_at_lem}
 use Rattle.tables.proofs.Walk.{walk_none, walk-high, walk-found, walk-next}
+use Rattle.tables.proofs.Found.{found_at, found_none}
 use Rattle.strings.proofs.follow.Goals as goal
-
-less : {at bound : ℕ} → 0 < at → at ≤ bound → at - 1 < bound
-less p h = omega arith
-
-pub loop-at-init : goal.loop-at-init
-loop-at-init c = refl
-
-pub overflow_sub-i : goal.overflow_sub-i
-overflow_sub-i c = c.loop-at-test.true
-
-pub is_text-requires : goal.is_text-requires
-is_text-requires c = c.requires
 
 pub returns-then-is_text : goal.returns-then-is_text
 returns-then-is_text c =
     let a = c.args in
-    walk-found (link_at a.strings.now) (text_at_lem a.text.now a.strings.now a.t.now) a.n c.loop-at.bound c.loop-at.at c.loop-at.invariant c.loop-at-test.true
-    (leb-true c.loop-at.at c.loop-at.bound c.if-at-bound.true-raw) c.is_text.ensures c.if-is_text.true
-
-pub loop-at-smaller : goal.loop-at-smaller
-loop-at-smaller c = less c.loop-at-test.true (leb-true c.loop-at.at c.loop-at.bound c.if-at-bound.true-raw)
+    let h = c.if-at-bound.true in
+    found_at a.n
+    (walk-found (link_at a.strings.now) (text_at_lem a.text.now a.strings.now a.t.now) a.n c.loop-at.bound c.loop-at.at c.loop-at.invariant.same c.loop-at-test.true h
+    c.is_text.ensures c.if-is_text.true)
+    (omega (arith, c.loop-at.invariant.low))
 
 pub loop-at-preserved : goal.loop-at-preserved
 loop-at-preserved c =
     let a = c.args in
-    walk-next (link_at a.strings.now) (text_at_lem a.text.now a.strings.now a.t.now) a.n c.loop-at.bound c.loop-at.at c.loop-at.invariant c.loop-at-test.true
-    (leb-true c.loop-at.at c.loop-at.bound c.if-at-bound.true-raw) c.is_text.ensures c.if-is_text.false c.link_at-at.ensures
+    let h = c.if-at-bound.true in
+    record {
+      low = omega (arith, c.loop-at.invariant.low);
+      same = walk-next (link_at a.strings.now) (text_at_lem a.text.now a.strings.now a.t.now) a.n c.loop-at.bound c.loop-at.at c.loop-at.invariant.same c.loop-at-test.true h
+          c.is_text.ensures c.if-is_text.false c.link_at-at.ensures;
+    }
 
 pub returns-else-at-bound : goal.returns-else-at-bound
 returns-else-at-bound c =
     let a = c.args in
-    sym (c.loop-at.invariant ∙ walk-high (link_at a.strings.now) (text_at_lem a.text.now a.strings.now a.t.now) a.n c.loop-at.bound c.loop-at.at (leb-false c.loop-at.at c.loop-at.bound c.if-at-bound.false-raw))
+    found_none a.n (c.loop-at.invariant.same ∙ walk-high (link_at a.strings.now) (text_at_lem a.text.now a.strings.now a.t.now) a.n c.loop-at.bound c.loop-at.at c.if-at-bound.false)
 
 pub returns-after-loop-at : goal.returns-after-loop-at
 returns-after-loop-at c =
     let a = c.args in
-    sym (c.loop-at.invariant ∙ walk_none (link_at a.strings.now) (text_at_lem a.text.now a.strings.now a.t.now) a.n c.loop-at.bound c.loop-at.at c.loop-at-test.false)
+    found_none a.n (c.loop-at.invariant.same ∙ walk_none (link_at a.strings.now) (text_at_lem a.text.now a.strings.now a.t.now) a.n c.loop-at.bound c.loop-at.at c.loop-at-test.false)

@@ -9,6 +9,7 @@ use lib.Seq.{sets}
 use borrow.Author.Tests.{leb-true, ltb-true, lt-ltb}
 use Rattle.slices.proofs.Cases.{both_true}
 use Rattle.text.specs.Leb128.{encoded}
+use Rattle.text.proofs.Leb128Laws.{encoded_ten}
 use Rattle.tables.specs.Table.{capacity_of, push_of, Left, left}
 use Rattle.tables.specs.Kinds.{row_of_text}
 use Rattle.strings.specs.Strings.{max_bytes, text_capacity_of, text_size_lem, stored_text, text_hash, text_row, index_of, full_of, store_of, strings_left, text_stored}
@@ -57,6 +58,9 @@ module _ (text strings : List ℕ) (bytes count : ℕ) (t : List ℕ) {cap limit
   refused : f ≡ false → {x : Stored} → x ≡ full_of bytes count (prefix + length t) limit (capacity_of (length strings)) → strings_left x text strings ≡ store_of text strings bytes count t
   unfolding store_of
   refused h g = rw (g, ← e2, ← e1, ← size_is, ← e4, h)
+
+pub overflow_add-size : goal.overflow_add-size
+overflow_add-size c = omega (arith, c.leb128_len-prefix.ensures, encoded_ten (length c.args.t.now) (omega arith))
 
 pub overflow_add-start : goal.overflow_add-start
 overflow_add-start c =
