@@ -1,4 +1,3 @@
-use borrow.Author.Tests.{leb-true, leb-false}
 use mathlib.Core.Path.{◌∙◌}
 use native.Mathlib.Omega.{arith}
 use Rattle.tables.specs.Table.{link_at}
@@ -9,25 +8,26 @@ use Rattle.tables.proofs.follow.Goals as goal
 pub returns-then-hits : goal.returns-then-hits
 returns-then-hits g c =
     let a = c.args in
+    let h = c.if-at-bound.true in
     found_at a.n
-    (walk-found (link_at a.t.now) (g.P.Probe.hits a.probe.now a.t.now) a.n c.loop-at.bound c.loop-at.at c.loop-at.invariant.same c.loop-at-test.true
-    (leb-true c.loop-at.at c.loop-at.bound c.if-at-bound.true-raw) c.hits.ensures c.if-hits.true)
-    (let l = c.loop-at.invariant.low in let h = leb-true c.loop-at.at c.loop-at.bound c.if-at-bound.true-raw in omega (arith, l, h))
+    (walk-found (link_at a.t.now) (g.P.Probe.hits a.probe.now a.t.now) a.n c.loop-at.bound c.loop-at.at c.loop-at.invariant.same c.loop-at-test.true h
+    c.hits.ensures c.if-hits.true)
+    (omega (arith, c.loop-at.invariant.low))
 
 pub loop-at-preserved : goal.loop-at-preserved
 loop-at-preserved g c =
     let a = c.args in
+    let h = c.if-at-bound.true in
     record {
-      low = let l = c.loop-at.invariant.low in let h = leb-true c.loop-at.at c.loop-at.bound c.if-at-bound.true-raw in omega (arith, l, h);
-      same = walk-next (link_at a.t.now) (g.P.Probe.hits a.probe.now a.t.now) a.n c.loop-at.bound c.loop-at.at c.loop-at.invariant.same c.loop-at-test.true
-          (leb-true c.loop-at.at c.loop-at.bound c.if-at-bound.true-raw) c.hits.ensures c.if-hits.false c.link_at-at.ensures;
+      low = omega (arith, c.loop-at.invariant.low);
+      same = walk-next (link_at a.t.now) (g.P.Probe.hits a.probe.now a.t.now) a.n c.loop-at.bound c.loop-at.at c.loop-at.invariant.same c.loop-at-test.true h
+          c.hits.ensures c.if-hits.false c.link_at-at.ensures;
     }
 
 pub returns-else-at-bound : goal.returns-else-at-bound
 returns-else-at-bound g c =
     let a = c.args in
-    found_none a.n (c.loop-at.invariant.same ∙ walk-high (link_at a.t.now) (g.P.Probe.hits a.probe.now a.t.now) a.n c.loop-at.bound c.loop-at.at
-    (leb-false c.loop-at.at c.loop-at.bound c.if-at-bound.false-raw))
+    found_none a.n (c.loop-at.invariant.same ∙ walk-high (link_at a.t.now) (g.P.Probe.hits a.probe.now a.t.now) a.n c.loop-at.bound c.loop-at.at c.if-at-bound.false)
 
 pub returns-after-loop-at : goal.returns-after-loop-at
 returns-after-loop-at g c =
