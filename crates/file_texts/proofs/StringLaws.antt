@@ -9,8 +9,8 @@ use borrow.Author.Tests.{lt-ltb, le-ltb}
 use Rattle.raw.specs.declared.Function.{Function}
 use Rattle.raw.specs.Rows.{function_at_lem}
 use Rattle.text.specs.declared.strings.Text.{Text}
-use Rattle.text.specs.declared.strings.Text.TheVariants.{Absent, At}
-use Rattle.text.specs.Texts.{read_text, text_part}
+use Rattle.std.specs.Prelude.{Option, None}
+use Rattle.text.specs.Texts.{part, read_text, text_part}
 use Rattle.text.proofs.TextLaws.{text-within}
 use Rattle.symcache.specs.declared.SymCache.{SymCache}
 use Rattle.symcache.specs.Answers.{Refusal, gives, refuses, and_then}
@@ -27,27 +27,27 @@ section-lent : (s : List ℕ) (c : SymCache) → lent s c ≡ section_of s c
 unfolding section_of
 section-lent s c = let e : c.strings + c.string_bytes - c.strings ≡ c.string_bytes = omega arith in rw e
 
-pub text-or-absent : (d t : List ℕ) (r : Text) → r ≡ Absent → d ≡ text_or d t r
+pub text-or-absent : (d t : List ℕ) (r : Option Text) → r ≡ None → d ≡ text_or d t r
 unfolding text_or
 text-or-absent d t r e = rw e
 
-pub text-or-there : (d t : List ℕ) (r : Text) (start len : ℕ) → r ≡ At start len → take (start + len - start) (drop start t) ≡ text_or d t r
+pub text-or-there : (d t : List ℕ) (r : Option Text) (start len : ℕ) → r ≡ part start len → take (start + len - start) (drop start t) ≡ text_or d t r
 unfolding text_or
 text-or-there d t r start len e = let k : start + len - start ≡ len = omega arith in rw (e, k)
 
 module _ (s : List ℕ) (c : SymCache) (is : parsed s ≡ gives c) where
-  pub string_inside : (offset start len : ℕ) → read_text (lent s c) offset ≡ At start len → c.strings + start ≤ length s
+  pub string_inside : (offset start len : ℕ) → read_text (lent s c) offset ≡ part start len → c.strings + start ≤ length s
   string_inside offset start len e =
       let w = (parsed-within s c is).1 in
       let h = text-within (lent s c) offset start len e in
       let l : length (lent s c) ≤ c.string_bytes = simp (length-take, length-drop) (omega arith) in
       omega (arith, w.strings)
 
-  pub string_there : (offset start len : ℕ) → read_text (lent s c) offset ≡ At start len → gives (some (record { start = c.strings + start; len = len })) ≡ got_string s offset
+  pub string_there : (offset start len : ℕ) → read_text (lent s c) offset ≡ part start len → gives (some (record { start = c.strings + start; len = len })) ≡ got_string s offset
   unfolding got_string and_then placed
   string_there offset start len e = rw (is, and_then, ← section-lent s c, e)
 
-  pub string_absent : (offset : ℕ) → read_text (lent s c) offset ≡ Absent → gives none ≡ got_string s offset
+  pub string_absent : (offset : ℕ) → read_text (lent s c) offset ≡ None → gives none ≡ got_string s offset
   unfolding got_string and_then placed
   string_absent offset e = rw (is, and_then, ← section-lent s c, e)
 

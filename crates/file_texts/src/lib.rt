@@ -6,7 +6,6 @@ ghost use Rattle.text.specs.Texts.{read_text};
 ghost use Rattle.file_texts.specs.Strings.{string_answer, got_string, string_of, text_or, name_of};
 
 use symcache::{ErrorKind, Parsed};
-use text::strings::Text;
 
 // Where a text lies in the file.
 #[derive(Clone, Copy)]
@@ -27,11 +26,11 @@ pub fn read_string(s: &[u8], offset: u32) -> GotString
             let to = from + (c.string_bytes as usize);
             let read = text::strings::read_text(&s[from..to], offset);
             match read {
-                Text::At { start, len } => GotString::At {
-                    start: from + start,
-                    len,
+                Some(text) => GotString::At {
+                    start: from + text.start,
+                    len: text.len,
                 },
-                Text::Absent => GotString::Absent,
+                None => GotString::Absent,
             }
         }
         Parsed::Refused(kind) => GotString::Refused(kind),
@@ -54,11 +53,10 @@ pub fn get_string<'a>(s: &'a [u8], offset: u32) -> &'a [u8]
 fn text_or<'a>(section: &'a [u8], stand_in: &'a [u8], offset: u32) -> &'a [u8]
     ensures { result.now ≡ text_or stand_in.now section.now (read_text section.now offset) }
 {
-    let Text::At { start, len } = text::strings::read_text(section, offset) else {
-        return stand_in;
-    };
-    let end = start + len;
-    &section[start..end]
+    match text::strings::read_text(section, offset) {
+        Some(text) => &section[text.start..text.start + text.len],
+        None => stand_in,
+    }
 }
 
 // The name of a function: a part of the file's texts, or the stand-in where the function or its name is absent, and where the file is refused.

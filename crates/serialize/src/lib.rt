@@ -16,9 +16,9 @@ ghost use Rattle.serialize.specs.File.{header_of, layout_of, written_file, Ready
 
 use errors::Refusal;
 use memory::{Converter, Lent, State, is_usable};
-use raw::{Header, Range, VersionInfo};
+use raw::{File, Function, Header, Range, SourceLocation, VersionInfo};
 use slices::{copy, load_u32, store_u32};
-use tables::kinds::{call_of_row, file_of_row, function_of_row, location_of_row, start_of_row};
+use tables::kinds::RangeRow;
 
 // Magic, version and header; then the rows, of these sizes in bytes.
 const HEAD_SIZE: usize = 80;
@@ -145,7 +145,7 @@ fn write_files(out: &mut [u8], at: usize, files: &[u32], count: u32)
 {
     let mut i: u32 = 0;
     while i < count {
-        let file = file_of_row(tables::row_at(files, i));
+        let file = File::from(tables::row_at(files, i));
         raw::write_file(out, at + (i as usize) * FILE_SIZE, file);
         i += 1;
     }
@@ -158,7 +158,7 @@ fn write_functions(out: &mut [u8], at: usize, functions: &[u32], count: u32)
 {
     let mut i: u32 = 0;
     while i < count {
-        let function = function_of_row(tables::row_at(functions, i));
+        let function = Function::from(tables::row_at(functions, i));
         raw::write_function(out, at + (i as usize) * FUNCTION_SIZE, function);
         i += 1;
     }
@@ -171,7 +171,7 @@ fn write_call_locations(out: &mut [u8], at: usize, call_locations: &[u32], count
 {
     let mut i: u32 = 0;
     while i < count {
-        let location = call_of_row(tables::row_at(call_locations, i));
+        let location = SourceLocation::from(tables::row_at(call_locations, i));
         raw::write_location(out, at + (i as usize) * LOCATION_SIZE, location);
         i += 1;
     }
@@ -206,7 +206,7 @@ fn write_entries(out: &mut [u8], at: usize, ranges: &[u32], count: u32)
 {
     let mut i: u32 = 0;
     while i < count {
-        let start = start_of_row(tables::row_at(ranges, i));
+        let start = RangeRow::from(tables::row_at(ranges, i)).start;
         write_entry(out, at + (i as usize) * ENTRY_SIZE, start, i);
         i += 1;
     }
@@ -226,7 +226,7 @@ fn write_ranges(out: &mut [u8], at: usize, ranges: &[u32], count: u32)
         let k = i as usize;
         let start = load_u32(out, entries + k * ENTRY_SIZE);
         let row = load_u32(out, entries + k * ENTRY_SIZE + RANGE_SIZE);
-        let l = location_of_row(tables::row_at(ranges, row));
+        let l = RangeRow::from(tables::row_at(ranges, row)).location;
         raw::write_range(out, starts + k * RANGE_SIZE, Range(start));
         raw::write_location(out, at + k * LOCATION_SIZE, l);
         i += 1;

@@ -16,8 +16,6 @@ use memory::Tables;
 use raw::{File, Function, SourceLocation};
 use rows::{LineRow, OptionalPart, TextPart};
 use tables::Row;
-use tables::kinds::{row_of_call, row_of_file, row_of_function};
-use tables::ranges::Found;
 
 pub mod symbols;
 
@@ -43,7 +41,7 @@ pub fn insert_function(tables: &mut Tables, name_offset: u32, entry_pc: u32, lan
     ensures same { SameTables tables.old tables.new }
     ensures added { gave result (words_of tables.new) ≡ add_function name_offset entry_pc lang (words_of tables.old) }
 {
-    let row = row_of_function(Function {
+    let row = Row::from(Function {
         name_offset,
         comp_dir_offset: u32::MAX,
         entry_pc,
@@ -69,7 +67,7 @@ pub fn insert_call_location(tables: &mut Tables, l: SourceLocation) -> u32
     ensures same { SameTables tables.old tables.new }
     ensures added { gave result (words_of tables.new) ≡ add_call l (words_of tables.old) }
 {
-    let row = row_of_call(l);
+    let row = Row::from(l);
     let got = tables::index_set::insert_full(
         tables.call_locations,
         tables.state.call_locations,
@@ -92,10 +90,9 @@ pub fn insert_range(tables: &mut Tables, start: u32, l: SourceLocation)
 pub fn is_free(tables: &Tables, start: u32) -> bool
     ensures { result ≡ free (get_of tables.now.ranges.now tables.now.state.ranges start) }
 {
-    let found = tables::ranges::get(tables.ranges, tables.state.ranges, start);
-    match found {
-        Found::Absent => true,
-        Found::At(l) => l.is_no_source_location(),
+    match tables::ranges::get(tables.ranges, tables.state.ranges, start) {
+        Some(l) => l.is_no_source_location(),
+        None => true,
     }
 }
 
@@ -115,11 +112,7 @@ pub fn insert_source_location(tables: &mut Tables, start: u32, l: SourceLocation
 fn is_vacant(tables: &Tables, start: u32) -> bool
     ensures { result ≡ vacant (get_of tables.now.ranges.now tables.now.state.ranges start) }
 {
-    let found = tables::ranges::get(tables.ranges, tables.state.ranges, start);
-    match found {
-        Found::Absent => true,
-        Found::At(_) => false,
-    }
+    tables::ranges::get(tables.ranges, tables.state.ranges, start).is_none()
 }
 
 // An explicit empty mapping at the end of a function or symbol, where the start is vacant.
@@ -207,7 +200,7 @@ pub fn insert_texts(tables: &mut Tables, text: &[u8], comp_dir: TextPart, line: 
     let srcsrv_name = insert_optional(tables, text, line.srcsrv_name);
     let srcsrv_dir = insert_optional(tables, text, line.srcsrv_dir);
     let revision = insert_optional(tables, text, line.revision);
-    row_of_file(File {
+    Row::from(File {
         comp_dir_offset: dir,
         directory_offset: directory,
         name_offset: name,

@@ -55,12 +55,13 @@ fn first_hexes(rt: &impl Print, s: &[u8], n: usize) {
 // The shortest form of v.
 fn print_shortest(rt: &impl Print, v: u64) {
     let mut out = [0u8; 10];
-    let n = write_leb128(&mut out, 0, v);
-    first_hexes(rt, &out, n);
+    if let Some(n) = write_leb128(&mut out, 0, v) {
+        first_hexes(rt, &out, n);
+    }
 }
 
 fn print_number(rt: &impl Print, s: &[u8]) {
-    let Leb::Number { value, len } = read_leb128(s, 0) else {
+    let Some(Leb { value, len }) = read_leb128(s, 0) else {
         let _ = print!(rt; "n- ");
         return;
     };
@@ -69,7 +70,7 @@ fn print_number(rt: &impl Print, s: &[u8]) {
 }
 
 fn print_text(rt: &impl Print, s: &[u8]) {
-    let Text::At { start, len } = read_text(s, 0) else {
+    let Some(Text { start, len }) = read_text(s, 0) else {
         let _ = print!(rt; "t- ");
         return;
     };

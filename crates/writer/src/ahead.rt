@@ -68,7 +68,7 @@ fn name_bytes(tables: &Tables, s: &mut [u32], i: u32) {
 // The newest row in the bucket of the function, as a link.
 fn function_link(tables: &Tables, s: &mut [u32], q: FunctionRow, i: u32) {
     let k = i as usize * 4;
-    let row = tables::kinds::row_of_function(raw::Function {
+    let row = Row::from(raw::Function {
         name_offset: word(s, k),
         comp_dir_offset: u32::MAX,
         entry_pc: entry_pc(q),

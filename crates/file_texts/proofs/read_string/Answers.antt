@@ -15,18 +15,18 @@ slice_bounds-read_text-end c = (((parsed-within c.args.s.now c.in-Cache.c ((sym 
 pub overflow_add-result : goal.overflow_add-result
 overflow_add-result c =
     let a = c.args in
-    let i = string_inside a.s.now c.in-Cache.c ((sym c.parse-parsed.ensures ∙ ap parse_answer c.in-Cache.is)) a.offset c.in-At.start c.in-At.len (sym c.read_text-read.ensures ∙ c.in-At.is) in
+    let i = string_inside a.s.now c.in-Cache.c ((sym c.parse-parsed.ensures ∙ ap parse_answer c.in-Cache.is)) a.offset c.in-Some.text.start c.in-Some.text.len (sym c.read_text-read.ensures ∙ c.in-Some.is) in
     omega arith
 
-pub returns-in-At : goal.returns-in-At
-returns-in-At c =
+pub returns-in-Some : goal.returns-in-Some
+returns-in-Some c =
     let a = c.args in
-    string_there a.s.now c.in-Cache.c ((sym c.parse-parsed.ensures ∙ ap parse_answer c.in-Cache.is)) a.offset c.in-At.start c.in-At.len (sym c.read_text-read.ensures ∙ c.in-At.is)
+    string_there a.s.now c.in-Cache.c ((sym c.parse-parsed.ensures ∙ ap parse_answer c.in-Cache.is)) a.offset c.in-Some.text.start c.in-Some.text.len (sym c.read_text-read.ensures ∙ c.in-Some.is)
 
-pub returns-in-Absent : goal.returns-in-Absent
-returns-in-Absent c =
+pub returns-in-None : goal.returns-in-None
+returns-in-None c =
     let a = c.args in
-    string_absent a.s.now c.in-Cache.c ((sym c.parse-parsed.ensures ∙ ap parse_answer c.in-Cache.is)) a.offset (sym c.read_text-read.ensures ∙ c.in-Absent.is)
+    string_absent a.s.now c.in-Cache.c ((sym c.parse-parsed.ensures ∙ ap parse_answer c.in-Cache.is)) a.offset (sym c.read_text-read.ensures ∙ c.in-None.is)
 
 pub returns-in-Refused : goal.returns-in-Refused
 returns-in-Refused c = string_refused c.args.s.now _ (sym c.parse-parsed.ensures ∙ ap parse_answer c.in-Refused.is) c.args.offset

@@ -20,7 +20,7 @@ unfolding call_row
 loop-i-preserved c =
     let a = c.args in
     let to = a.at + c.loop-i.i * 16 in
-    let stored = c.write_location.ensures ∙ ap (λ (y : SourceLocation). sets c.loop-i.out to (location_bytes y)) c.call_of_row-location.ensures in
+    let stored = c.write_location.ensures ∙ ap (λ (y : SourceLocation). sets c.loop-i.out to (location_bytes y)) c.from-location.ensures in
     (omega arith, rows-turn call_row 16 length-call_row a.out.now c.loop-i.out _ a.at to a.call_locations.now c.loop-i.i c.row_at.result c.row_at.ensures (omega arith) c.loop-i.invariant.1 stored)
 
 pub shape_of-out : goal.shape_of-out

@@ -23,7 +23,7 @@ pub loop-i-preserved : goal.loop-i-preserved
 loop-i-preserved c =
     let a = c.args in
     let to = a.at + c.loop-i.i * 8 in
-    let stored = c.write_entry.ensures ∙ ap (λ (s : ℕ). sets c.loop-i.out to (entry_row (record { from = s; to = c.loop-i.i }))) c.start_of_row-start.ensures in
+    let stored = c.write_entry.ensures ∙ ap (λ (s : ℕ). sets c.loop-i.out to (entry_row (record { from = s; to = c.loop-i.i }))) (ap (λ r. r.start) c.from-start.ensures) in
     (omega arith, entries-turn a.out.now c.loop-i.out _ a.at to a.ranges.now c.loop-i.i c.row_at.result c.row_at.ensures (omega arith) c.loop-i.invariant.1 stored)
 
 pub shape_of-out : goal.shape_of-out

@@ -20,7 +20,7 @@ unfolding file_row
 loop-i-preserved c =
     let a = c.args in
     let to = a.at + c.loop-i.i * 24 in
-    let stored = c.write_file.ensures ∙ ap (λ (y : File). sets c.loop-i.out to (file_bytes_lem y)) c.file_of_row-file.ensures in
+    let stored = c.write_file.ensures ∙ ap (λ (y : File). sets c.loop-i.out to (file_bytes_lem y)) c.from-file.ensures in
     (omega arith, rows-turn file_row 24 length-file_row a.out.now c.loop-i.out _ a.at to a.files.now c.loop-i.i c.row_at.result c.row_at.ensures (omega arith) c.loop-i.invariant.1 stored)
 
 pub shape_of-out : goal.shape_of-out

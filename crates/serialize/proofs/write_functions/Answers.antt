@@ -20,7 +20,7 @@ unfolding function_row
 loop-i-preserved c =
     let a = c.args in
     let to = a.at + c.loop-i.i * 16 in
-    let stored = c.write_function.ensures ∙ ap (λ (y : Function). sets c.loop-i.out to (function_bytes y)) c.function_of_row-function.ensures in
+    let stored = c.write_function.ensures ∙ ap (λ (y : Function). sets c.loop-i.out to (function_bytes y)) c.from-function.ensures in
     (omega arith, rows-turn function_row 16 length-function_row a.out.now c.loop-i.out _ a.at to a.functions.now c.loop-i.i c.row_at.result c.row_at.ensures (omega arith) c.loop-i.invariant.1 stored)
 
 pub shape_of-out : goal.shape_of-out

@@ -17,7 +17,7 @@ loop-i-preserved c =
       turned-step a.ranges.now a.out.now a.at a.count c.loop-i.i c.loop-i.out c.loop-i.invariant.1 (omega arith) _ _ _ _ _
           c.load_u32-start.ensures
           c.load_u32-row.ensures
-          (c.location_of_row-l.ensures ∙ ap location_of_lem c.row_at.ensures)
+          (ap (λ r. r.location) c.from.ensures ∙ ap location_of_lem c.row_at.ensures)
           c.write_range.ensures
           c.write_location.ensures,
     )

@@ -9,4 +9,4 @@ use Rattle.steps.proofs.insert_call_location.Goals as goal
 pub returns-clause-added : goal.returns-clause-added
 returns-clause-added c =
     let w = words_of c.args.tables.now in
-    call_law w c.args.l (c.insert_full-got.ensures ∙ ap (λ (row : Row). insert_of 6 w.mm.calls w.st.call_locations row) c.row_of_call-row.ensures)
+    call_law w c.args.l (c.insert_full-got.ensures ∙ ap (λ (row : Row). insert_of 6 w.mm.calls w.st.call_locations row) c.from-row.ensures)

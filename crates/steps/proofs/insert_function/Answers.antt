@@ -11,4 +11,4 @@ returns-clause-added c =
     let a = c.args in
     let w = words_of a.tables.now in
     function_law w a.name_offset a.entry_pc a.lang
-    (c.insert_full-got.ensures ∙ ap (λ (row : Row). insert_of 6 w.mm.functions w.st.functions row) c.row_of_function-row.ensures)
+    (c.insert_full-got.ensures ∙ ap (λ (row : Row). insert_of 6 w.mm.functions w.st.functions row) c.from-row.ensures)

@@ -10,7 +10,7 @@ pub returns-clause-stored : goal.returns-clause-stored
 unfolding six_of
 returns-clause-stored c =
     let a = c.args in
-    ap (λ (row : Row). gave row (words_of c.insert_optional-revision.new.tables)) c.row_of_file.ensures
+    ap (λ (row : Row). gave row (words_of c.insert_optional-revision.new.tables)) c.from.ensures
     ∙ six_law (six_of a.text.now a.comp_dir a.line) (words_of a.tables.now)
     c.insert_part-name.ensures.stored c.insert_part-directory.ensures.stored c.insert_part-dir.ensures.stored
     c.insert_optional-srcsrv_name.ensures.stored c.insert_optional-srcsrv_dir.ensures.stored c.insert_optional-revision.ensures.stored

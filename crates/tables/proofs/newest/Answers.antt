@@ -1,7 +1,7 @@
 use Prim.Native.Nat.{ℕ}
 use mathlib.Core.Path.{◌≡◌}
 use mathlib.Core.List.{List}
-use Rattle.tables.specs.Table.{key_of, hash_of, head_of, newest_of}
+use Rattle.tables.specs.Table.{width_of, key_of, hash_of, head_of, newest_of}
 use Rattle.tables.specs.declared.Row.{Row}
 use Rattle.tables.proofs.newest.Goals as goal
 
@@ -12,4 +12,4 @@ law w t q e f g = rw (g, f, e)
 pub returns : goal.returns
 returns c =
     let a = c.args in
-    law a.width a.t.now a.row c.key.ensures c.hash.ensures c.head_of.ensures
+    law (width_of a.key) a.t.now a.row c.of.ensures c.hash.ensures c.head_of.ensures

@@ -6,7 +6,7 @@ use lib.ListN.{length}
 use borrow.Author.Tests.{lt-ltb, le-ltb}
 use Rattle.tables.specs.Table.{head_at, bucket_of, capacity_of, append_of, over_of, push_of, left}
 use Rattle.tables.specs.declared.Row.{Row}
-use Rattle.tables.proofs.Room.{cap-most}
+use Rattle.tables.proofs.Room.{cap_most}
 use Rattle.tables.proofs.push.Goals as goal
 
 module _ (t : List ℕ) (n : ℕ) (q : Row) (x : ℕ) {cap : ℕ} (e : cap ≡ capacity_of (length t)) where
@@ -19,7 +19,7 @@ module _ (t : List ℕ) (n : ℕ) (q : Row) (x : ℕ) {cap : ℕ} (e : cap ≡ c
   full p f = rw (f, ← e, le-ltb n cap p)
 
   small : n < cap → n < 16777216
-  small p = let m = cap-most (length t) in omega arith
+  small p = let m = cap_most (length t) in omega arith
 
 pub append-requires : goal.append-requires
 append-requires c =

@@ -4,7 +4,7 @@ use mathlib.Core.List.{List}
 use lib.ListN.{length}
 use borrow.Author.Tests.{lt-ltb, le-ltb}
 use Rattle.tables.specs.Table.{row_at, capacity_of, bucket_of}
-use Rattle.journal.specs.Undo.{row_hash_of, undo_of, off_of}
+use Rattle.journal.specs.Undo.{width_by, row_hash_of, undo_of, off_of}
 use Rattle.tables.specs.declared.Row.{Row}
 use Rattle.journal.proofs.undo.take_off.Goals as goal
 
@@ -20,7 +20,7 @@ module _ (w : ℕ) (t : List ℕ) (n : ℕ) {m : ℕ} (e : m ≡ capacity_of (le
 pub returns-then-n-cap : goal.returns-then-n-cap
 returns-then-n-cap c =
     let a = c.args in
-    off a.width a.t.now a.n c.capacity-cap.ensures c.if-n-cap.true c.row_at.ensures c.row_hash.ensures c.bucket-h.ensures c.unlink.ensures
+    off (width_by a.by) a.t.now a.n c.capacity-cap.ensures c.if-n-cap.true c.row_at.ensures c.row_hash.ensures c.bucket-h.ensures c.unlink.ensures
 
 pub returns-else-n-cap : goal.returns-else-n-cap
-returns-else-n-cap c = let a = c.args in none a.width a.t.now a.n c.capacity-cap.ensures c.if-n-cap.false
+returns-else-n-cap c = let a = c.args in none (width_by a.by) a.t.now a.n c.capacity-cap.ensures c.if-n-cap.false

@@ -4,4 +4,4 @@ use Rattle.tables.specs.declared.Row.{Row}
 use Rattle.tables.proofs.ranges.newest.Goals as goal
 
 pub returns : goal.returns
-returns c = let a = c.args in c.newest.ensures ∙ ap (λ (q : Row). newest_of 1 a.t.now q) c.row_of_start.ensures
+returns c = let a = c.args in c.newest.ensures ∙ ap (λ (q : Row). newest_of 1 a.t.now q) c.start_row.ensures
