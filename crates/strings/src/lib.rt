@@ -5,13 +5,13 @@
 ghost use Rattle.std.specs.Prelude.{◌≡◌, ◌&&◌, ◌+◌, ◌≤◌, leb, ltb, length, take, drop};
 ghost use Rattle.std.proofs.lemmas.List.Edits.{sets};
 ghost use Rattle.text.specs.Leb128.{encoded};
-ghost use Rattle.tables.specs.Table.{capacity_of, found_of, link_at, same_words, walk};
+ghost use Rattle.tables.specs.Table.{capacity_of, found_of, same_words};
 ghost use Rattle.strings.specs.Strings.{text_capacity_of, stored_text, text_at_lem, newest_text, find_text, full_of, store_of, insert_text_of, strings_left};
 ghost use Rattle.strings.specs.Strings.{max_bytes, mixed, text_hash};
 
 use slices::copy;
-use tables::Row;
 use tables::kinds::IndexedText;
+use tables::{Probe, Row};
 use text::leb128::{leb128_len, write_leb128};
 
 // A string section has room for so many bytes at most.
@@ -147,41 +147,35 @@ pub fn newest(strings: &[u32], t: &[u8]) -> u32
     tables::head_of(strings, hash(t))
 }
 
-// The number of the row whose text is t among the first n.
-fn find(text: &[u8], strings: &[u32], n: u32, t: &[u8], hash: u32) -> Option<u32>
-    requires { hash ≡ text_hash t.now }
-    ensures { result ≡ found_of n (find_text text.now strings.now n t.now) }
-{
-    follow(text, strings, n, tables::head_of(strings, hash), t, hash)
+// A text that is looked for among those of the section, and its hash.
+#[derive(Clone, Copy)]
+struct Wanted<'a> {
+    section: &'a [u8],
+    t: &'a [u8],
+    hash: u32,
+    ghost hashed: { hash ≡ text_hash t.now },
 }
 
-// The same, along the chain that starts at link l. Row numbers must fall on the way, so it ends on any content.
-fn follow(text: &[u8], strings: &[u32], n: u32, l: u32, t: &[u8], hash: u32) -> Option<u32>
-    requires { hash ≡ text_hash t.now }
-    ensures { result ≡ found_of n (walk (link_at strings.now) (text_at_lem text.now strings.now t.now) n n l) }
-{
-    let mut bound = n;
-    let mut at = l;
-    // no `for`: a chain of links is followed, which counts nothing
-    while 0 < at && at <= bound {
-        let i = at - 1;
-        if is_text(text, strings, i, t, hash) {
-            return Some(i);
-        }
-        bound = i;
-        at = tables::link_at(strings, i);
+impl<'a> Probe for Wanted<'a> {
+    ghost hits = { λ w strings i. text_at_lem w.section.now strings w.t.now i };
+
+    // The hash and the length are looked at first.
+    #[tactic(auto, unfolding(crate::specs::Strings::text_at_lem, crate::specs::Strings::is_text))]
+    fn hits(&self, strings: &[u32], i: u32) -> bool {
+        let found = IndexedText::from(tables::row_at(strings, i));
+        found.hash == self.hash
+            && found.len as usize == self.t.len()
+            && same_at(self.section, found.start as usize, self.t)
     }
-    None
 }
 
-// Whether the text of row i is t: its hash and its length are looked at first.
-#[tactic(auto, unfolding(crate::specs::Strings::text_at_lem, crate::specs::Strings::is_text))]
-fn is_text(text: &[u8], strings: &[u32], i: u32, t: &[u8], hash: u32) -> bool
+// The number of the row whose text is t among the first n.
+fn find(section: &[u8], strings: &[u32], n: u32, t: &[u8], hash: u32) -> Option<u32>
     requires { hash ≡ text_hash t.now }
-    ensures { result ≡ text_at_lem text.now strings.now t.now i }
+    ensures { result ≡ found_of n (find_text section.now strings.now n t.now) }
 {
-    let found = IndexedText::from(tables::row_at(strings, i));
-    found.hash == hash && found.len as usize == t.len() && same_at(text, found.start as usize, t)
+    let wanted = Wanted { section, t, hash };
+    tables::follow(strings, n, tables::head_of(strings, hash), &wanted)
 }
 
 // Whether the bytes from start on begin with t.

@@ -6,7 +6,7 @@
 // The caller keeps the count of rows. Any content and any count is taken. A row that there is no room for makes the count capacity + 1, and there it stays.
 #![tactic(auto)]
 
-ghost use Rattle.std.specs.Prelude.{◌≡◌, ◌<◌, length};
+ghost use Rattle.std.specs.Prelude.{◌≡◌, ◌<◌, ℕ, Bool, List, length};
 ghost use Rattle.std.proofs.lemmas.List.Edits.{sets};
 ghost use Rattle.tables.specs.Table.{max_rows, capacity_of, words_at, row_words, row_of, row_at, set_row, link_at, head_at, head_of, append_of};
 ghost use Rattle.tables.specs.Table.{over_of, push_of, bucket_of, walk, width_of, key_of, hash_of, hit_at, found_of, newest_of, lookup_of, insert_of, left};
@@ -210,23 +210,41 @@ pub fn hash(k: Row) -> u32
     (s % 4294966769) as u32 / 512 * 512 + k.a % 4096 / 16
 }
 
-// Whether row i has the key k: its first word is looked at first.
-fn hit(t: &[u32], i: u32, k: Row, key: Key) -> bool
-    ensures { result ≡ hit_at t.now (width_of key) k i }
-{
-    word(t, (i as usize) * ROW) == k.a && key.of(row_at(t, i)) == k
+// What a row is looked for by, along a chain.
+pub trait Probe {
+    // Whether row i of a table is such a row.
+    ghost hits: { Self → List ℕ → ℕ → Bool };
+
+    fn hits(&self, t: &[u32], i: u32) -> bool
+        ensures { result ≡ hits self.now t.now i };
 }
 
-// The row below n with the key k, along the chain that starts at link l. Row numbers must fall on the way, so it ends on any content.
-fn find(t: &[u32], n: u32, l: u32, k: Row, key: Key) -> Option<u32>
-    ensures { result ≡ found_of n (walk (link_at t.now) (hit_at t.now (width_of key) k) n n l) }
+// A row by the words of its key.
+#[derive(Clone, Copy)]
+struct Keyed {
+    key: Key,
+    words: Row,
+}
+
+impl Probe for Keyed {
+    ghost hits = { λ k t i. hit_at t (width_of k.key) k.words i };
+
+    // The first word is looked at first.
+    fn hits(&self, t: &[u32], i: u32) -> bool {
+        word(t, (i as usize) * ROW) == self.words.a && self.key.of(row_at(t, i)) == self.words
+    }
+}
+
+// The newest row below n that is looked for, along the chain that starts at link l. Row numbers must fall on the way, so it ends on any content.
+pub fn follow<P: Probe>(t: &[u32], n: u32, l: u32, probe: &P) -> Option<u32>
+    ensures { result ≡ found_of n (walk (link_at t.now) (P.hits probe.now t.now) n n l) }
 {
     let mut bound = n;
     let mut at = l;
     // No `for`: a chain of links is followed, which counts nothing.
     while 0 < at && at <= bound {
         let i = at - 1;
-        if hit(t, i, k, key) {
+        if probe.hits(t, i) {
             return Some(i);
         }
         bound = i;
@@ -246,8 +264,8 @@ fn newest(t: &[u32], row: Row, key: Key) -> u32
 pub fn lookup(t: &[u32], n: u32, row: Row, key: Key) -> Option<u32>
     ensures { result ≡ found_of n (lookup_of (width_of key) t.now n row) }
 {
-    let l = newest(t, row, key);
-    find(t, n, l, key.of(row), key)
+    let words = key.of(row);
+    follow(t, n, newest(t, row, key), &Keyed { key, words })
 }
 
 // The number of the row with the key of `row`, which is appended where there is none. With no room nothing is written, and the count is capacity + 1.
@@ -255,10 +273,10 @@ fn insert(t: &mut [u32], n: u32, row: Row, key: Key) -> Inserted
     ensures { left result t.new ≡ insert_of (width_of key) t.old n row }
 {
     let cap = capacity(t);
-    let k = key.of(row);
-    let h = bucket(hash(k), cap);
+    let words = key.of(row);
+    let h = bucket(hash(words), cap);
     let l = head_at(t, cap, h);
-    if let Some(index) = find(t, n, l, k, key) {
+    if let Some(index) = follow(t, n, l, &Keyed { key, words }) {
         return Inserted { index, count: n };
     }
     if n < cap {

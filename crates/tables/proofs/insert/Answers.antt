@@ -47,8 +47,8 @@ module _ (w : ℕ) (t : List ℕ) (n : ℕ) (q : Row) {k : Row} {cap x h l : ℕ
 pub returns-in-Some : goal.returns-in-Some
 returns-in-Some c =
     let a = c.args in
-    found (width_of a.key) a.t.now a.n a.row c.capacity-cap.ensures c.of-k.ensures c.hash.ensures c.bucket-h.ensures c.head_at-l.ensures
-    c.find.ensures c.in-Some.is
+    found (width_of a.key) a.t.now a.n a.row c.capacity-cap.ensures c.of-words.ensures c.hash.ensures c.bucket-h.ensures c.head_at-l.ensures
+    c.follow.ensures c.in-Some.is
 
 pub append-requires : goal.append-requires
 append-requires c = let m = cap_most (length c.args.t.now) in omega (arith, m)
@@ -56,11 +56,11 @@ append-requires c = let m = cap_most (length c.args.t.now) in omega (arith, m)
 pub returns-then-n-cap : goal.returns-then-n-cap
 returns-then-n-cap c =
     let a = c.args in
-    stored (width_of a.key) a.t.now a.n a.row c.capacity-cap.ensures c.of-k.ensures c.hash.ensures c.bucket-h.ensures c.head_at-l.ensures
-    c.find.ensures c.in_default.is c.if-n-cap.true c.append.ensures
+    stored (width_of a.key) a.t.now a.n a.row c.capacity-cap.ensures c.of-words.ensures c.hash.ensures c.bucket-h.ensures c.head_at-l.ensures
+    c.follow.ensures c.in_default.is c.if-n-cap.true c.append.ensures
 
 pub returns : goal.returns
 returns c =
     let a = c.args in
-    full (width_of a.key) a.t.now a.n a.row c.capacity-cap.ensures c.of-k.ensures c.hash.ensures c.bucket-h.ensures c.head_at-l.ensures
-    c.find.ensures c.in_default.is c.if-n-cap.false c.over-count.ensures
+    full (width_of a.key) a.t.now a.n a.row c.capacity-cap.ensures c.of-words.ensures c.hash.ensures c.bucket-h.ensures c.head_at-l.ensures
+    c.follow.ensures c.in_default.is c.if-n-cap.false c.over-count.ensures

@@ -13,4 +13,4 @@ law w t n q e1 e2 e3 = rw (e3, e2, e1)
 pub returns : goal.returns
 returns c =
     let a = c.args in
-    law (width_of a.key) a.t.now a.n a.row c.newest-l.ensures c.of.ensures c.find.ensures
+    law (width_of a.key) a.t.now a.n a.row c.newest.ensures c.of-words.ensures c.follow.ensures

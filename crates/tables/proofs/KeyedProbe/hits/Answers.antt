@@ -8,7 +8,7 @@ use borrow.Author.Tests.{ne_eqb}
 use Rattle.tables.specs.Table.{width_of, hit_at, row_at, key_of, same_row}
 use Rattle.tables.specs.declared.Row.{Row}
 use Rattle.tables.proofs.Rows.{equal_same}
-use Rattle.tables.proofs.hit.Goals as goal
+use Rattle.tables.proofs.KeyedProbe.hits.Goals as goal
 
 hit-law : (t : List ℕ) (w : ℕ) (k : Row) (i : ℕ) {r x : Row} {s : Bool} → r ≡ row_at t i → x ≡ key_of w r → s ≡ same_row x k → s ≡ hit_at t w k i
 unfolding hit_at
@@ -34,10 +34,10 @@ miss-law : (t : List ℕ) (w : ℕ) (k : Row) (i : ℕ) {a : ℕ} → a ≡ get_
 unfolding hit_at
 miss-law t w k i e n = sym (same_not (key_of w (row_at t i)) k (rw (key-first w (row_at t i), row_first t i, ← e) n))
 
-pub returns-then-word-k : goal.returns-then-word-k
-returns-then-word-k c = let a = c.args in hit-law a.t.now (width_of a.key) a.k a.i c.row_at.ensures c.of.ensures (c.eq.ensures ∙ equal_same c.of.result a.k)
+pub returns-then-word-self : goal.returns-then-word-self
+returns-then-word-self c = let a = c.args in hit-law a.t.now (width_of a.self.now.key) a.self.now.words a.i c.row_at.ensures c.of.ensures (c.eq.ensures ∙ equal_same c.of.result a.self.now.words)
 
-pub returns-else-word-k : goal.returns-else-word-k
-returns-else-word-k c =
+pub returns-else-word-self : goal.returns-else-word-self
+returns-else-word-self c =
     let a = c.args in
-    ne_eqb c.word.result a.k.a c.if-word-k.false ∙ miss-law a.t.now (width_of a.key) a.k a.i c.word.ensures c.if-word-k.false
+    ne_eqb c.word.result a.self.now.words.a c.if-word-self.false ∙ miss-law a.t.now (width_of a.self.now.key) a.self.now.words a.i c.word.ensures c.if-word-self.false
