@@ -13,7 +13,7 @@ ghost use Rattle.c_trees.specs.Unpacked.{unpacked_call};
 use c_words::record::{load, store_answer};
 use memory::{Lengths, is_usable};
 use refusals::SYMCACHE_SCRATCH_TOO_SMALL;
-use slices::{zero, zero64};
+use slices::zero;
 
 // A tree: 0, or 19, 13, 25, 14, 15, 16, 17.
 pub fn process_symbolic_function(
@@ -156,7 +156,7 @@ pub fn process_unpacked(
         &unpacked32[..lines * 14],
         text,
     );
-    zero64(unpacked64);
+    zero(unpacked64);
     zero(unpacked32);
     code
 }

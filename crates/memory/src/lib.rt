@@ -19,7 +19,7 @@ ghost use Rattle.memory.specs.Record.{
   begin_of,
 };
 
-use slices::{zero, zero_bytes};
+use slices::zero;
 
 // How much of each lent table is in use.
 #[derive(Clone, Copy)]
@@ -257,7 +257,7 @@ pub fn zero_tables(
         functions.new call_locations.new ranges.new in
         after ≡ zeroed before }
 {
-    zero_bytes(string_bytes);
+    zero(string_bytes);
     zero(strings);
     zero(files);
     zero(functions);

@@ -37,4 +37,4 @@ returns c =
     a.scratch.now a.unpacked64.now a.unpacked32.now a.functions64.now a.functions32.now a.text.now
     c.if-refused-ne0.false c.if-lines-unpacked64.false c.if-lines-unpacked32.false
     {o = call_left c.process_symbolic_function-code.result c.process_symbolic_function-code.new.record (memory c.process_symbolic_function-code.new.string_bytes c.process_symbolic_function-code.new.strings c.process_symbolic_function-code.new.files c.process_symbolic_function-code.new.functions c.process_symbolic_function-code.new.call_locations c.process_symbolic_function-code.new.ranges) c.process_symbolic_function-code.new.scratch}
-    c.process_symbolic_function-code.ensures c.zero64.ensures c.zero.ensures
+    c.process_symbolic_function-code.ensures c.zero.ensures c.zero-2.ensures

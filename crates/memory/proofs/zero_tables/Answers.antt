@@ -3,4 +3,4 @@ use Rattle.memory.specs.Memory.{memory}
 use Rattle.memory.proofs.zero_tables.Goals as goal
 
 pub returns : goal.returns
-returns c = λ j. memory (c.zero_bytes.ensures j) (c.zero.ensures j) (c.zero-2.ensures j) (c.zero-3.ensures j) (c.zero-4.ensures j) (c.zero-5.ensures j)
+returns c = λ j. memory (c.zero.ensures j) (c.zero-2.ensures j) (c.zero-3.ensures j) (c.zero-4.ensures j) (c.zero-5.ensures j) (c.zero-6.ensures j)
