@@ -7,7 +7,7 @@ ghost use Rattle.symcache.specs.Answers.{refusal_of, parse_answer};
 ghost use Rattle.c_reading.specs.Stored.{stored};
 ghost use Rattle.c_reading.specs.Reading.{filled, cache_words, refused, cached, parse_call, open_call};
 
-use slices::put64;
+use slices::put;
 use symcache::{ErrorKind, Parsed, SymCache};
 
 // Where a table lies and how many rows it has: words k and k + 1.
@@ -16,8 +16,8 @@ fn put_table(cache: &mut [u64], k: u32, at: usize, n: u32)
 {
     let k0 = k as usize;
     let k1 = k0 + 1;
-    put64(cache, k0, at as u64);
-    put64(cache, k1, n as u64);
+    put(cache, k0, at as u64);
+    put(cache, k1, n as u64);
 }
 
 // The words of a cache: offset and count of the files, functions, source locations and ranges, then where the texts lie and how many bytes they have.
@@ -37,8 +37,8 @@ fn put_refusal(cache: &mut [u64], kind: ErrorKind) -> u32
 {
     match kind {
         ErrorKind::UnexpectedStringBytes { expected, found } => {
-            put64(cache, 0, expected as u64);
-            put64(cache, 1, found as u64);
+            put(cache, 0, expected as u64);
+            put(cache, 1, found as u64);
             10
         }
         _ => kind.number(),

@@ -7,20 +7,20 @@ ghost use Rattle.c_reading.specs.Reading.{filled, answered, part_words, string_c
 
 use file_texts::GotString;
 use lookup::GotFunction;
-use slices::put64;
+use slices::put;
 
 fn put_string(part: &mut [u64], string: GotString) -> u32
     ensures { filled result part.new ≡ answered part_words (string_answer string) part.old }
 {
     match string {
         GotString::At { start, len } => {
-            put64(part, 0, 1);
-            put64(part, 1, start as u64);
-            put64(part, 2, len as u64);
+            put(part, 0, 1);
+            put(part, 1, start as u64);
+            put(part, 2, len as u64);
             0
         }
         GotString::Absent => {
-            put64(part, 0, 0);
+            put(part, 0, 0);
             0
         }
         GotString::Refused(kind) => kind.number(),

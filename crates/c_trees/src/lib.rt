@@ -16,7 +16,7 @@ use c_words::record::{load, store_answer};
 use errors::Refusal;
 use memory::{Lengths, Tables, is_usable};
 use rows::{FunctionRows, LineRow, LineRows, OptionalPart};
-use slices::{zero, zero64};
+use slices::zero;
 
 // A tree.
 pub fn process_symbolic_function(
@@ -128,7 +128,7 @@ pub fn process_unpacked(
         columns32: &unpacked32[..lines * 14],
     };
     let answer = process_symbolic_function(record, tables, scratch, functions, line_rows, text);
-    zero64(unpacked64);
+    zero(unpacked64);
     zero(unpacked32);
     answer
 }

@@ -9,14 +9,14 @@ ghost use Rattle.c_words.specs.Writing.{left_file, serialize_call};
 use crate::record::load;
 use errors::Refusal;
 use memory::Lent;
-use slices::put64;
+use slices::put;
 
 // The length of a file that was written.
 pub fn put_len(len: &mut [u64], written: Result<usize, Refusal>)
     ensures { len.new ≡ len_words (code_of written) (len_of written) len.old }
 {
     if let Ok(n) = written {
-        put64(len, 0, n as u64);
+        put(len, 0, n as u64);
     }
 }
 

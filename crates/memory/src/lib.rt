@@ -19,7 +19,7 @@ ghost use Rattle.memory.specs.Record.{
   begin_of,
 };
 
-use slices::{zero, zero_bytes};
+use slices::zero;
 
 // How much of each lent table is in use.
 #[derive(Clone, Copy)]
@@ -131,7 +131,7 @@ impl Tables<'_> {
         ensures state { self.new.state ≡ self.old.state }
         ensures zeroed { memory_of self.new ≡ zeroed (memory_of self.old) }
     {
-        zero_bytes(self.string_bytes);
+        zero(self.string_bytes);
         zero(self.strings);
         zero(self.files);
         zero(self.functions);

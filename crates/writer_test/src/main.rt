@@ -306,10 +306,9 @@ fn replay_all<F: Read>(
         record,
     );
     for _ in 0..u32::MAX {
-        let got = replay::read_record(from, record);
-        if !got.some {
+        let Some(n) = replay::read_record(from, record) else {
             break;
-        }
+        };
         now = step(
             rt,
             now,
@@ -319,7 +318,7 @@ fn replay_all<F: Read>(
             functions,
             call_locations,
             ranges,
-            first_bytes(record, got.len),
+            first_bytes(record, n),
         );
     }
 }

@@ -33,7 +33,7 @@ not-ten kind.UnorderedRanges h e = omega arith
 pub returns-in-UnexpectedStringBytes : goal.returns-in-UnexpectedStringBytes
 returns-in-UnexpectedStringBytes c =
     let a = c.args in
-    ten a.kind c.in-UnexpectedStringBytes.expected c.in-UnexpectedStringBytes.found a.cache.now c.in-UnexpectedStringBytes.is c.put64.ensures c.put64-in-UnexpectedStringBytes.ensures
+    ten a.kind c.in-UnexpectedStringBytes.expected c.in-UnexpectedStringBytes.found a.cache.now c.in-UnexpectedStringBytes.is c.put.ensures c.put-in-UnexpectedStringBytes.ensures
 
 pub returns-in_default : goal.returns-in_default
 returns-in_default c =

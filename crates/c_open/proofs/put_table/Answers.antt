@@ -8,4 +8,4 @@ use Rattle.c_open.proofs.put_table.Goals as goal
 pub returns : goal.returns
 returns c =
     let a = c.args in
-    puts a.cache.now a.k (a.at ∷ a.n ∷ []) (put (a.k + 1) (omega arith) c.put64.ensures (put (a.k + 1 + 1) (omega arith) c.put64-2.ensures done))
+    puts a.cache.now a.k (a.at ∷ a.n ∷ []) (put (a.k + 1) (omega arith) c.put.ensures (put (a.k + 1 + 1) (omega arith) c.put-2.ensures done))

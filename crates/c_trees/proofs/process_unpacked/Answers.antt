@@ -34,4 +34,4 @@ returns-clause-left c =
     let a = c.args in
     unpacked_taken (code_of a.refused) a.lines a.«record».now (memory_of a.tables.now) a.scratch.now a.unpacked64.now a.unpacked32.now
     a.functions.columns64.now a.functions.columns32.now a.text.now (ap code_of c.in_ok-refused.was) c.if-lines-unpacked64.false c.if-lines-unpacked32.false
-    c.process_symbolic_function-answer.ensures.left c.zero64.ensures c.zero.ensures
+    c.process_symbolic_function-answer.ensures.left c.zero.ensures c.zero-2.ensures

@@ -6,7 +6,7 @@ use Rattle.c_words.proofs.file.put_len.Goals as goal
 
 pub returns-in-Ok : goal.returns-in-Ok
 unfolding len_words
-returns-in-Ok c = rw c.in-Ok.is c.put64.ensures
+returns-in-Ok c = rw c.in-Ok.is c.put.ensures
 
 pub returns-in_default : goal.returns-in_default
 returns-in_default c = rw c.in_default.is (len-refused _ _ _)
