@@ -11,13 +11,14 @@ ghost use Rattle.c_words.specs.Writing.{call_left, begin_call};
 use c_words::record::store;
 use errors::Refusal;
 use memory::Tables;
+use raw::{Header, Stored};
 use slices::is_set;
 
 // The first 32 bytes, zeros past the end: a header row begins with its debug id.
 fn debug_id_of(bytes: &[u8]) -> [u8; 32]
     ensures { result ≡ bytes_at 32 bytes.now 0 }
 {
-    let header = raw::header_at(bytes, 0);
+    let header = Header::read(bytes, 0);
     header.debug_id
 }
 

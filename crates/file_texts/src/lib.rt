@@ -5,6 +5,7 @@ ghost use Rattle.std.specs.Prelude.{◌≡◌};
 ghost use Rattle.text.specs.Texts.{read_text};
 ghost use Rattle.file_texts.specs.Strings.{string_answer, got_string, string_of, text_or, name_of};
 
+use raw::{Function, Stored};
 use symcache::{ErrorKind, Parsed};
 
 // Where a text lies in the file.
@@ -67,7 +68,7 @@ pub fn function_name<'a>(s: &'a [u8], stand_in: &'a [u8], function_idx: u32) -> 
         return stand_in;
     };
     if function_idx < c.num_functions {
-        let function = raw::function_at(s, c.functions + 16 * (function_idx as usize));
+        let function = Function::read(s, c.functions + 16 * (function_idx as usize));
         let from = c.strings;
         let to = from + (c.string_bytes as usize);
         return text_or(&s[from..to], stand_in, function.name_offset);

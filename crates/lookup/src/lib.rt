@@ -10,7 +10,7 @@ ghost use Rattle.lookup.specs.Lookup.{found_at, walk_from_lem, walk_at_lem, look
 ghost use Rattle.symcache.specs.Reader.{location_in_lem, function_in_lem, file_in_lem};
 ghost use Rattle.lookup.specs.Lookup.{frame_in_lem, ended, step_in_lem, stepped, got_file, got_function, next_function, functions_next, next_file, files_next};
 
-use raw::{File, Function, SourceLocation};
+use raw::{File, Function, SourceLocation, Stored};
 use symcache::{ErrorKind, Parsed, SymCache};
 
 // A walk from a source location to the one into which it was inlined, and so on: where it began, where it is, and how many steps it made.
@@ -118,7 +118,7 @@ fn location_in(s: &[u8], c: SymCache, i: u32) -> SourceLocation
     requires { c.source_locations + 16 * i < 2 ^ 64 }
     ensures { result ≡ location_in_lem s.now c i }
 {
-    raw::location_at(s, c.source_locations + 16 * (i as usize))
+    SourceLocation::read(s, c.source_locations + 16 * (i as usize))
 }
 
 // Looking up
@@ -202,7 +202,7 @@ fn function_or_missing(s: &[u8], c: SymCache, i: u32) -> Function
     ensures { (result.entry_pc ≡ entry_of (function_in_lem s.now c i)) × (result.lang ≡ language_of (function_in_lem s.now c i)) }
 {
     if i < c.num_functions {
-        return raw::function_at(s, c.functions + 16 * (i as usize));
+        return Function::read(s, c.functions + 16 * (i as usize));
     }
     Function {
         name_offset: u32::MAX,
@@ -217,7 +217,7 @@ fn frame_file(s: &[u8], c: SymCache, i: u32) -> FrameFile
     ensures { result ≡ file_of_lem (file_in_lem s.now c i) }
 {
     if i < c.num_files {
-        return FrameFile::File(raw::file_at(s, c.files + 24 * (i as usize)));
+        return FrameFile::File(File::read(s, c.files + 24 * (i as usize)));
     }
     FrameFile::None
 }
@@ -296,7 +296,7 @@ fn file_in(s: &[u8], c: SymCache, i: u32) -> GotFile
     ensures { file_answer result ≡ gives (file_in_lem s.now c i) }
 {
     if i < c.num_files {
-        return GotFile::File(raw::file_at(s, c.files + 24 * (i as usize)));
+        return GotFile::File(File::read(s, c.files + 24 * (i as usize)));
     }
     GotFile::Nothing
 }
@@ -316,7 +316,7 @@ fn function_in(s: &[u8], c: SymCache, i: u32) -> GotFunction
     ensures { function_answer result ≡ gives (function_in_lem s.now c i) }
 {
     if i < c.num_functions {
-        return GotFunction::Function(raw::function_at(s, c.functions + 16 * (i as usize)));
+        return GotFunction::Function(Function::read(s, c.functions + 16 * (i as usize)));
     }
     GotFunction::Nothing
 }
@@ -338,7 +338,7 @@ fn next_function(s: &[u8], c: SymCache, from: u32) -> FunctionStep
 {
     let mut i = from;
     while i < c.num_functions {
-        let function = raw::function_at(s, c.functions + 16 * (i as usize));
+        let function = Function::read(s, c.functions + 16 * (i as usize));
         if function.entry_pc != u32::MAX {
             return FunctionStep::Function {
                 index: i,
@@ -372,7 +372,7 @@ fn next_file(s: &[u8], c: SymCache, i: u32) -> FileStep
     if i < c.num_files {
         return FileStep::File {
             index: i,
-            file: raw::file_at(s, c.files + 24 * (i as usize)),
+            file: File::read(s, c.files + 24 * (i as usize)),
             next: Files { file_idx: i + 1 },
         };
     }

@@ -5,8 +5,8 @@ ghost use Rattle.std.specs.Prelude.{◌≡◌, ℕ, ◌+◌, ◌*◌, ◌≤◌,
 ghost use Rattle.std.proofs.lemmas.List.Edits.{sets};
 ghost use Rattle.slices.specs.Bytes.{table_bytes};
 ghost use Rattle.tables.specs.Table.{rows_of};
-ghost use Rattle.serialize.specs.Sections.{file_size, function_size, location_size, range_size, entry_size};
-ghost use Rattle.serialize.specs.Sections.{file_row, function_row, call_row, entries, entry_row, entries_at};
+ghost use Rattle.tables.specs.declared.Row.{Row};
+ghost use Rattle.serialize.specs.Sections.{location_size, range_size, entry_size, entries, entry_row, entries_at};
 ghost use Rattle.serialize.specs.Sections.{in_order, range_sections};
 ghost use Rattle.raw.specs.Rows.{version_info_bytes, header_bytes};
 ghost use Rattle.raw.specs.Head.{version_info, padding};
@@ -16,8 +16,9 @@ ghost use Rattle.serialize.specs.File.{header_of, layout_of, written_file, Ready
 
 use errors::Refusal;
 use memory::{Converter, Lent, State, is_usable};
-use raw::{File, Function, Header, Range, SourceLocation, VersionInfo};
+use raw::{File, Function, Header, Range, SourceLocation, Stored, VersionInfo};
 use slices::{copy, load_u32, store_u32};
+use tables::Row;
 use tables::kinds::RangeRow;
 
 // Magic, version and header; then the rows, of these sizes in bytes.
@@ -58,13 +59,20 @@ fn write_sections(out: &mut [u8], converter: Converter, lent: Lent)
     let state = converter.state;
     let at = lay_out(state);
     write_head(out, converter);
-    write_files(out, HEAD_SIZE, lent.files, state.files);
-    write_functions(out, at.functions, lent.functions, state.functions);
-    write_call_locations(
+    write_rows(out, HEAD_SIZE, lent.files, state.files, File::from);
+    write_rows(
+        out,
+        at.functions,
+        lent.functions,
+        state.functions,
+        Function::from,
+    );
+    write_rows(
         out,
         at.call_locations,
         lent.call_locations,
         state.call_locations,
+        SourceLocation::from,
     );
     write_sorted(out, at.locations, lent.ranges, state.ranges);
     write_padding(out, at.padding, state.ranges);
@@ -113,67 +121,42 @@ fn write_head(out: &mut [u8], converter: Converter)
     let num_source_locations = state.call_locations + state.ranges;
     let debug_id = converter.debug_id;
     let reserved = [0u8; 14];
-    raw::write_version_info(
-        out,
-        0,
-        VersionInfo {
-            magic: raw::SYMCACHE_MAGIC,
-            version: 9,
-        },
-    );
-    raw::write_header(
-        out,
-        8,
-        Header {
-            debug_id,
-            arch: converter.arch,
-            num_files: state.files,
-            num_functions: state.functions,
-            num_source_locations,
-            num_ranges: state.ranges,
-            string_bytes: state.string_bytes,
-            variable_header: 0,
-            reserved,
-        },
-    );
+    let version_info = VersionInfo {
+        magic: raw::SYMCACHE_MAGIC,
+        version: 9,
+    };
+    let header = Header {
+        debug_id,
+        arch: converter.arch,
+        num_files: state.files,
+        num_functions: state.functions,
+        num_source_locations,
+        num_ranges: state.ranges,
+        string_bytes: state.string_bytes,
+        variable_header: 0,
+        reserved,
+    };
+    version_info.write(out, 0);
+    header.write(out, VersionInfo::SIZE);
 }
 
-// `count` file rows from `at` on.
-fn write_files(out: &mut [u8], at: usize, files: &[u32], count: u32)
-    requires { at + count * file_size ≤ length out.old }
-    ensures { out.new ≡ sets out.old at (table_bytes file_row (rows_of files.now count)) }
+// The first `count` rows of a table from `at` on, each as `of` makes it.
+fn write_rows<T: Stored, F: Fn(Row) -> T>(
+    out: &mut [u8],
+    at: usize,
+    table: &[u32],
+    count: u32,
+    of: F,
+)
+    requires callable { F.IsAlwaysCallable of }
+    requires room { at + count * T.SIZE ≤ length out.old }
+    ensures { (bytes : Row → List ℕ) → ((r : Row) (x : T) → F.post of r x → T.bytes x ≡ bytes r)
+        → ((r : Row) → length (bytes r) ≡ T.SIZE)
+        → out.new ≡ sets out.old at (table_bytes bytes (rows_of table.now count)) }
 {
-    let mut i: u32 = 0;
-    while i < count {
-        let file = File::from(tables::row_at(files, i));
-        raw::write_file(out, at + (i as usize) * FILE_SIZE, file);
-        i += 1;
-    }
-}
-
-// `count` function rows from `at` on.
-fn write_functions(out: &mut [u8], at: usize, functions: &[u32], count: u32)
-    requires { at + count * function_size ≤ length out.old }
-    ensures { out.new ≡ sets out.old at (table_bytes function_row (rows_of functions.now count)) }
-{
-    let mut i: u32 = 0;
-    while i < count {
-        let function = Function::from(tables::row_at(functions, i));
-        raw::write_function(out, at + (i as usize) * FUNCTION_SIZE, function);
-        i += 1;
-    }
-}
-
-// `count` call locations from `at` on.
-fn write_call_locations(out: &mut [u8], at: usize, call_locations: &[u32], count: u32)
-    requires { at + count * location_size ≤ length out.old }
-    ensures { out.new ≡ sets out.old at (table_bytes call_row (rows_of call_locations.now count)) }
-{
-    let mut i: u32 = 0;
-    while i < count {
-        let location = SourceLocation::from(tables::row_at(call_locations, i));
-        raw::write_location(out, at + (i as usize) * LOCATION_SIZE, location);
-        i += 1;
+    for i in 0..count {
+        let row = of(tables::row_at(table, i));
+        row.write(out, at + (i as usize) * T::SIZE);
     }
 }
 
@@ -204,11 +187,9 @@ fn write_entries(out: &mut [u8], at: usize, ranges: &[u32], count: u32)
     requires { at + count * entry_size ≤ length out.old }
     ensures { out.new ≡ sets out.old at (table_bytes entry_row (entries 0 (rows_of ranges.now count))) }
 {
-    let mut i: u32 = 0;
-    while i < count {
+    for i in 0..count {
         let start = RangeRow::from(tables::row_at(ranges, i)).start;
         write_entry(out, at + (i as usize) * ENTRY_SIZE, start, i);
-        i += 1;
     }
 }
 
@@ -221,15 +202,12 @@ fn write_ranges(out: &mut [u8], at: usize, ranges: &[u32], count: u32)
 {
     let entries = at + (count as usize) * ENTRY_SIZE;
     let starts = at + (count as usize) * LOCATION_SIZE;
-    let mut i: u32 = 0;
-    while i < count {
-        let k = i as usize;
+    for k in 0..count as usize {
         let start = load_u32(out, entries + k * ENTRY_SIZE);
         let row = load_u32(out, entries + k * ENTRY_SIZE + RANGE_SIZE);
         let l = RangeRow::from(tables::row_at(ranges, row)).location;
-        raw::write_range(out, starts + k * RANGE_SIZE, Range(start));
-        raw::write_location(out, at + k * LOCATION_SIZE, l);
-        i += 1;
+        Range(start).write(out, starts + k * RANGE_SIZE);
+        l.write(out, at + k * LOCATION_SIZE);
     }
 }
 

@@ -6,7 +6,7 @@ use lookup::{
     FileStep, Files, Frame, FrameFile, FunctionStep, Functions, GotFile, GotFunction, LookedUp,
     SourceLocations, Step,
 };
-use raw::{File, Function, Header, SourceLocation};
+use raw::{File, Function, Header, SourceLocation, Stored};
 use replay::{add, add_bytes, low, number, place, word};
 use std::fs;
 use std::io::Read;
@@ -110,7 +110,7 @@ fn add_location(sum: u32, l: SourceLocation) -> u32 {
 fn add_location_rows(sum: u32, s: &[u8], at: usize, n: u32) -> u32 {
     let mut now = sum;
     for i in 0..n {
-        now = add_location(now, raw::location_at(s, place(at, 16 * (i as usize))));
+        now = add_location(now, SourceLocation::read(s, place(at, 16 * (i as usize))));
     }
     now
 }
@@ -144,7 +144,7 @@ fn add_counts(sum: u32, c: SymCache) -> u32 {
 fn add_cache(sum: u32, s: &[u8], c: SymCache) -> u32 {
     let sum = add(sum, 0);
     let sum = add_counts(sum, c);
-    let sum = add_header(sum, raw::header_at(s, 8));
+    let sum = add_header(sum, Header::read(s, 8));
     add_rows(sum, s, c)
 }
 

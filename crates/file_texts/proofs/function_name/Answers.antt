@@ -21,7 +21,7 @@ slice_bounds-text_or-end c = (((parsed-within c.args.s.now c.in-Cache.c ((sym c.
 pub returns-then-function_idx-c : goal.returns-then-function_idx-c
 returns-then-function_idx-c c =
     let a = c.args in
-    name-given a.s.now c.in-Cache.c ((sym c.parse.ensures ∙ ap parse_answer c.in-Cache.is)) a.stand_in.now a.function_idx c.function_at-function.result _ c.if-function_idx-c.true c.function_at-function.ensures c.text_or.ensures
+    name-given a.s.now c.in-Cache.c ((sym c.parse.ensures ∙ ap parse_answer c.in-Cache.is)) a.stand_in.now a.function_idx c.read-function.result _ c.if-function_idx-c.true c.read-function.ensures c.text_or.ensures
 
 pub returns : goal.returns
 returns c =

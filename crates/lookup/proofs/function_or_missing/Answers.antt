@@ -6,7 +6,7 @@ use Rattle.lookup.proofs.function_or_missing.Goals as goal
 
 pub returns-then-i-c : goal.returns-then-i-c
 unfolding function_in_lem
-returns-then-i-c c = rw (lt-ltb c.args.i c.args.c.num_functions c.if-i-c.true, c.function_at.ensures) (refl, refl)
+returns-then-i-c c = rw (lt-ltb c.args.i c.args.c.num_functions c.if-i-c.true, c.read.ensures) (refl, refl)
 
 pub returns : goal.returns
 unfolding function_in_lem

@@ -4,4 +4,4 @@ use Rattle.lookup.proofs.location_in.Goals as goal
 
 pub returns : goal.returns
 unfolding location_in_lem
-returns c = c.location_at.ensures
+returns c = c.read.ensures
