@@ -19,9 +19,9 @@ use Rattle.symcache.specs.Answers.{gives, answer_number}
 use Rattle.symcache.specs.Reader.{layout_of, parsed, opened}
 use Rattle.symcache.proofs.ReaderLaws.{parsed-within, opened-parsed}
 use Rattle.lookup.specs.declared.SourceLocations.{SourceLocations}
+use Rattle.raw.specs.declared.File.{File}
 use Rattle.lookup.specs.declared.Frame.{Frame}
-use Rattle.lookup.specs.declared.FrameFile.{FrameFile}
-use Rattle.lookup.specs.declared.FrameFile.TheVariants as frame-file
+use Rattle.std.specs.Prelude as rust
 use Rattle.lookup.specs.Lookup.{belongs_to, found_at, walk_at_lem, looked_up_lem, stepped}
 use Rattle.lookup.proofs.ByMeaning.{by_meaning}
 use Rattle.file_texts.specs.Strings.{string_of, name_of}
@@ -64,8 +64,8 @@ module _ (s d : List ℕ) (c : SymCache) (is : parsed s ≡ gives c) where
   frame-told : (t : List ℕ) (f : Frame) → 13 ≤ length t → FrameByWords s d (stored (frame_words f) t) (shown s d f)
   frame-told t f h = go f.file
     where
-      go : (g : FrameFile) → FrameByWords s d (stored (with_file f g) t) (record { name = name_of s d f.function_idx; entry = f.entry_pc; language = f.language; number = f.line; file = file_shown s g })
-      go frame-file.None =
+      go : (g : rust.Option File) → FrameByWords s d (stored (with_file f g) t) (record { name = name_of s d f.function_idx; entry = f.entry_pc; language = f.language; number = f.line; file = file_shown s g })
+      go rust.None =
           let at : (j : ℕ) → j < 7 → get_or (stored (head_words 1 f) t) j 0 ≡ get_or (head_words 1 f) j 0 = λ j l. sets_in (head_words 1 f) t 0 j j (omega arith) l (omega arith) in
           record {
             name = subst (λ (i : ℕ). Names s d (name_call s i) (name_of s d f.function_idx)) (sym (at 2 (omega arith))) (names s c is d f.function_idx);
@@ -74,7 +74,7 @@ module _ (s d : List ℕ) (c : SymCache) (is : parsed s ≡ gives c) where
             language = at 6 (omega arith);
             file = at 0 (omega arith);
           }
-      go (frame-file.File g) =
+      go (rust.Some g) =
           let ws = head_words 2 f ++ file_words_lem g in
           let at : (j : ℕ) → j < 13 → get_or (stored ws t) j 0 ≡ get_or ws j 0 = λ j l. sets_in ws t 0 j j (omega arith) l (omega arith) in
           let text : (j o : ℕ) → get_or (stored ws t) j 0 ≡ o → Tells s (string_call s (get_or (stored ws t) j 0)) (text_shown s o) =

@@ -18,7 +18,8 @@ use Rattle.symcache.specs.Answers.{Answer, gives, refuses, answer_number, Refusa
 use Rattle.symcache.specs.Reader.{tested, parsed}
 use Rattle.lookup.specs.Lookup.{got_function}
 use Rattle.symcache.specs.Reader.{function_in_lem}
-use Rattle.file_texts.specs.Strings.{Part, section_of, placed, got_string, or_else, string_of, text_or, name_in, name_of}
+use Rattle.file_texts.specs.declared.Part.{Part}
+use Rattle.file_texts.specs.Strings.{section_of, placed, got_string, or_else, string_of, text_or, name_in, name_of}
 use Rattle.read_back.specs.Shown.{part_of, text_shown, name_or}
 use Rattle.c_reading.specs.Reading.{answered, part_words, string_call, name_after, got_name, name_call, text_told}
 use Rattle.c_reading.proofs.Numbers.{answered-number}

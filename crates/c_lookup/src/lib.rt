@@ -9,9 +9,9 @@ ghost use Rattle.c_reading.specs.Reading.{filled, moved, answered, steps_to, cou
 ghost use Rattle.c_reading.specs.Reading.{find_call, walk_words, walk_of, walk_call, lookup_call, head_words, frame_words, framed_words, framed_next, next_call};
 
 use c_reading::put_file;
-use lookup::{Frame, FrameFile, LookedUp, SourceLocations, Step};
+use lookup::{Frame, SourceLocations, Step};
 use slices::{put, word};
-use symcache::SymCache;
+use symcache::{ErrorKind, SymCache};
 
 // A count: its word cut to 32 bits.
 fn count(cache: &[u64], j: usize) -> u32
@@ -26,6 +26,7 @@ fn offset(cache: &[u64], j: usize) -> usize
     word(cache, j) as usize
 }
 
+#[tactic(auto, unfolding(c_reading::specs::Reading::cache_of))]
 fn cache_of(cache: &[u64]) -> SymCache
     ensures { result ≡ cache_of cache.now }
 {
@@ -44,10 +45,11 @@ fn cache_of(cache: &[u64]) -> SymCache
 }
 
 // The index of the source location that an address belongs to, or MAX.
+#[tactic(auto, unfolding(c_reading::specs::Reading::find_call))]
 pub fn find(bytes: &[u8], cache: &[u64], addr: u64) -> u32
     ensures { result ≡ find_call bytes.now cache.now addr }
 {
-    lookup::find(bytes, cache_of(cache), addr)
+    lookup::find(bytes, cache_of(cache), addr).unwrap_or(u32::MAX)
 }
 
 // The words of a walk.
@@ -60,6 +62,7 @@ fn put_walk(cursor: &mut [u32], walk: SourceLocations)
 }
 
 // A cursor of fewer than three words is a walk that has ended.
+#[tactic(auto, unfolding(c_reading::specs::Reading::walk_of))]
 fn walk_of(cursor: &[u32]) -> SourceLocations
     ensures { result ≡ walk_of cursor.now }
 {
@@ -78,6 +81,7 @@ fn walk_of(cursor: &[u32]) -> SourceLocations
 }
 
 // The walk of the frames of an address, in a file that was opened: the index at which it begins, or MAX.
+#[tactic(auto, unfolding(c_reading::specs::Reading::walk_call))]
 pub fn walk(bytes: &[u8], cache: &[u64], addr: u64, cursor: &mut [u32]) -> u32
     ensures { filled result cursor.new ≡ walk_call bytes.now cache.now addr cursor.old }
 {
@@ -86,19 +90,21 @@ pub fn walk(bytes: &[u8], cache: &[u64], addr: u64, cursor: &mut [u32]) -> u32
     walk.current
 }
 
-fn put_looked_up(cursor: &mut [u32], found: LookedUp) -> u32
+#[tactic(auto, unfolding(c_reading::specs::Reading::answered))]
+fn put_looked_up(cursor: &mut [u32], found: Result<SourceLocations, ErrorKind>) -> u32
     ensures { filled result cursor.new ≡ answered walk_words (lookup_answer found) cursor.old }
 {
     match found {
-        LookedUp::Walk(walk) => {
+        Ok(walk) => {
             put_walk(cursor, walk);
             0
         }
-        LookedUp::Refused(kind) => kind.number(),
+        Err(kind) => kind.number(),
     }
 }
 
 // Looks an address up: 1 to 12, or 0 and the walk of its frames.
+#[tactic(auto, unfolding(c_reading::specs::Reading::lookup_call))]
 pub fn lookup(bytes: &[u8], addr: u64, cursor: &mut [u32]) -> u32
     ensures { filled result cursor.new ≡ lookup_call bytes.now addr cursor.old }
 {
@@ -122,35 +128,36 @@ fn put_head(frame: &mut [u32], kind: u32, f: Frame)
 fn put_frame(frame: &mut [u32], f: Frame)
     ensures { frame.new ≡ stored (frame_words f) frame.old }
 {
-    let file = f.file;
-    match file {
-        FrameFile::None => put_head(frame, 1, f),
-        FrameFile::File(g) => {
+    match f.file {
+        None => put_head(frame, 1, f),
+        Some(file) => {
             put_head(frame, 2, f);
-            put_file(frame, 7, g);
+            put_file(frame, 7, file);
         }
     }
 }
 
-fn put_step(cursor: &mut [u32], frame: &mut [u32], step: Step) -> u32
+#[tactic(auto, unfolding(c_reading::specs::Reading::steps_to))]
+fn put_step(cursor: &mut [u32], frame: &mut [u32], step: Result<Option<Step>, ErrorKind>) -> u32
     ensures { moved result cursor.new frame.new
         ≡ steps_to framed_next framed_words (step_answer step) cursor.old frame.old }
 {
     match step {
-        Step::Frame { frame: f, next } => {
+        Ok(Some(Step { frame: f, next })) => {
             put_walk(cursor, next);
             put_frame(frame, f);
             0
         }
-        Step::End => {
+        Ok(None) => {
             put(frame, 0, 0);
             0
         }
-        Step::Refused(kind) => kind.number(),
+        Err(kind) => kind.number(),
     }
 }
 
 // The next frame of a walk, and the walk after it; or its end.
+#[tactic(auto, unfolding(c_reading::specs::Reading::next_call))]
 pub fn next(bytes: &[u8], cursor: &mut [u32], frame: &mut [u32]) -> u32
     ensures { moved result cursor.new frame.new ≡ next_call bytes.now cursor.old frame.old }
 {

@@ -8,16 +8,15 @@ ghost use Rattle.c_reading.specs.Stored.{stored};
 ghost use Rattle.c_reading.specs.Reading.{filled, cache_words, refused, cached, parse_call, open_call};
 
 use slices::put;
-use symcache::{ErrorKind, Parsed, SymCache};
+use symcache::{ErrorKind, SymCache};
 
 // Where a table lies and how many rows it has: words k and k + 1.
 fn put_table(cache: &mut [u64], k: u32, at: usize, n: u32)
     ensures { cache.new ≡ sets cache.old k (at ∷ n ∷ []) }
 {
-    let k0 = k as usize;
-    let k1 = k0 + 1;
-    put(cache, k0, at as u64);
-    put(cache, k1, n as u64);
+    let k = k as usize;
+    put(cache, k, at as u64);
+    put(cache, k + 1, u64::from(n));
 }
 
 // The words of a cache: offset and count of the files, functions, source locations and ranges, then where the texts lie and how many bytes they have.
@@ -32,6 +31,7 @@ fn put_cache(cache: &mut [u64], c: SymCache)
 }
 
 // The number of a refusal; 10 stores its expected and its found count.
+#[tactic(auto, unfolding(c_reading::specs::Reading::refused))]
 fn put_refusal(cache: &mut [u64], kind: ErrorKind) -> u32
     ensures { filled result cache.new ≡ refused (refusal_of kind) cache.old }
 {
@@ -45,19 +45,21 @@ fn put_refusal(cache: &mut [u64], kind: ErrorKind) -> u32
     }
 }
 
-fn put_parsed(cache: &mut [u64], parsed: Parsed) -> u32
+#[tactic(auto, unfolding(c_reading::specs::Reading::cached))]
+fn put_parsed(cache: &mut [u64], parsed: Result<SymCache, ErrorKind>) -> u32
     ensures { filled result cache.new ≡ cached (parse_answer parsed) cache.old }
 {
     match parsed {
-        Parsed::Cache(c) => {
+        Ok(c) => {
             put_cache(cache, c);
             0
         }
-        Parsed::Refused(kind) => put_refusal(cache, kind),
+        Err(kind) => put_refusal(cache, kind),
     }
 }
 
 // Reads a file: 1 to 11, or 0 and the words of the cache. 10 stores the expected and the found count.
+#[tactic(auto, unfolding(c_reading::specs::Reading::parse_call))]
 pub fn parse(bytes: &[u8], cache: &mut [u64]) -> u32
     ensures { filled result cache.new ≡ parse_call bytes.now cache.old }
 {
@@ -65,6 +67,7 @@ pub fn parse(bytes: &[u8], cache: &mut [u64]) -> u32
 }
 
 // Reads a file to look addresses up in it: the same, and 12.
+#[tactic(auto, unfolding(c_reading::specs::Reading::open_call))]
 pub fn open(bytes: &[u8], cache: &mut [u64]) -> u32
     ensures { filled result cache.new ≡ open_call bytes.now cache.old }
 {

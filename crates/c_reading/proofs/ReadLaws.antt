@@ -12,11 +12,11 @@ use Rattle.raw.specs.declared.Function.{Function}
 use Rattle.symcache.specs.declared.SymCache.{SymCache}
 use Rattle.lookup.specs.declared.SourceLocations.{SourceLocations}
 use Rattle.lookup.specs.declared.Frame.{Frame}
-use Rattle.lookup.specs.declared.FrameFile.{FrameFile}
-use Rattle.lookup.specs.declared.FrameFile.TheVariants as frame-file
+use Rattle.std.specs.Prelude as rust
 use Rattle.symcache.specs.Answers.{Answer, gives, refuses, Refusal, and_then}
 use Rattle.lookup.specs.Lookup.{walk_from_lem, walk_at_lem, got_function}
-use Rattle.file_texts.specs.Strings.{Part, got_string}
+use Rattle.file_texts.specs.declared.Part.{Part}
+use Rattle.file_texts.specs.Strings.{got_string}
 use Rattle.c_reading.specs.Stored.{stored}
 use Rattle.c_reading.specs.Reading.{Filled, filled, moved, answered, steps_to, cache_words, count_at, cache_of, refused, cached, walk_words, walk_of, walk_call, head_words, with_file, name_after, got_name, cursor_index}
 
@@ -102,10 +102,10 @@ walk-made s t a k ec ew ek =
 
 -- ── Frames ─────────────────────────────────────────────────────────────────────────────────────────────────────────────
 
-pub frame-alone : (t : List ℕ) (f : Frame) (x : FrameFile) {t₁ : List ℕ} → x ≡ frame-file.None → t₁ ≡ stored (head_words 1 f) t → t₁ ≡ stored (with_file f x) t
+pub frame-alone : (t : List ℕ) (f : Frame) (x : rust.Option File) {t₁ : List ℕ} → x ≡ rust.None → t₁ ≡ stored (head_words 1 f) t → t₁ ≡ stored (with_file f x) t
 frame-alone t f x e h = rw e h
 
-pub frame_filed : (t : List ℕ) (f : Frame) (x : FrameFile) (g : File) {t₁ t₂ : List ℕ} → x ≡ frame-file.File g → t₁ ≡ stored (head_words 2 f) t → t₂ ≡ sets t₁ 7 (file_words_lem g) → t₂ ≡ stored (with_file f x) t
+pub frame_filed : (t : List ℕ) (f : Frame) (x : rust.Option File) (g : File) {t₁ t₂ : List ℕ} → x ≡ rust.Some g → t₁ ≡ stored (head_words 2 f) t → t₂ ≡ sets t₁ 7 (file_words_lem g) → t₂ ≡ stored (with_file f x) t
 frame_filed t f x g e h h₂ = rw (e, h₂, h)
 
 -- ── Names ──────────────────────────────────────────────────────────────────────────────────────────────────────────────

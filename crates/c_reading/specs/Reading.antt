@@ -8,13 +8,15 @@ use Rattle.raw.specs.Rows.{max32, file_words_lem, function_words_lem}
 use Rattle.symcache.specs.declared.SymCache.{SymCache}
 use Rattle.lookup.specs.declared.SourceLocations.{SourceLocations}
 use Rattle.lookup.specs.declared.Frame.{Frame}
-use Rattle.lookup.specs.declared.FrameFile.{FrameFile}
-use Rattle.lookup.specs.declared.FrameFile.TheVariants as frame-file
+use Rattle.std.specs.Prelude as rust
 use Rattle.symcache.specs.Answers.{Answer, gives, refuses, Refusal, and_then}
-use Rattle.lookup.specs.Answers.{Framed, NextFunction, NextFile}
+use Rattle.lookup.specs.declared.NextFunction.{NextFunction}
+use Rattle.lookup.specs.declared.NextFile.{NextFile}
+use Rattle.lookup.specs.Answers.{Framed}
 use Rattle.symcache.specs.Reader.{parsed, opened}
 use Rattle.lookup.specs.Lookup.{found_at, walk_from_lem, walk_at_lem, looked_up_lem, stepped, got_file, got_function, functions_next, files_next}
-use Rattle.file_texts.specs.Strings.{Part, got_string}
+use Rattle.file_texts.specs.declared.Part.{Part}
+use Rattle.file_texts.specs.Strings.{got_string}
 use Rattle.c_reading.specs.Stored.{stored}
 
 -- ── What a call leaves ─────────────────────────────────────────────────────────────────────────────────────────────────
@@ -111,9 +113,9 @@ abbrev pub head_words : ℕ → Frame → List ℕ
 head_words kind f = kind ∷ f.location_idx ∷ f.function_idx ∷ f.line ∷ f.file_idx ∷ f.entry_pc ∷ f.language ∷ []
 
 -- "7-12 the file's six text offsets in the row's order"; "without a file words 7-12 stay"
-abbrev pub with_file : Frame → FrameFile → List ℕ
-with_file f frame-file.None = head_words 1 f
-with_file f (frame-file.File g) = head_words 2 f ++ file_words_lem g
+abbrev pub with_file : Frame → rust.Option File → List ℕ
+with_file f rust.None = head_words 1 f
+with_file f (rust.Some g) = head_words 2 f ++ file_words_lem g
 
 abbrev pub frame_words : Frame → List ℕ
 frame_words f = with_file f f.file

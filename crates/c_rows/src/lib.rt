@@ -8,49 +8,55 @@ ghost use Rattle.c_reading.specs.Reading.{function_call, file_call, cursor_index
 ghost use Rattle.c_reading.specs.Reading.{files_call};
 
 use c_reading::{put_file, put_function};
-use lookup::{FileStep, Files, FunctionStep, Functions, GotFile, GotFunction};
+use lookup::{Files, Functions, NextFile, NextFunction};
+use raw::{File, Function};
 use slices::{put, word};
+use symcache::ErrorKind;
 
-fn put_got_function(row: &mut [u32], function: GotFunction) -> u32
+#[tactic(auto, unfolding(c_reading::specs::Reading::answered))]
+fn put_got_function(row: &mut [u32], function: Result<Option<Function>, ErrorKind>) -> u32
     ensures { filled result row.new ≡ answered function_answer_words (function_answer function) row.old }
 {
     match function {
-        GotFunction::Function(f) => {
+        Ok(Some(f)) => {
             put(row, 0, 1);
             put_function(row, 1, f);
             0
         }
-        GotFunction::Nothing => {
+        Ok(None) => {
             put(row, 0, 0);
             0
         }
-        GotFunction::Refused(kind) => kind.number(),
+        Err(kind) => kind.number(),
     }
 }
 
+#[tactic(auto, unfolding(c_reading::specs::Reading::function_call))]
 pub fn get_function(bytes: &[u8], function_idx: u32, row: &mut [u32]) -> u32
     ensures { filled result row.new ≡ function_call bytes.now function_idx row.old }
 {
     put_got_function(row, lookup::get_function(bytes, function_idx))
 }
 
-fn put_got_file(row: &mut [u32], file: GotFile) -> u32
+#[tactic(auto, unfolding(c_reading::specs::Reading::answered))]
+fn put_got_file(row: &mut [u32], file: Result<Option<File>, ErrorKind>) -> u32
     ensures { filled result row.new ≡ answered file_answer_words (file_answer file) row.old }
 {
     match file {
-        GotFile::File(f) => {
+        Ok(Some(f)) => {
             put(row, 0, 1);
             put_file(row, 1, f);
             0
         }
-        GotFile::Nothing => {
+        Ok(None) => {
             put(row, 0, 0);
             0
         }
-        GotFile::Refused(kind) => kind.number(),
+        Err(kind) => kind.number(),
     }
 }
 
+#[tactic(auto, unfolding(c_reading::specs::Reading::file_call))]
 pub fn get_file(bytes: &[u8], file_idx: u32, row: &mut [u32]) -> u32
     ensures { filled result row.new ≡ file_call bytes.now file_idx row.old }
 {
@@ -58,6 +64,7 @@ pub fn get_file(bytes: &[u8], file_idx: u32, row: &mut [u32]) -> u32
 }
 
 // The index from which on to look; a cursor of no words is at the end.
+#[tactic(auto, unfolding(c_reading::specs::Reading::cursor_index))]
 fn index_of(cursor: &[u32]) -> u32
     ensures { result ≡ cursor_index cursor.now }
 {
@@ -67,31 +74,41 @@ fn index_of(cursor: &[u32]) -> u32
     word(cursor, 0)
 }
 
-fn put_function_step(cursor: &mut [u32], row: &mut [u32], step: FunctionStep) -> u32
+#[tactic(auto, unfolding(c_reading::specs::Reading::steps_to))]
+fn put_function_step(
+    cursor: &mut [u32],
+    row: &mut [u32],
+    step: Result<Option<NextFunction>, ErrorKind>,
+) -> u32
     ensures { moved result cursor.new row.new
         ≡ steps_to function_next next_function_words (functions_answer step) cursor.old row.old }
 {
     match step {
-        FunctionStep::Function {
-            index,
-            function,
-            next,
-        } => {
+        Ok(
+            Some(
+                NextFunction {
+                    index,
+                    function,
+                    next,
+                },
+            ),
+        ) => {
             put(cursor, 0, next.function_idx);
             put(row, 0, 1);
             put(row, 1, index);
             put_function(row, 2, function);
             0
         }
-        FunctionStep::End => {
+        Ok(None) => {
             put(row, 0, 0);
             0
         }
-        FunctionStep::Refused(kind) => kind.number(),
+        Err(kind) => kind.number(),
     }
 }
 
 // The next function that has an entry, from the cursor on.
+#[tactic(auto, unfolding(c_reading::specs::Reading::functions_call))]
 pub fn functions_next(bytes: &[u8], cursor: &mut [u32], row: &mut [u32]) -> u32
     ensures { moved result cursor.new row.new ≡ functions_call bytes.now cursor.old row.old }
 {
@@ -101,27 +118,33 @@ pub fn functions_next(bytes: &[u8], cursor: &mut [u32], row: &mut [u32]) -> u32
     put_function_step(cursor, row, functions.next(bytes))
 }
 
-fn put_file_step(cursor: &mut [u32], row: &mut [u32], step: FileStep) -> u32
+#[tactic(auto, unfolding(c_reading::specs::Reading::steps_to))]
+fn put_file_step(
+    cursor: &mut [u32],
+    row: &mut [u32],
+    step: Result<Option<NextFile>, ErrorKind>,
+) -> u32
     ensures { moved result cursor.new row.new
         ≡ steps_to file_next next_file_words (files_answer step) cursor.old row.old }
 {
     match step {
-        FileStep::File { index, file, next } => {
+        Ok(Some(NextFile { index, file, next })) => {
             put(cursor, 0, next.file_idx);
             put(row, 0, 1);
             put(row, 1, index);
             put_file(row, 2, file);
             0
         }
-        FileStep::End => {
+        Ok(None) => {
             put(row, 0, 0);
             0
         }
-        FileStep::Refused(kind) => kind.number(),
+        Err(kind) => kind.number(),
     }
 }
 
 // The next file, from the cursor on.
+#[tactic(auto, unfolding(c_reading::specs::Reading::files_call))]
 pub fn files_next(bytes: &[u8], cursor: &mut [u32], row: &mut [u32]) -> u32
     ensures { moved result cursor.new row.new ≡ files_call bytes.now cursor.old row.old }
 {

@@ -2,7 +2,7 @@
 // for 10 the bytes of text expected and found, for 0 the counts of files, functions, source locations, ranges and bytes of text.
 #![tactic(auto)]
 
-use symcache::{ErrorKind, Parsed, SymCache};
+use symcache::{ErrorKind, SymCache};
 
 fn print_after_space(rt: &impl Print, n: u64) {
     let _ = print!(rt; " {n}");
@@ -27,10 +27,9 @@ fn print_cache(rt: &impl Print, c: SymCache) {
 }
 
 fn print_parsed(rt: &impl Print, s: &[u8]) {
-    let parsed = symcache::parse(s);
-    match parsed {
-        Parsed::Cache(c) => print_cache(rt, c),
-        Parsed::Refused(kind) => print_error(rt, kind),
+    match symcache::parse(s) {
+        Ok(c) => print_cache(rt, c),
+        Err(kind) => print_error(rt, kind),
     }
 }
 
@@ -44,11 +43,9 @@ fn print_cut(rt: &impl Print, s: &[u8], n: usize) {
 }
 
 fn print_cuts(rt: &impl Print, s: &[u8]) {
-    let all = s.len();
-    for n in 0..all {
+    for n in 0..=s.len() {
         print_cut(rt, s, n);
     }
-    print_cut(rt, s, all);
 }
 
 fn main(rt: HostRuntime) {

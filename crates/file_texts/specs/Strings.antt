@@ -1,13 +1,14 @@
 -- Texts of a file: `get_string` of v9/mod.rs and the names of v9/lookup.rs (document 01 "Texts", "Lookup").
 use Rattle.std.specs.Prelude.{ℕ, ◌+◌, List, [], take, drop}
+use Rattle.std.specs.Prelude as rust
 use Rattle.std.proofs.Math.Option.{Option, none, some}
 use Rattle.text.specs.declared.strings.Text.{Text}
 use Rattle.std.specs.Prelude as std
 use Rattle.text.specs.Texts.{read_text, text_part}
 use Rattle.symcache.specs.declared.SymCache.{SymCache}
-use Rattle.file_texts.specs.declared.GotString.{GotString}
-use Rattle.file_texts.specs.declared.GotString.TheVariants as got
-use Rattle.symcache.specs.Answers.{refusal_of, Answer, gives, refuses, and_then}
+use Rattle.file_texts.specs.declared.Part.{Part}
+use Rattle.symcache.specs.declared.ErrorKind.{ErrorKind}
+use Rattle.symcache.specs.Answers.{Answer, gives, refuses, and_then, maybe_answer}
 use Rattle.symcache.specs.Reader.{parsed}
 use Rattle.symcache.specs.Reader.{function_in_lem}
 
@@ -17,15 +18,8 @@ section_of s c = take c.string_bytes (drop c.strings s)
 
 -- ── Where a text lies ──
 
--- a part of the file's bytes
-pub record Part : Type 0 where
-  pub start : ℕ
-  pub len : ℕ
-
-abbrev pub string_answer : GotString → Answer (Option Part)
-string_answer (got.At start len) = gives (some (record { start = start; len = len }))
-string_answer got.Absent = gives none
-string_answer (got.Refused k) = refuses (refusal_of k)
+abbrev pub string_answer : rust.Result (rust.Option Part) ErrorKind → Answer (Option Part)
+string_answer r = maybe_answer r
 
 -- a part of the section that begins at `at`, as a part of the file
 unfoldable pub placed : ℕ → std.Option Text → Option Part

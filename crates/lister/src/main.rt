@@ -2,26 +2,21 @@
 // pieces over and writes.
 #![tactic(auto)]
 
-ghost use Rattle.std.specs.Prelude.{◌+◌, ◌≤◌, length};
+ghost use Rattle.std.specs.Prelude.{◌+◌, ◌≤◌, length, IfOk};
 
-use listing::{Begun, Listing};
+use listing::Listing;
 use std::io::{ErrorKind, Read};
 use std::{fs, io};
 
-// A listing, whether there may be more input, and whether output was lost.
+// Output was lost, which is said on standard error.
 #[derive(Clone, Copy)]
-struct Turn {
-    listing: Listing,
-    more: bool,
-    lost: bool,
-}
+struct Lost;
 
-// A listing, the place in a piece from which on to list, and whether output was lost.
+// A listing, and the place in a piece from which on to list.
 #[derive(Clone, Copy)]
 struct Place {
     listing: Listing,
     from: usize,
-    lost: bool,
 }
 
 // What is said on standard error
@@ -45,13 +40,13 @@ fn fail<R: Eprint + Alloc>(rt: &R, what: &str, error: io::Error) {
 
 // Output
 
-// Writes the bytes, and answers whether some were lost, which is said on standard error.
-fn send<R: Print + Eprint + Alloc>(rt: &R, bytes: &[u8]) -> bool {
+// Writes the bytes. If some are lost, that is said on standard error.
+fn send<R: Print + Eprint + Alloc>(rt: &R, bytes: &[u8]) -> Result<(), Lost> {
     match rt.write_all(bytes) {
-        Ok(()) => false,
+        Ok(()) => Ok(()),
         Err(error) => {
             fail(rt, "standard output", error);
-            true
+            Err(Lost)
         }
     }
 }
@@ -59,7 +54,7 @@ fn send<R: Print + Eprint + Alloc>(rt: &R, bytes: &[u8]) -> bool {
 fn print_refused<R: Print + Eprint + Alloc>(rt: &R, number: u32) {
     let mut out = [0u8; 11];
     printed_lines::refused_line(&mut out, 0, number);
-    send(rt, &out);
+    let _ = send(rt, &out);
 }
 
 // Input
@@ -71,20 +66,17 @@ fn list_some<R: Print + Eprint + Alloc>(
     listing: Listing,
     piece: &[u8],
     from: usize,
-) -> Place
+) -> Result<Place, Lost>
     requires { from ≤ length piece.now }
-    ensures { result.from ≤ length piece.now }
+    ensures { IfOk result (λ p. p.from ≤ length piece.now) }
 {
     let mut out = [0u8; 65536];
     let listed = listing::list(file, listing, &piece[from..], &mut out);
-    let end = listed.written;
-    let lost = send(rt, &out[..end]);
-    let listing = listed.listing;
-    Place {
-        listing,
+    send(rt, &out[..listed.written])?;
+    Ok(Place {
+        listing: listed.listing,
         from: from + listed.used,
-        lost,
-    }
+    })
 }
 
 // Lists a piece of the input until it is used up and nothing waits. The calls are counted.
@@ -93,63 +85,36 @@ fn list_piece<R: Print + Eprint + Alloc>(
     file: &[u8],
     listing: Listing,
     piece: &[u8],
-) -> Turn {
-    let mut listing = listing;
-    let mut from: usize = 0;
+) -> Result<Listing, Lost> {
+    let mut place = Place { listing, from: 0 };
     for _ in 0..u64::MAX {
-        let place = list_some(rt, file, listing, piece, from);
-        let rest = place.listing;
-        listing = rest;
-        from = place.from;
-        if place.lost {
-            return Turn {
-                listing,
-                more: false,
-                lost: true,
-            };
-        }
-        if piece.len() <= from {
-            if !listing.is_waiting() {
-                break;
-            }
+        place = list_some(rt, file, place.listing, piece, place.from)?;
+        if piece.len() <= place.from && !place.listing.is_waiting() {
+            break;
         }
     }
-    Turn {
-        listing,
-        more: true,
-        lost: false,
-    }
+    Ok(place.listing)
 }
 
-// Whether to read again after a read that failed: after one that a signal interrupted. Any other is said on standard error, and ends the input.
-fn read_again<R: Eprint + Alloc>(rt: &R, error: io::Error) -> bool {
-    if error.kind() == ErrorKind::Interrupted {
-        return true;
-    }
-    fail(rt, "standard input", error);
-    false
-}
-
-// Reads once, and lists what was read.
+// Reads once, and lists what was read; none at the end of the input. A read that a signal interrupted is tried again; any other failure is said on
+// standard error, and ends the input.
 fn read_some<R: Print + Eprint + Alloc, I: Read>(
     rt: &R,
     input: &mut I,
     file: &[u8],
     listing: Listing,
-) -> Turn {
+) -> Result<Option<Listing>, Lost> {
     let mut piece = [0u8; 65536];
     match input.read(&mut piece) {
-        Ok(0) => Turn {
-            listing,
-            more: false,
-            lost: false,
-        },
-        Ok(n) => list_piece(rt, file, listing, &piece[..n]),
-        Err(error) => Turn {
-            listing,
-            more: read_again(rt, error),
-            lost: false,
-        },
+        Ok(0) => Ok(None),
+        Ok(n) => Ok(Some(list_piece(rt, file, listing, &piece[..n])?)),
+        Err(error) => {
+            if error.kind() == ErrorKind::Interrupted {
+                return Ok(Some(listing));
+            }
+            fail(rt, "standard input", error);
+            Ok(None)
+        }
     }
 }
 
@@ -159,53 +124,39 @@ fn read_all<R: Print + Eprint + Alloc, I: Read>(
     input: &mut I,
     file: &[u8],
     listing: Listing,
-) -> Turn {
-    let mut turn = Turn {
-        listing,
-        more: true,
-        lost: false,
-    };
+) -> Result<Listing, Lost> {
+    let mut listing = listing;
     for _ in 0..u64::MAX {
-        if !turn.more {
-            break;
+        match read_some(rt, input, file, listing)? {
+            Some(next) => listing = next,
+            None => break,
         }
-        let listing = turn.listing;
-        turn = read_some(rt, input, file, listing);
     }
-    turn
+    Ok(listing)
 }
 
 // The whole input.
-fn list_input<R: Input + Print + Eprint + Alloc>(rt: &R, file: &[u8], listing: Listing) {
-    let last = read_all(rt, &mut rt.reader(), file, listing);
-    if last.lost {
-        return;
-    }
-    let listing = last.listing;
-    list_piece(rt, file, listing.end(file), &file[..0]);
+fn list_input<R: Input + Print + Eprint + Alloc>(
+    rt: &R,
+    file: &[u8],
+    listing: Listing,
+) -> Result<(), Lost> {
+    let last = read_all(rt, &mut rt.reader(), file, listing)?;
+    list_piece(rt, file, last.end(file), &file[..0])?;
+    Ok(())
 }
 
 // All of the work, over the bytes that were read.
 fn list<R: Input + Print + Eprint + Alloc>(rt: &R, file: &[u8], too_long: bool) {
-    let begun = listing::begin(file, too_long);
-    match begun {
-        Begun::Open(listing) => list_input(rt, file, listing),
-        Begun::Refused(number) => print_refused(rt, number),
+    match listing::begin(file, too_long) {
+        Ok(listing) => {
+            let _ = list_input(rt, file, listing);
+        }
+        Err(refused) => print_refused(rt, refused.number()),
     }
 }
 
 // The file
-
-// One read into `to` from `at` on, and how many bytes it gave: none at the end, and where it failed.
-fn read_at<F: Read>(from: &mut F, to: &mut [u8], at: usize) -> usize
-    requires { at ≤ length to.old }
-    ensures { at + result ≤ length to.new }
-{
-    match from.read(&mut to[at..]) {
-        Ok(n) => n,
-        Err(_) => 0,
-    }
-}
 
 // Reads until `to` is full, the input ends or a read fails, and answers how many bytes stand at the front of `to`.
 fn read_full<F: Read>(from: &mut F, to: &mut [u8]) -> usize
@@ -213,11 +164,10 @@ fn read_full<F: Read>(from: &mut F, to: &mut [u8]) -> usize
 {
     let mut done: usize = 0;
     while done < to.len() {
-        let n = read_at(from, to, done);
-        if n == 0 {
-            break;
+        match from.read(&mut to[done..]) {
+            Ok(0) | Err(_) => break,
+            Ok(n) => done += n,
         }
-        done += n;
     }
     done
 }

@@ -14,7 +14,7 @@ use lib.ListN.{length, take, drop, length-append}
 use lib.Seq.{sets, sets-eq, length-sets, take_at, length-take-le}
 use borrow.Author.Tests.{leb-true, leb-false, ne_eqb}
 use Rattle.symcache.specs.declared.SymCache.{SymCache}
-use Rattle.symcache.specs.Answers.{Answer, gives, refuses, and_then}
+use Rattle.symcache.specs.Answers.{Refusal, only, Answer, gives, refuses, and_then}
 use Rattle.raw.specs.Rows.{max32, is_no_source_location}
 use Rattle.symcache.specs.Reader.{parsed, opened, location_in_lem}
 use Rattle.symcache.proofs.ReaderLaws.{opened-parsed}
@@ -32,12 +32,11 @@ use Rattle.printed_lines.proofs.Whole.{frame-length, no_frame-length, bad-length
 use Rattle.listing.specs.declared.Waiting.{Waiting}
 use Rattle.listing.specs.declared.Waiting.TheVariants as waiting
 use Rattle.listing.specs.declared.Listing.{Listing}
-use Rattle.listing.specs.declared.Begun.TheVariants as begun
 use Rattle.listing.specs.Listing.{frames_of, frame_lines, address_lines, line_prints, lines_print, file_prints, listing_of}
 use Rattle.listing.specs.Pieces.{listing_start, begun_by, begun_of, waits?, waiting_for, count_in, frame_in, walked, frames_left, Turn, turn, frame_line, frame_turns, turns, PrintedOut, printed_out, room?, emitted, print_of, ListedOut, listed_to, list_from, list_of, end_of}
 use Rattle.listing.specs.Cut.{printed_by, Drains, Prints, PrintsAll, loaded_as, HoweverCut, GetsOn}
 use Rattle.listing.specs.Cut as cut
-use Rattle.listing.proofs.Steps.{a_step}
+use Rattle.listing.proofs.Steps.{a_step, got-frame}
 use Rattle.listing.proofs.Calls.{none_waits}
 
 -- ── What is to come ──
@@ -64,11 +63,6 @@ to_come file c w s input = waits_text file w ++ says-text file c (says s input)
 Chained : List ℕ → List Turn → Type 0
 Chained file [] = Unit {0}
 Chained file (t ∷ ts) = (turns file t.after ≡ ts) × ((length t.line ≤ 62) × Chained file ts)
-
-got-frame : (p : Answer (Option Framed)) (t : Framed) → frame_in p ≡ some t → p ≡ gives (some t)
-unfolding frame_in
-got-frame (gives o) t e = rw e
-got-frame (refuses r) t e = let z : ◌≡◌ {A = ℕ} 0 1 = cc in absurd (omega arith)
 
 module _ (file : List ℕ) (a : ℕ) where
   end-chained : (k : SourceLocations) → Chained file (frame_turns a k [])
@@ -407,12 +401,12 @@ module _ (file : List ℕ) (c : SymCache) (is : opened file ≡ gives c) where
 
 -- ── The theorems ──
 
-refused_as : (file input : List ℕ) (n : ℕ) (p : Answer SymCache) → opened file ≡ p → begun_by p ≡ begun.Refused n → refused_line n ≡ file_prints file (input_says input) p
+refused_as : (file input : List ℕ) (n : Refusal) (p : Answer SymCache) → opened file ≡ p → begun_by p ≡ refuses n → refused_line n.number ≡ file_prints file (input_says input) p
 unfolding begun_by file_prints
 refused_as file input n (gives c) o e = let z : ◌≡◌ {A = ℕ} 0 1 = cc in absurd (omega arith)
-refused_as file input n (refuses r) o e = let f : r.number ≡ n = cc in rw f
+refused_as file input n (refuses r) o e = let f : r ≡ n = cc in rw f
 
-listed_as : (file input w : List ℕ) (l : Listing) (p : Answer SymCache) → opened file ≡ p → begun_by p ≡ begun.Open l → Prints file l input w
+listed_as : (file input w : List ℕ) (l : Listing) (p : Answer SymCache) → opened file ≡ p → begun_by p ≡ gives l → Prints file l input w
     → w ≡ file_prints file (input_says input) p
 unfolding begun_by file_prints listing_start to_come waits_text turns text_of
 listed_as file input w l (gives c) o e d =
@@ -425,7 +419,7 @@ listed_as file input w l (refuses r) o e d = let z : ◌≡◌ {A = ℕ} 0 1 = c
 
 pub however_cut : HoweverCut
 unfolding begun_of listing_of
-however_cut file input w true (cut.refused n e) = let f : ◌≡◌ {A = ℕ} 20 n = cc in rw f
+however_cut file input w true (cut.refused n e) = let f : only 20 ≡ n = cc in rw (← f)
 however_cut file input w true (cut.listed l e d) = let z : ◌≡◌ {A = ℕ} 0 1 = cc in absurd (omega arith)
 however_cut file input w false (cut.refused n e) = refused_as file input n (opened file) refl e
 however_cut file input w false (cut.listed l e d) = listed_as file input w l (opened file) refl e d

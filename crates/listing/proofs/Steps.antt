@@ -2,7 +2,7 @@
 use Prim.Native.Nat.{ℕ, zero, suc, ◌+◌, ◌-◌, ◌<◌}
 use mathlib.Core.Path.{◌≡◌, refl, ◌∙◌, ap}
 use mathlib.Core.List.{List, [], ◌∷◌}
-use mathlib.Core.Option.{none, some}
+use mathlib.Core.Option.{Option, none, some}
 use mathlib.Core.Bool.{Bool, true, false, cond}
 use native.Mathlib.Omega.{arith}
 use Rattle.slices.proofs.Cases.{none-some}
@@ -15,6 +15,12 @@ use Rattle.lookup.specs.Lookup.{ended, framed, step_in_lem, stepped}
 use Rattle.lookup.proofs.LookupLaws.{goes_on}
 use Rattle.listing.specs.declared.Waiting.TheVariants as waiting
 use Rattle.listing.specs.Pieces.{count_in, frame_in, walked, turn, frame_line, frame_turns, turns}
+
+-- what a call of `next` gave
+pub got-frame : (p : Answer (Option Framed)) (t : Framed) → frame_in p ≡ some t → p ≡ gives (some t)
+unfolding frame_in
+got-frame (gives o) t e = rw e
+got-frame (refuses r) t e = let z : ◌≡◌ {A = ℕ} 0 1 = cc in absurd (omega arith)
 
 -- a step of a walk: it made fewer than there are locations, and makes one more
 abbrev pub Stepped : ℕ → SourceLocations → Framed → Type 0

@@ -2,7 +2,7 @@
 use Rattle.std.specs.Prelude.{ℕ, ◌+◌, ◌<◌, ◌≤◌, ◌≡◌, List, [], ◌++◌, Bool, true, false, ◌⊎◌, length, take, drop}
 use Rattle.printed_lines.specs.Printed.{refused_line}
 use Rattle.listing.specs.declared.Listing.{Listing}
-use Rattle.listing.specs.declared.Begun.TheVariants as begun
+use Rattle.symcache.specs.Answers.{Refusal, gives, refuses}
 use Rattle.listing.specs.Listing.{Loaded, loaded, too_long, listing_of}
 use Rattle.listing.specs.Pieces.{begun_of, waits?, ListedOut, list_of, end_of}
 
@@ -25,8 +25,8 @@ pub data Prints (file : List ℕ) : Listing → List ℕ → List ℕ → Type 0
 
 -- what a program prints that begins, and then prints the refusal or makes such calls
 pub data PrintsAll (file : List ℕ) (too-long? : Bool) (input : List ℕ) : List ℕ → Type 0 where
-  refused : (n : ℕ) → begun_of file too-long? ≡ begun.Refused n → PrintsAll file too-long? input (refused_line n)
-  listed : (l : Listing) {w : List ℕ} → begun_of file too-long? ≡ begun.Open l → Prints file l input w → PrintsAll file too-long? input w
+  refused : (r : Refusal) → begun_of file too-long? ≡ refuses r → PrintsAll file too-long? input (refused_line r.number)
+  listed : (l : Listing) {w : List ℕ} → begun_of file too-long? ≡ gives l → Prints file l input w → PrintsAll file too-long? input w
 
 -- what was loaded, by its bytes and the mark
 abbrev pub loaded_as : List ℕ → Bool → Loaded

@@ -1,9 +1,9 @@
 -- A LISTING UNDER WAY: what each call does to it. That what is printed is the listing, however input and output are cut: Cut.
-use Rattle.std.specs.Prelude.{ℕ, Some, None, Ok, Err, zero, suc, ◌+◌, ◌-◌, List, [], ◌∷◌, Bool, true, false, cond, leb, eqb, length}
+use Rattle.std.specs.Prelude.{ℕ, zero, suc, ◌+◌, ◌-◌, List, [], ◌∷◌, Bool, true, false, cond, leb, eqb, length, Result, Ok, Err, Some, None}
 use Rattle.std.proofs.Math.Option.{Option, none, some}
 use Rattle.std.proofs.lemmas.List.Edits.{sets}
 use Rattle.symcache.specs.declared.SymCache.{SymCache}
-use Rattle.symcache.specs.Answers.{Answer, gives, refuses}
+use Rattle.symcache.specs.Answers.{Refusal, only, refusal_of, Answer, gives, refuses}
 use Rattle.symcache.specs.Reader.{parsed, opened}
 use Rattle.lookup.specs.declared.SourceLocations.{SourceLocations}
 use Rattle.lookup.specs.declared.Frame.{Frame}
@@ -16,20 +16,29 @@ use Rattle.printed_lines.specs.Printed.{frame_line_lem, no_frame_line, bad_line,
 use Rattle.listing.specs.declared.Waiting.{Waiting}
 use Rattle.listing.specs.declared.Waiting.TheVariants as waiting
 use Rattle.listing.specs.declared.Listing.{Listing}
-use Rattle.listing.specs.declared.Begun.{Begun}
-use Rattle.listing.specs.declared.Begun.TheVariants as begun
+use Rattle.listing.specs.declared.Refused.{Refused}
+use Rattle.listing.specs.declared.Refused.TheVariants as refused
 
 -- ── A beginning ──
 
 unfoldable pub listing_start : SymCache → Listing
 listing_start c = record { cache = c; input = input_start; waiting = waiting.Nothing }
 
-unfoldable pub begun_by : Answer SymCache → Begun
-begun_by (gives c) = begun.Open (listing_start c)
-begun_by (refuses r) = begun.Refused r.number
+-- the number, and the counts of 10, of each case
+abbrev pub refused_of : Refused → Refusal
+refused_of refused.TooLong = only 20
+refused_of (refused.File k) = refusal_of k
 
-unfoldable pub begun_of : List ℕ → Bool → Begun
-begun_of file too_long = cond too_long (begun.Refused 20) (begun_by (opened file))
+abbrev pub begin_answer : Result Listing Refused → Answer Listing
+begin_answer (Ok l) = gives l
+begin_answer (Err r) = refuses (refused_of r)
+
+unfoldable pub begun_by : Answer SymCache → Answer Listing
+begun_by (gives c) = gives (listing_start c)
+begun_by (refuses r) = refuses r
+
+unfoldable pub begun_of : List ℕ → Bool → Answer Listing
+begun_of file too_long = cond too_long (refuses (only 20)) (begun_by (opened file))
 
 -- ── What waits ──
 

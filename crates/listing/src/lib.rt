@@ -4,12 +4,15 @@
 ghost use Rattle.std.specs.Prelude.{◌≡◌, ◌+◌, leb};
 ghost use Rattle.printed_lines.specs.Printed.{wrote_line, put_line};
 ghost use Rattle.listing.specs.declared.Waiting.TheVariants as waiting;
-ghost use Rattle.listing.specs.Pieces.{listing_start, begun_of, waits?, waiting_for, frame_line, printed_out, print_of, bad_printed, no_more};
+ghost use Rattle.listing.specs.declared.Refused.TheVariants as refused;
+ghost use Rattle.symcache.specs.Answers.{maybe_of};
+ghost use Rattle.lookup.specs.Lookup.{stepped};
+ghost use Rattle.listing.specs.Pieces.{frame_in, listing_start, refused_of, begin_answer, begun_of, waits?, waiting_for, frame_line, printed_out, print_of, bad_printed, no_more};
 ghost use Rattle.listing.specs.Pieces.{listed_out, list_of, end_of};
 
 use input_lines::{BadLine, Input};
 use lookup::{Frame, SourceLocations, Step};
-use symcache::{Parsed, SymCache};
+use symcache::{ErrorKind, SymCache};
 
 // What is waiting to be printed: nothing; a bad line, with its number; the frames of an address from here on, or that it has none.
 #[derive(Clone, Copy)]
@@ -17,6 +20,18 @@ pub enum Waiting {
     Nothing,
     Bad(u32),
     Frames { address: u64, walk: SourceLocations },
+}
+
+impl Waiting {
+    // Whether something waits.
+    fn waits(self) -> bool
+        ensures { result ≡ waits? self }
+    {
+        match self {
+            Waiting::Nothing => false,
+            Waiting::Bad(_) | Waiting::Frames { .. } => true,
+        }
+    }
 }
 
 // A listing under way: where the file's tables lie, the input at hand, and what is waiting.
@@ -27,11 +42,32 @@ pub struct Listing {
     pub waiting: Waiting,
 }
 
-// What a beginning gives: a listing, or the number that the file is refused with.
-#[derive(Clone, Copy)]
-pub enum Begun {
-    Open(Listing),
-    Refused(u32),
+// Why a file is not listed.
+#[derive(Debug, Clone, Copy, PartialEq, Eq)]
+pub enum Refused {
+    // It has more than 65,536 bytes.
+    TooLong,
+    File(ErrorKind),
+}
+
+impl Refused {
+    // The number that document 01 gives it.
+    pub fn number(self) -> u32
+        ensures { result ≡ (refused_of self).number }
+    {
+        match self {
+            Refused::TooLong => 20,
+            Refused::File(kind) => kind.number(),
+        }
+    }
+}
+
+impl From<ErrorKind> for Refused {
+    ghost from_gives = { λ kind r. r ≡ refused.File kind };
+
+    fn from(kind: ErrorKind) -> Refused {
+        Refused::File(kind)
+    }
 }
 
 // What a call gives: the listing after it, how many bytes of the input it used, and how many of the output it wrote.
@@ -49,6 +85,7 @@ struct Printed {
     at: usize,
 }
 
+#[tactic(auto, unfolding(crate::specs::Pieces::listing_start))]
 fn start(cache: SymCache) -> Listing
     ensures { result ≡ listing_start cache }
 {
@@ -61,17 +98,15 @@ fn start(cache: SymCache) -> Listing
 
 // Begins to list a file, or what fits of one that is too long: "20 file above 65,536 bytes, before 1". The starts are tested here, so 12 comes
 // without input too.
-pub fn begin(file: &[u8], too_long: bool) -> Begun
-    ensures { result ≡ begun_of file.now too_long }
+#[tactic(auto, unfolding(crate::specs::Pieces::begun_of, crate::specs::Pieces::begun_by))]
+pub fn begin(file: &[u8], too_long: bool) -> Result<Listing, Refused>
+    ensures { begin_answer result ≡ begun_of file.now too_long }
 {
     if too_long {
-        return Begun::Refused(20);
+        return Err(Refused::TooLong);
     }
-    let opened = symcache::open(file);
-    match opened {
-        Parsed::Cache(cache) => Begun::Open(start(cache)),
-        Parsed::Refused(kind) => Begun::Refused(kind.number()),
-    }
+    let cache = symcache::open(file)?;
+    Ok(start(cache))
 }
 
 // Printing. Each of the following prints to `out` from `at` on, line by line, as long as there is room.
@@ -80,10 +115,7 @@ pub fn begin(file: &[u8], too_long: bool) -> Begun
 fn has_room(len: usize, at: usize) -> bool
     ensures { result ≡ leb (at + 62) len }
 {
-    if len < 62 {
-        return false;
-    }
-    at <= len - 62
+    62 <= len && at <= len - 62
 }
 
 fn print_bad(number: u32, out: &mut [u8], at: usize) -> Printed
@@ -132,6 +164,14 @@ fn print_frame(out: &mut [u8], at: usize, address: u64, number: u32, frame: Fram
     )
 }
 
+// The next step of a walk; none where it has ended, and where the file is refused.
+#[tactic(auto, unfolding(crate::specs::Pieces::frame_in))]
+fn next_step(file: &[u8], walk: SourceLocations) -> Option<Step>
+    ensures { maybe_of result ≡ frame_in (stepped file.now walk) }
+{
+    walk.next(file).ok().flatten()
+}
+
 fn print_frames(
     file: &[u8],
     address: u64,
@@ -144,15 +184,11 @@ fn print_frames(
     let mut walk = walk;
     let mut at = at;
     while has_room(out.len(), at) {
-        let step = walk.next(file);
-        match step {
-            Step::Frame { frame, next } => {
-                at = print_frame(out, at, address, walk.steps, frame);
-                walk = next;
-            }
-            Step::End => return no_more_frames(address, walk.steps, out, at),
-            Step::Refused(_) => return no_more_frames(address, walk.steps, out, at),
-        }
+        let Some(Step { frame, next }) = next_step(file, walk) else {
+            return no_more_frames(address, walk.steps, out, at);
+        };
+        at = print_frame(out, at, address, walk.steps, frame);
+        walk = next;
     }
     Printed {
         waiting: Waiting::Frames { address, walk },
@@ -171,29 +207,6 @@ fn print(file: &[u8], waiting: Waiting, out: &mut [u8], at: usize) -> Printed
 }
 
 // Listing
-
-// Whether something waits.
-fn waits(waiting: Waiting) -> bool
-    ensures { result ≡ waits? waiting }
-{
-    match waiting {
-        Waiting::Nothing => false,
-        Waiting::Bad(_) => true,
-        Waiting::Frames {
-            address: _,
-            walk: _,
-        } => true,
-    }
-}
-
-impl Printed {
-    fn waits(self) -> bool
-        ensures { result ≡ waits? self.waiting }
-    {
-        let waiting = self.waiting;
-        waits(waiting)
-    }
-}
 
 // What a line of the input leaves to print.
 #[tactic(auto, unfolding(crate::specs::Pieces::waiting_for))]
@@ -222,7 +235,7 @@ pub fn list(file: &[u8], listing: Listing, piece: &[u8], out: &mut [u8]) -> List
     let waiting = listing.waiting;
     let mut printed = print(file, waiting, out, 0);
     while used < piece.len() {
-        if printed.waits() {
+        if printed.waiting.waits() {
             break;
         }
         let read = input.read(piece, used);
@@ -249,8 +262,7 @@ impl Listing {
     pub fn is_waiting(self) -> bool
         ensures { result ≡ waits? self.waiting }
     {
-        let waiting = self.waiting;
-        waits(waiting)
+        self.waiting.waits()
     }
 
     // The input has ended. Its last line may have no 0A; it is taken where nothing waits any more.

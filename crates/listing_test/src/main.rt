@@ -5,7 +5,7 @@
 ghost use Rattle.std.specs.Prelude.{◌+◌, ◌≤◌, length};
 
 use input_lines::Input;
-use listing::{Begun, Listing};
+use listing::Listing;
 use std::fs;
 use std::io::Read;
 
@@ -293,10 +293,9 @@ fn run_case(
     input: &[u8],
     expected: &[u8],
 ) {
-    let begun = listing::begin(file, too_long);
-    let tally = match begun {
-        Begun::Open(listing) => list_case(file, at_number(listing, number), input, expected),
-        Begun::Refused(number) => refuse_case(number, expected),
+    let tally = match listing::begin(file, too_long) {
+        Ok(listing) => list_case(file, at_number(listing, number), input, expected),
+        Err(refused) => refuse_case(refused.number(), expected),
     };
     tally.print(rt);
 }

@@ -8,15 +8,13 @@ use native.Mathlib.Omega.{arith}
 use native.Mathlib.Numerals.{add-one}
 use lib.Dec.{leb, eqb}
 use borrow.Author.Tests.{lt-ltb, le-ltb, eq-eqb, ne_eqb, leb-false}
-use Rattle.raw.specs.declared.SourceLocation.{SourceLocation}
 use Rattle.raw.specs.Rows.{max32, function_at_lem, is_no_source_location}
 use Rattle.symcache.specs.declared.SymCache.{SymCache}
-use Rattle.lookup.specs.declared.FrameFile.{FrameFile}
 use Rattle.lookup.specs.declared.SourceLocations.{SourceLocations}
-use Rattle.lookup.specs.declared.Frame.{Frame}
-use Rattle.symcache.specs.Answers.{Refusal, Answer, gives, refuses, and_then}
-use Rattle.lookup.specs.Lookup.{entry_of, language_of, file_of_lem, frame_in_lem, met, ended, step_in_lem, found_at, walk_from_lem, walk_at_lem, next_function}
-use Rattle.symcache.specs.Reader.{location_in_lem, function_in_lem, file_in_lem}
+use Rattle.symcache.specs.Answers.{Answer, gives, and_then}
+use Rattle.lookup.specs.Lookup.{met, ended, found_at, walk_from_lem, walk_at_lem, next_function}
+use Rattle.symcache.proofs.ReaderLaws.{parsed-within}
+use Rattle.symcache.specs.Reader.{location_in_lem}
 
 neither : (a b : Bool) → (a || b) ≡ false → (a ≡ false) × (b ≡ false)
 neither true b e = let z : ◌≡◌ {A = ℕ} 0 1 = cc in absurd (omega arith)
@@ -28,17 +26,8 @@ pub then-gives : {B : Type 0} (p : Answer SymCache) (c : SymCache) (f : SymCache
 unfolding and_then
 then-gives p c f r e h = rw (e, and_then) h
 
-pub then-refuses : {B : Type 0} (p : Answer SymCache) (r : Refusal) (f : SymCache → Answer B) → p ≡ refuses r → refuses r ≡ and_then p f
-unfolding and_then
-then-refuses p r f e = rw (e, and_then)
-
--- ── Frames ──
-
-pub frame_made : (s : List ℕ) (c : SymCache) (i : ℕ) (l : SourceLocation) (e g : ℕ) (h : FrameFile) → l ≡ location_in_lem s c i → e ≡ entry_of (function_in_lem s c l.function_idx)
-    → g ≡ language_of (function_in_lem s c l.function_idx) → h ≡ file_of_lem (file_in_lem s c l.file_idx)
-    → record { location_idx = i; function_idx = l.function_idx; line = l.line; file_idx = l.file_idx; entry_pc = e; language = g; file = h } ≡ frame_in_lem s c i
-unfolding frame_in_lem
-frame_made s c i l e g h el ee eg eh = rw (ee, eg, eh, el)
+-- what the functions cite that read the lent bytes first
+pub ruleset read_cases = (parsed-within)
 
 -- ── An index met ──
 
@@ -59,18 +48,17 @@ module _ (s : List ℕ) (c : SymCache) (i j n : ℕ) (more : 0 < n) where
       go zero h = absurd (omega arith)
       go (suc n) h = rw (ne_eqb j i e, le-ltb j c.num_source_locations l)
 
-  pub met-further : (j ≡ i → ⊥) → j < c.num_source_locations → met s c i (location_in_lem s c j).inlined_into_idx (n - 1) ≡ met s c i j n
+  pub met-further : (m : ℕ) → suc m ≡ n → (j ≡ i → ⊥) → j < c.num_source_locations → met s c i (location_in_lem s c j).inlined_into_idx m ≡ met s c i j n
   unfolding met
-  met-further e l = go n more
-    where
-      go : (n : ℕ) → 0 < n → met s c i (location_in_lem s c j).inlined_into_idx (n - 1) ≡ met s c i j n
-      go zero h = absurd (omega arith)
-      go (suc n) h = let p : suc n - 1 ≡ n = omega arith in rw (p, ne_eqb j i e, lt-ltb j c.num_source_locations l)
+  met-further m k e l = rw (← k, ne_eqb j i e, lt-ltb j c.num_source_locations l)
 
 pub met-nowhere : (s : List ℕ) (c : SymCache) (i j n : ℕ) → n ≤ 0 → false ≡ met s c i j n
 unfolding met
 met-nowhere s c i j zero h = refl
 met-nowhere s c i j (suc n) h = absurd (omega arith)
+
+-- what `is_met` cites
+pub ruleset met_cases = (met-here, met-outside, met-nowhere)
 
 -- ── Functions with an entry ──
 
@@ -92,6 +80,9 @@ module _ (s : List ℕ) (c : SymCache) (i n : ℕ) where
   unfolding next_function
   functions-end h = let p : n - i ≡ zero = omega arith in rw p
 
+-- what `next_function` cites
+pub ruleset function_cases = (function-passed, function-given, functions-end)
+
 -- ── The walk ──
 
 -- a walk that goes on
@@ -104,11 +95,6 @@ goes_on s c k e =
     let (z, w) = neither (leb n k.current) (leb n k.steps || m) y in
     let (u, v) = neither (leb n k.steps) m w in
     (leb-false n k.current z, leb-false n k.steps u)
-
-pub step-made : (s : List ℕ) (c : SymCache) (k : SourceLocations) (f : Frame) (l : SourceLocation) → ended s c k ≡ false → f ≡ frame_in_lem s c k.current → l ≡ location_in_lem s c k.current
-    → gives (some (record { frame = f; next = record { first = k.first; current = l.inlined_into_idx; steps = k.steps + 1 } })) ≡ gives (step_in_lem s c k)
-unfolding step_in_lem
-step-made s c k f l e ef el = rw (e, ef, el)
 
 module _ (s : List ℕ) (c : SymCache) (a i : ℕ) (is : i ≡ found_at s c a) where
   pub walk-nowhere : i ≡ max32 → walk_from_lem max32 ≡ walk_at_lem s c a
@@ -127,3 +113,8 @@ module _ (s : List ℕ) (c : SymCache) (a i : ℕ) (is : i ≡ found_at s c a) w
   pub walk-tested : (i ≡ max32 → ⊥) → {t : Bool} {j : ℕ} → t ≡ is_no_source_location (location_in_lem s c i) → j ≡ cond t max32 i → walk_from_lem j ≡ walk_at_lem s c a
   walk-tested n {t = true} e f = rw f (walk-empty n (sym e))
   walk-tested n {t = false} e f = rw f (walk_begins n (sym e))
+
+-- what `step_in` and `walk` cite
+pub ruleset step_cases = (goes_on)
+
+pub ruleset walk_cases = (walk-nowhere, walk-tested)

@@ -1,5 +1,6 @@
 -- The lookup: document 01 "Lookup"; v9/lookup.rs.
 use Rattle.std.specs.Prelude.{ℕ, zero, suc, ◌+◌, ◌*◌, ◌-◌, List, [], ◌∷◌, Bool, false, cond, ◌&&◌, ◌||◌, eqb, ltb, leb}
+use Rattle.std.specs.Prelude as rust
 use Rattle.std.proofs.Math.Option.{Option, none, some}
 use Rattle.raw.specs.declared.File.{File}
 use Rattle.raw.specs.declared.Function.{Function}
@@ -7,12 +8,12 @@ use Rattle.raw.specs.Rows.{max32, file_at_lem, function_at_lem, is_no_source_loc
 use Rattle.symcache.specs.declared.SymCache.{SymCache}
 use Rattle.lookup.specs.declared.SourceLocations.{SourceLocations}
 use Rattle.lookup.specs.declared.Frame.{Frame}
-use Rattle.lookup.specs.declared.FrameFile.{FrameFile}
-use Rattle.lookup.specs.declared.FrameFile.TheVariants as frame-file
 use Rattle.lookup.specs.declared.Functions.{Functions}
 use Rattle.lookup.specs.declared.Files.{Files}
 use Rattle.symcache.specs.Answers.{Answer, gives, and_then}
-use Rattle.lookup.specs.Answers.{Framed, NextFunction, NextFile}
+use Rattle.lookup.specs.declared.NextFunction.{NextFunction}
+use Rattle.lookup.specs.declared.NextFile.{NextFile}
+use Rattle.lookup.specs.Answers.{Framed}
 use Rattle.symcache.specs.Reader.{start_at, parsed, opened, location_in_lem, function_in_lem, file_in_lem}
 -- the search
 unfoldable pub use Rattle.search.specs.Search.{count_in_lem, half_in, quarters_in, search_in, found_among, usable, found_in}
@@ -71,9 +72,9 @@ language_of none = max32
 language_of (some f) = f.lang
 
 -- "A frame holds either a file or the mark that there is none"
-abbrev pub file_of_lem : Option File → FrameFile
-file_of_lem none = frame-file.None
-file_of_lem (some f) = frame-file.File f
+abbrev pub file_of_lem : Option File → rust.Option File
+file_of_lem none = rust.None
+file_of_lem (some f) = rust.Some f
 
 unfoldable pub frame_in_lem : List ℕ → SymCache → ℕ → Frame
 frame_in_lem s c i = record {

@@ -1,11 +1,11 @@
 -- An answer has one meaning and one form: two refusals with the same number and counts are the same.
+use Rattle.std.specs.Prelude.{Result, Ok, Err}
 use mathlib.Core.Path.{◌≡◌, refl, ap, sym, ◌∙◌}
 use mathlib.Core.Bool.{cond}
 use lib.Dec.{eqb}
 use Rattle.symcache.specs.declared.ErrorKind.{ErrorKind}
 use Rattle.symcache.specs.declared.ErrorKind.TheVariants as kind
-use Rattle.symcache.specs.declared.Parsed.{Parsed}
-use Rattle.symcache.specs.declared.Parsed.TheVariants as parsed
+use Rattle.symcache.specs.declared.SymCache.{SymCache}
 use Rattle.symcache.specs.Answers.{Refusal, refusal_of, parse_answer}
 
 -- the case that a refusal is of
@@ -42,8 +42,8 @@ pub kind-single : (j k : ErrorKind) → refusal_of j ≡ refusal_of k → j ≡ 
 kind-single j k e = sym (kind-back j) ∙ (ap kind_of e ∙ kind-back k)
 
 -- so each contract `parse_answer r ≡ ..` leaves a single r (and those of the other enums, whose other cases are constructors)
-pub parse_single : (p q : Parsed) → parse_answer p ≡ parse_answer q → p ≡ q
-parse_single (parsed.Cache c) (parsed.Cache d) e = cc
-parse_single (parsed.Cache c) (parsed.Refused k) e = cc
-parse_single (parsed.Refused j) (parsed.Cache d) e = cc
-parse_single (parsed.Refused j) (parsed.Refused k) e = let r : refusal_of j ≡ refusal_of k = cc in ap parsed.Refused (kind-single j k r)
+pub parse_single : (p q : Result SymCache ErrorKind) → parse_answer p ≡ parse_answer q → p ≡ q
+parse_single (Ok c) (Ok d) e = cc
+parse_single (Ok c) (Err k) e = cc
+parse_single (Err j) (Ok d) e = cc
+parse_single (Err j) (Err k) e = let r : refusal_of j ≡ refusal_of k = cc in ap Err (kind-single j k r)

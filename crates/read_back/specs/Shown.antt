@@ -4,12 +4,13 @@
 use Rattle.std.specs.Prelude.{ℕ, ◌≡◌, List, [], ◌∷◌, map, take, drop}
 use Rattle.std.proofs.Math.Option.{Option, none, some}
 use Rattle.lookup.specs.declared.SourceLocations.{SourceLocations}
+use Rattle.raw.specs.declared.File.{File}
 use Rattle.lookup.specs.declared.Frame.{Frame}
-use Rattle.lookup.specs.declared.FrameFile.{FrameFile}
-use Rattle.lookup.specs.declared.FrameFile.TheVariants as frame-file
+use Rattle.std.specs.Prelude as rust
 use Rattle.symcache.specs.Answers.{Answer, gives, refuses}
 use Rattle.lookup.specs.Lookup.{looked_up_lem, stepped}
-use Rattle.file_texts.specs.Strings.{Part, got_string, string_of, name_of}
+use Rattle.file_texts.specs.declared.Part.{Part}
+use Rattle.file_texts.specs.Strings.{got_string, string_of, name_of}
 use Rattle.model.specs.Rows.{Text}
 use Rattle.model.specs.Converter.{Six}
 use Rattle.model.specs.Frames as plain
@@ -32,9 +33,9 @@ pub record ShownFile : Type 0 where
   pub srcsrv_dir : Option Text
   pub revision : Option Text
 
-abbrev pub file_shown : List ℕ → FrameFile → Option ShownFile
-file_shown s frame-file.None = none
-file_shown s (frame-file.File f) = some (record {
+abbrev pub file_shown : List ℕ → rust.Option File → Option ShownFile
+file_shown s rust.None = none
+file_shown s (rust.Some f) = some (record {
   name = string_of s f.name_offset;
   directory = text_shown s f.directory_offset;
   comp_dir = text_shown s f.comp_dir_offset;

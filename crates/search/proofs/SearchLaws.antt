@@ -7,9 +7,9 @@ use mathlib.Core.Logic.{◌⊎◌, inl, inr, ⊎_elim}
 use native.Mathlib.Nat.{mul-le-mul_left}
 use native.Mathlib.Numerals.{add-one}
 use native.Mathlib.Omega.{arith}
-use lib.Dec.{leb, eqb}
+use lib.Dec.{leb}
 use lib.ListN.{length}
-use borrow.Author.Tests.{lt-ltb, le-ltb, le-leb, lt-leb, leb-true, eq-eqb, ne_eqb, eqb-false}
+use borrow.Author.Tests.{lt-ltb, le-ltb, le-leb, lt-leb, leb-true}
 use Rattle.slices.proofs.Cases.{lt-or_ge, both_true}
 use Rattle.raw.specs.Rows.{max32}
 use Rattle.search.specs.Search.{start_at, ascending_from, ascending, count_in_lem, half_in, quarters_in, search_in, found_among, usable, found_in}
@@ -38,16 +38,16 @@ unfolding ascending
 ascending-begins f zero h = absurd (omega arith)
 ascending-begins f (suc n) h = let e : suc n - 1 ≡ n = omega arith in rw e
 
+-- what `ascend` cites
+pub ruleset ascend_cases = (ascending-begins, ascending-more, ascending-stops, ascending-ends)
+
 -- ── The count ──
 
 module _ (f : ℕ → ℕ) (a : ℕ) where
   pub at-most-or-above : (i : ℕ) → (f i ≤ a) ⊎ (a < f i)
   at-most-or-above i = ⊎_elim inr inl (lt-or_ge a (f i))
 
-  -- its beginning, one turn, its end
-  pub count-begins : (b n b' n' : ℕ) → b' ≡ b → n' ≡ n → 0 + count_in_lem f a b' n' ≡ count_in_lem f a b n
-  count-begins b n b' n' d e = rw (d, e) (omega arith)
-
+  -- one turn, its end
   pub count_turn : (b i n : ℕ) → i < n → cond (leb (f (b + i)) a) 1 0 + count_in_lem f a (b + (i + 1)) (n - (i + 1)) ≡ count_in_lem f a (b + i) (n - i)
   unfolding count_in_lem
   count_turn b i n h =
@@ -65,6 +65,9 @@ module _ (f : ℕ → ℕ) (a : ℕ) where
   count_most zero i = omega arith
   count_most (suc n) i =
       ⊎_elim (λ t. rw (le-leb (f i) a t) (omega (arith, count_most n (suc i)))) (λ t. rw (lt-leb (f i) a t) (omega (arith, count_most n (suc i)))) (at-most-or-above i)
+
+-- what `count` cites
+pub ruleset count_cases = (count_turn, count-done)
 
 -- ── The turns ──
 
@@ -177,49 +180,19 @@ module _ (f : ℕ → ℕ) (a : ℕ) where
       (λ z. rw (search_done (suc k) b n z) (few-inside b n p))
       (lt-or_ge 8 n)
 
+-- what `halves` and `search` cite
+pub ruleset turn_cases = (half-turn, quarter-turn, search_done)
+
 -- ── What `find` gives ──
 
-none-among : (f : ℕ → ℕ) (m n a : ℕ) → n ≡ 0 → found_among f m n a ≡ max32
-unfolding found_among
-none-among f m n a e = rw (eq-eqb n 0 e)
-
-module _ (s : List ℕ) (locations m ranges n a : ℕ) where
-  abbrev found : ℕ
-  found = found_in s locations m ranges n a
-
-  abbrev fits : Bool
-  fits = usable (length s) locations m ranges n
-
-  -- an address above MAX
-  pub found-far : max32 < a → max32 ≡ found
-  unfolding found_in
-  found-far h = rw (lt-leb a max32 h) (go fits)
-    where
-      go : (u : Bool) → max32 ≡ cond (u && false) (found_among (start_at s ranges) m n a) max32
-      go true = refl
-      go false = refl
-
-  -- no ranges
-  pub found-empty : n ≡ 0 → max32 ≡ found
-  unfolding found_in
-  found-empty e = rw (none-among (start_at s ranges) m n a e) (go (fits && leb a max32))
-    where
-      go : (u : Bool) → max32 ≡ cond u max32 max32
-      go true = refl
-      go false = refl
-
-  pub found_unusable : fits ≡ false → max32 ≡ found
-  unfolding found_in
-  found_unusable e = rw e
-
-  module _ (u : fits ≡ true) (l : a ≤ max32) (more : n ≡ 0 → ⊥) (i : ℕ) (is : i ≡ search_in (start_at s ranges) a n 0 n) where
-    pub found_here : start_at s ranges i ≤ a → (m - n) + i ≡ found
-    unfolding found_in found_among
-    found_here h = rw (u, le-leb a max32 l, ne_eqb n 0 more, ← is, le-leb (start_at s ranges i) a h)
-
-    pub found-above : a < start_at s ranges i → max32 ≡ found
-    unfolding found_in found_among
-    found-above h = rw (u, le-leb a max32 l, ne_eqb n 0 more, ← is, lt-leb (start_at s ranges i) a h)
+-- an address above MAX
+pub found-far : (s : List ℕ) (locations m ranges n a : ℕ) → max32 < a → max32 ≡ found_in s locations m ranges n a
+unfolding found_in
+found-far s locations m ranges n a h = rw (lt-leb a max32 h) (go (usable (length s) locations m ranges n))
+  where
+    go : (u : Bool) → max32 ≡ cond (u && false) (found_among (start_at s ranges) m n a) max32
+    go true = refl
+    go false = refl
 
 -- what `usable` tests
 pub record Usable (bytes locations m ranges n : ℕ) : Type 0 where
@@ -234,32 +207,5 @@ usable-has bytes locations m ranges n e =
     let (z, w) = both_true (leb (ranges + 4 * n) bytes) (leb (locations + 16 * m) bytes) y in
     record { fewer = leb-true n m x; starts = leb-true (ranges + 4 * n) bytes z; rows = leb-true (locations + 16 * m) bytes w }
 
-more : (n : ℕ) → (n ≡ 0 → ⊥) → 0 < n
-more zero h = absurd (h refl)
-more (suc n) h = omega arith
-
--- what is found is a location of the table
-module _ (s : List ℕ) (locations m ranges n a : ℕ) where
-  abbrev ended : ℕ
-  ended = search_in (start_at s ranges) a n 0 n
-
-  abbrev InTable : ℕ → Type 0
-  InTable i = (i ≡ max32 → ⊥) → (i < m) × (locations + 16 * m ≤ length s)
-
-  among : (v w : Bool) → Usable (length s) locations m ranges n → eqb n 0 ≡ v → InTable (cond v max32 (cond w ((m - n) + ended) max32))
-  among true w p e g = absurd (g refl)
-  among false true p e g =
-      let h : 0 < n = more n (eqb-false n 0 e) in
-      let r = search_inside (start_at s ranges) a n 0 n h in
-      (omega (arith, p.fewer), p.rows)
-  among false false p e g = absurd (g refl)
-
-  within-table : (t u : Bool) → usable (length s) locations m ranges n ≡ t → InTable (cond (t && u) (found_among (start_at s ranges) m n a) max32)
-  unfolding found_among
-  within-table true true e = among (eqb n 0) (leb (start_at s ranges ended) a) (usable-has (length s) locations m ranges n e) refl
-  within-table true false e = λ g. absurd (g refl)
-  within-table false u e = λ g. absurd (g refl)
-
-  pub found_inside : InTable (found_in s locations m ranges n a)
-  unfolding found_in
-  found_inside = within-table (usable (length s) locations m ranges n) (leb a max32) refl
+-- what `find` cites
+pub ruleset find_cases = (search_inside, usable-has)

@@ -1,89 +1,26 @@
 -- Laws of the reader.
-use Prim.Native.Nat.{ℕ, ◌+◌, ◌*◌, ◌≤◌, ◌<◌}
-use mathlib.Core.Path.{◌≡◌, refl, sym, ◌∙◌}
+use Prim.Native.Nat.{ℕ, ◌+◌, ◌*◌, ◌≤◌}
+use mathlib.Core.Path.{◌≡◌, refl}
 use mathlib.Core.List.{List}
 use mathlib.Core.Bool.{Bool, true, false, not}
 use native.Mathlib.Omega.{arith}
 use lib.ListN.{length}
-use borrow.Author.Tests.{lt-ltb, le-ltb, le-leb, ltb-false, eq-eqb, ne_eqb, not-false}
+use borrow.Author.Tests.{le-ltb, le-leb, ltb-false, eq-eqb, ne_eqb, not-false}
 use Rattle.raw.specs.declared.VersionInfo.{VersionInfo}
 use Rattle.raw.specs.declared.Header.{Header}
 use Rattle.raw.specs.Rows.{version_info_at, header_at}
 use Rattle.search.specs.Search.{ordered}
 use Rattle.symcache.specs.declared.ErrorKind.TheVariants as kind
 use Rattle.symcache.specs.declared.SymCache.{SymCache}
-use Rattle.symcache.specs.declared.Parsed.{Parsed}
-use Rattle.symcache.specs.Answers.{Refusal, Answer, gives, refuses, refusal_of, refuse_if, and_then, parse_answer}
-use Rattle.symcache.specs.Reader.{magic, reversed_magic, aligned, layout_of, tested, parsed, start_at, ascending, opened, Within}
+use Rattle.symcache.specs.Answers.{Refusal, Answer, gives, refuses, refusal_of, refuse_if, and_then}
+use Rattle.symcache.specs.Reader.{magic, reversed_magic, layout_of, tested, parsed, start_at, ascending, opened, Within}
 
-pub aligned_up : (n : ℕ) → aligned n ≤ n + 7
-unfolding aligned
-aligned_up n = omega arith
+-- ── A file whose first bytes are accepted ──
 
--- ── The tables of a header ──
-
-pub layout_made : (h : Header) (a b c d e : ℕ) → a ≡ aligned 80 → b ≡ aligned (a + 24 * h.num_files) → c ≡ aligned (b + 16 * h.num_functions)
-    → d ≡ aligned (c + 16 * h.num_source_locations) → e ≡ aligned (d + 4 * h.num_ranges)
-    → record {
-      files = a;
-      num_files = h.num_files;
-      functions = b;
-      num_functions = h.num_functions;
-      source_locations = c;
-      num_source_locations = h.num_source_locations;
-      ranges = d;
-      num_ranges = h.num_ranges;
-      strings = e;
-      string_bytes = h.string_bytes;
-    } ≡ layout_of h
-unfolding layout_of
-layout_made h a b c d e ha hb hc hd he = rw (he, hd, hc, hb, ha)
-
--- ── The numbers 1 to 5, and what follows them ──
-
-module _ (s : List ℕ) (v : VersionInfo) (e : v ≡ version_info_at s 0) where
-  pub too_short : length s < 8 → refuses (refusal_of kind.TooShort) ≡ parsed s
+module _ (s : List ℕ) (v : VersionInfo) (e : v ≡ version_info_at s 0) (h₁ : 8 ≤ length s) (h₂ : v.magic ≡ reversed_magic → ⊥) (h₃ : v.magic ≡ magic) (h₄ : v.version ≡ 9) where
+  pub then-tables : 80 ≤ length s → (h : Header) (c : SymCache) → h ≡ header_at s 8 → c ≡ layout_of h → tested (length s) c h.variable_header ≡ parsed s
   unfolding parsed refuse_if
-  too_short h = rw (lt-ltb (length s) 8 h)
-
-  module _ (h₁ : 8 ≤ length s) where
-    pub wrong_endianness : v.magic ≡ reversed_magic → refuses (refusal_of kind.WrongEndianness) ≡ parsed s
-    unfolding parsed refuse_if
-    wrong_endianness m = rw (le-ltb (length s) 8 h₁, ← e, eq-eqb v.magic reversed_magic m)
-
-    module _ (h₂ : v.magic ≡ reversed_magic → ⊥) where
-      pub wrong_format : (v.magic ≡ magic → ⊥) → refuses (refusal_of kind.WrongFormat) ≡ parsed s
-      unfolding parsed refuse_if
-      wrong_format m = rw (le-ltb (length s) 8 h₁, ← e, ne_eqb v.magic reversed_magic h₂, ne_eqb v.magic magic m)
-
-      module _ (h₃ : v.magic ≡ magic) where
-        pub wrong_version : (v.version ≡ 9 → ⊥) → refuses (refusal_of kind.WrongVersion) ≡ parsed s
-        unfolding parsed refuse_if
-        wrong_version m = rw (le-ltb (length s) 8 h₁, ← e, ne_eqb v.magic reversed_magic h₂, eq-eqb v.magic magic h₃, ne_eqb v.version 9 m)
-
-        module _ (h₄ : v.version ≡ 9) where
-          pub invalid_header : length s < 80 → refuses (refusal_of kind.InvalidHeader) ≡ parsed s
-          unfolding parsed refuse_if
-          invalid_header m = rw (le-ltb (length s) 8 h₁, ← e, ne_eqb v.magic reversed_magic h₂, eq-eqb v.magic magic h₃, eq-eqb v.version 9 h₄, lt-ltb (length s) 80 m)
-
-          pub then-tables : 80 ≤ length s → (h : Header) (c : SymCache) → h ≡ header_at s 8 → c ≡ layout_of h → tested (length s) c h.variable_header ≡ parsed s
-          unfolding parsed refuse_if
-          then-tables m h c i k = rw (le-ltb (length s) 8 h₁, ← e, ne_eqb v.magic reversed_magic h₂, eq-eqb v.magic magic h₃, eq-eqb v.version 9 h₄, le-ltb (length s) 80 m, ← i, k)
-
--- a test that refuses, and one that is passed
-pub refused-here : {A : Type 0} (b : Bool) (r : Refusal) (y : Answer A) → b ≡ true → refuses r ≡ refuse_if b r y
-unfolding refuse_if
-refused-here b r y e = rw e
-
--- 10 tells what was found
-pub refused-found : {A : Type 0} (b : Bool) (e f n : ℕ) (y : Answer A) → f ≡ n → b ≡ true
-    → refuses (refusal_of (kind.UnexpectedStringBytes e f)) ≡ refuse_if b (refusal_of (kind.UnexpectedStringBytes e n)) y
-unfolding refuse_if
-refused-found b e f n y h t = rw (t, h)
-
-pub passed_on : {A : Type 0} (b : Bool) (r : Refusal) (x y : Answer A) → b ≡ false → x ≡ y → x ≡ refuse_if b r y
-unfolding refuse_if
-passed_on b r x y e h = rw e h
+  then-tables m h c i k = rw (le-ltb (length s) 8 h₁, ← e, ne_eqb v.magic reversed_magic h₂, eq-eqb v.magic magic h₃, eq-eqb v.version 9 h₄, le-ltb (length s) 80 m, ← i, k)
 
 -- ── What an accepted file has ──
 
@@ -125,10 +62,6 @@ parsed-within s c e =
     let (t₅, e₅) = passed _ _ _ c e₄ in
     tested-within (length s) (layout_of (header_at s 8)) (header_at s 8).variable_header c e₅
 
--- what the code's answer says
-pub accepted : (p : Parsed) (s : List ℕ) (c : SymCache) → parse_answer p ≡ parsed s → parse_answer p ≡ gives c → Within (length s) c
-accepted p s c e g = (parsed-within s c (sym e ∙ g)).1
-
 -- the starts of a file that was read lie in it
 pub read-ordered : (s : List ℕ) (c : SymCache) → parsed s ≡ gives c → ordered s c.ranges c.num_ranges ≡ ascending (start_at s c.ranges) c.num_ranges
 unfolding ordered
@@ -145,6 +78,9 @@ opened-unordered s c e a = rw (e, and_then, a)
 pub opened-refused : (s : List ℕ) (r : Refusal) → parsed s ≡ refuses r → refuses r ≡ opened s
 unfolding opened and_then refuse_if
 opened-refused s r e = rw (e, and_then)
+
+-- what `open` cites
+pub ruleset open_cases = (read-ordered, opened-accepted, opened-unordered, opened-refused)
 
 -- what was opened was read
 pub opened-parsed : (s : List ℕ) (c : SymCache) → opened s ≡ gives c → parsed s ≡ gives c

@@ -1,11 +1,10 @@
 -- What the calls answer, in document 01's terms ("Who causes which number"):
 -- what was asked for, with number 0, or the number of a refusal with the counts of 10.
-use Rattle.std.specs.Prelude.{ℕ, Bool, cond}
+use Rattle.std.specs.Prelude.{ℕ, Bool, cond, Option, None, Some, Result, Ok, Err}
+use Rattle.std.proofs.Math.Option as maybe
 use Rattle.symcache.specs.declared.ErrorKind.{ErrorKind}
 use Rattle.symcache.specs.declared.ErrorKind.TheVariants as kind
 use Rattle.symcache.specs.declared.SymCache.{SymCache}
-use Rattle.symcache.specs.declared.Parsed.{Parsed}
-use Rattle.symcache.specs.declared.Parsed.TheVariants as parsed
 
 -- a number, with the expected and the found count of 10; for the others these are 0
 pub record Refusal : Type 0 where
@@ -50,6 +49,18 @@ and_then (gives a) f = f a
 and_then (refuses r) f = refuses r
 
 -- each answer of the code
-abbrev pub parse_answer : Parsed → Answer SymCache
-parse_answer (parsed.Cache c) = gives c
-parse_answer (parsed.Refused k) = refuses (refusal_of k)
+abbrev pub answer_of : {A : Type 0} → Result A ErrorKind → Answer A
+answer_of (Ok a) = gives a
+answer_of (Err k) = refuses (refusal_of k)
+
+abbrev pub parse_answer : Result SymCache ErrorKind → Answer SymCache
+parse_answer r = answer_of r
+
+-- the same where what was asked for may be nothing
+abbrev pub maybe_of : {A : Type 0} → Option A → maybe.Option A
+maybe_of None = maybe.none
+maybe_of (Some a) = maybe.some a
+
+abbrev pub maybe_answer : {A : Type 0} → Result (Option A) ErrorKind → Answer (maybe.Option A)
+maybe_answer (Ok o) = gives (maybe_of o)
+maybe_answer (Err k) = refuses (refusal_of k)

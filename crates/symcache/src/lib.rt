@@ -8,7 +8,7 @@ ghost use Rattle.symcache.specs.Reader.{aligned, layout_of, tested, Low, parsed,
 use raw::{Header, Stored, VersionInfo};
 
 // Why a file is refused.
-#[derive(Clone, Copy)]
+#[derive(Debug, Clone, Copy, PartialEq, Eq)]
 pub enum ErrorKind {
     // Under 8 bytes.
     TooShort,
@@ -73,13 +73,7 @@ pub struct SymCache {
     pub string_bytes: u32,
 }
 
-// What reading a file gives.
-#[derive(Clone, Copy)]
-pub enum Parsed {
-    Cache(SymCache),
-    Refused(ErrorKind),
-}
-
+#[tactic(auto, unfolding(crate::specs::Reader::aligned))]
 fn align_to_8(n: usize) -> usize
     requires { n < 2 ^ 40 }
     ensures { (result ≡ aligned n) × (result ≤ n + 7) }
@@ -88,6 +82,7 @@ fn align_to_8(n: usize) -> usize
 }
 
 // Where the tables lie that the header tells of.
+#[tactic(auto, unfolding(crate::specs::Reader::layout_of, crate::specs::Reader::aligned))]
 fn layout(h: Header) -> SymCache
     ensures { (result ≡ layout_of h) × Low result }
 {
@@ -110,69 +105,60 @@ fn layout(h: Header) -> SymCache
     }
 }
 
-// What is found of the texts.
-fn found_bytes(len: usize, strings: usize) -> usize
-    ensures { result ≡ len - strings }
-{
-    if len < strings {
-        return 0;
-    }
-    len - strings
-}
-
 // Whether the tables lie in a file of `len` bytes.
-fn parse_tables(len: usize, c: SymCache, variable_header: u16) -> Parsed
+#[tactic(auto, unfolding(crate::specs::Reader::tested, crate::specs::Answers::refuse_if))]
+fn parse_tables(len: usize, c: SymCache, variable_header: u16) -> Result<SymCache, ErrorKind>
     requires { Low c }
     ensures { parse_answer result ≡ tested len c variable_header }
 {
     if len < c.files + 24 * (c.num_files as usize) {
-        return Parsed::Refused(ErrorKind::InvalidFiles);
+        return Err(ErrorKind::InvalidFiles);
     }
     if len < c.functions + 16 * (c.num_functions as usize) {
-        return Parsed::Refused(ErrorKind::InvalidFunctions);
+        return Err(ErrorKind::InvalidFunctions);
     }
     if len < c.source_locations + 16 * (c.num_source_locations as usize) {
-        return Parsed::Refused(ErrorKind::InvalidSourceLocations);
+        return Err(ErrorKind::InvalidSourceLocations);
     }
     if len < c.ranges + 4 * (c.num_ranges as usize) {
-        return Parsed::Refused(ErrorKind::InvalidRanges);
+        return Err(ErrorKind::InvalidRanges);
     }
     // The ranges belong to the last of the source locations.
     if c.num_source_locations < c.num_ranges {
-        return Parsed::Refused(ErrorKind::InvalidRanges);
+        return Err(ErrorKind::InvalidRanges);
     }
     if len < c.strings + (c.string_bytes as usize) {
-        let found = found_bytes(len, c.strings);
-        return Parsed::Refused(ErrorKind::UnexpectedStringBytes {
+        return Err(ErrorKind::UnexpectedStringBytes {
             expected: c.string_bytes as usize,
-            found,
+            found: len.saturating_sub(c.strings),
         });
     }
     if variable_header == 1 {
-        return Parsed::Refused(ErrorKind::InvalidVariableHeader);
+        return Err(ErrorKind::InvalidVariableHeader);
     }
-    Parsed::Cache(c)
+    Ok(c)
 }
 
 // Reads a file: 1 to 11, or where its tables lie. Bytes after the texts are ignored.
-pub fn parse(s: &[u8]) -> Parsed
+#[tactic(auto, unfolding(crate::specs::Reader::parsed, crate::specs::Answers::refuse_if))]
+pub fn parse(s: &[u8]) -> Result<SymCache, ErrorKind>
     ensures { parse_answer result ≡ parsed s.now }
 {
     if s.len() < 8 {
-        return Parsed::Refused(ErrorKind::TooShort);
+        return Err(ErrorKind::TooShort);
     }
     let version = VersionInfo::read(s, 0);
     if version.magic == raw::SYMCACHE_MAGIC_FLIPPED {
-        return Parsed::Refused(ErrorKind::WrongEndianness);
+        return Err(ErrorKind::WrongEndianness);
     }
     if version.magic != raw::SYMCACHE_MAGIC {
-        return Parsed::Refused(ErrorKind::WrongFormat);
+        return Err(ErrorKind::WrongFormat);
     }
     if version.version != 9 {
-        return Parsed::Refused(ErrorKind::WrongVersion);
+        return Err(ErrorKind::WrongVersion);
     }
     if s.len() < 80 {
-        return Parsed::Refused(ErrorKind::InvalidHeader);
+        return Err(ErrorKind::InvalidHeader);
     }
     let header = Header::read(s, 8);
     let cache = layout(header);
@@ -180,17 +166,13 @@ pub fn parse(s: &[u8]) -> Parsed
 }
 
 // Reads a file to look addresses up in it: 1 to 11, then 12, or where its tables lie.
-pub fn open(s: &[u8]) -> Parsed
+#[tactic(auto, using(crate::proofs::ReaderLaws::open_cases))]
+pub fn open(s: &[u8]) -> Result<SymCache, ErrorKind>
     ensures { parse_answer result ≡ opened s.now }
 {
-    let parsed = parse(s);
-    match parsed {
-        Parsed::Cache(c) => {
-            if search::is_ascending(s, c.ranges, c.num_ranges) {
-                return Parsed::Cache(c);
-            }
-            Parsed::Refused(ErrorKind::UnorderedRanges)
-        }
-        Parsed::Refused(kind) => Parsed::Refused(kind),
+    let c = parse(s)?;
+    if !search::is_ascending(s, c.ranges, c.num_ranges) {
+        return Err(ErrorKind::UnorderedRanges);
     }
+    Ok(c)
 }

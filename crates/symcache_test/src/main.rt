@@ -1,16 +1,12 @@
 // Replays what the original answered on written, damaged and random files: oracle/FORMAT.md, "Reader". A line is printed for each case, its checksum.
 #![tactic(auto)]
 
-use file_texts::GotString;
-use lookup::{
-    FileStep, Files, Frame, FrameFile, FunctionStep, Functions, GotFile, GotFunction, LookedUp,
-    SourceLocations, Step,
-};
-use raw::{File, Function, Header, SourceLocation, Stored};
+use lookup::{Files, Frame, Functions, NextFile, NextFunction, SourceLocations, Step};
+use raw::{File, Function, Header, SourceLocation};
 use replay::{add, add_bytes, low, number, place, word};
 use std::fs;
 use std::io::Read;
-use symcache::{ErrorKind, Parsed, SymCache};
+use symcache::{ErrorKind, SymCache};
 
 // Words
 
@@ -36,10 +32,10 @@ fn add_one(n: u32) -> u32 {
 
 // A text that may be absent.
 fn add_optional(sum: u32, s: &[u8], offset: u32) -> u32 {
-    let GotString::At { start: _, len: _ } = file_texts::read_string(s, offset) else {
-        return add(sum, 0);
-    };
-    add_text(sum, file_texts::get_string(s, offset))
+    match file_texts::read_string(s, offset) {
+        Ok(Some(_)) => add_text(sum, file_texts::get_string(s, offset)),
+        _ => add(sum, 0),
+    }
 }
 
 // What `parse` says, and every row
@@ -73,32 +69,26 @@ fn add_file_row(sum: u32, f: File) -> u32 {
     add_two(sum, f.srcsrv_dir_offset, f.srcsrv_revision_offset)
 }
 
-fn add_got_file(sum: u32, got: GotFile) -> u32 {
-    let GotFile::File(file) = got else {
-        return sum;
-    };
-    add_file_row(sum, file)
-}
-
 fn add_file_rows(sum: u32, s: &[u8], n: u32) -> u32 {
     let mut now = sum;
     for i in 0..n {
-        now = add_got_file(now, lookup::get_file(s, i));
+        if let Ok(Some(file)) = lookup::get_file(s, i) {
+            now = add_file_row(now, file);
+        }
     }
     now
 }
 
-fn add_got_function(sum: u32, got: GotFunction) -> u32 {
-    let GotFunction::Function(f) = got else {
-        return sum;
-    };
+fn add_function_row(sum: u32, f: Function) -> u32 {
     add_four(sum, f.name_offset, f.comp_dir_offset, f.entry_pc, f.lang)
 }
 
 fn add_function_rows(sum: u32, s: &[u8], n: u32) -> u32 {
     let mut now = sum;
     for i in 0..n {
-        now = add_got_function(now, lookup::get_function(s, i));
+        if let Ok(Some(function)) = lookup::get_function(s, i) {
+            now = add_function_row(now, function);
+        }
     }
     now
 }
@@ -149,10 +139,9 @@ fn add_cache(sum: u32, s: &[u8], c: SymCache) -> u32 {
 }
 
 fn add_parsed(sum: u32, s: &[u8]) -> u32 {
-    let parsed = symcache::parse(s);
-    match parsed {
-        Parsed::Cache(c) => add_cache(sum, s, c),
-        Parsed::Refused(kind) => add_error(sum, kind),
+    match symcache::parse(s) {
+        Ok(c) => add_cache(sum, s, c),
+        Err(kind) => add_error(sum, kind),
     }
 }
 
@@ -160,10 +149,10 @@ fn add_parsed(sum: u32, s: &[u8]) -> u32 {
 
 fn functions_number(s: &[u8]) -> u32 {
     let functions = Functions { function_idx: 0 };
-    let FunctionStep::Refused(kind) = functions.next(s) else {
-        return 0;
-    };
-    kind.number()
+    match functions.next(s) {
+        Ok(_) => 0,
+        Err(kind) => kind.number(),
+    }
 }
 
 fn add_name(sum: u32, s: &[u8], function_idx: u32) -> u32 {
@@ -180,11 +169,15 @@ fn add_each_function(sum: u32, s: &[u8]) -> u32 {
     let mut now = sum;
     let mut functions = Functions { function_idx: 0 };
     for _ in 0..u32::MAX {
-        let FunctionStep::Function {
-            index,
-            function,
-            next,
-        } = functions.next(s)
+        let Ok(
+            Some(
+                NextFunction {
+                    index,
+                    function,
+                    next,
+                },
+            ),
+        ) = functions.next(s)
         else {
             break;
         };
@@ -206,10 +199,10 @@ fn add_functions(sum: u32, s: &[u8]) -> u32 {
 
 fn files_number(s: &[u8]) -> u32 {
     let files = Files { file_idx: 0 };
-    let FileStep::Refused(kind) = files.next(s) else {
-        return 0;
-    };
-    kind.number()
+    match files.next(s) {
+        Ok(_) => 0,
+        Err(kind) => kind.number(),
+    }
 }
 
 // The texts of a file; an absent name is empty.
@@ -231,12 +224,7 @@ fn add_each_file(sum: u32, s: &[u8]) -> u32 {
     let mut now = sum;
     let mut files = Files { file_idx: 0 };
     for _ in 0..u32::MAX {
-        let FileStep::File {
-            index: _,
-            file,
-            next,
-        } = files.next(s)
-        else {
+        let Ok(Some(NextFile { file, next, .. })) = files.next(s) else {
             break;
         };
         now = add_file(now, s, file);
@@ -257,8 +245,8 @@ fn add_files(sum: u32, s: &[u8]) -> u32 {
 
 // Lookups
 
-fn add_frame_file(sum: u32, s: &[u8], file: FrameFile) -> u32 {
-    let FrameFile::File(f) = file else {
+fn add_frame_file(sum: u32, s: &[u8], file: Option<File>) -> u32 {
+    let Some(f) = file else {
         return add(sum, 0);
     };
     add_file(sum, s, f)
@@ -275,15 +263,14 @@ fn add_frame(sum: u32, s: &[u8], frame: Frame) -> u32 {
     );
     let sum = add_two(sum, frame.entry_pc, frame.language);
     let sum = add_name(sum, s, frame.function_idx);
-    let file = frame.file;
-    add_frame_file(sum, s, file)
+    add_frame_file(sum, s, frame.file)
 }
 
 fn add_frames(sum: u32, s: &[u8], walk: SourceLocations) -> u32 {
     let mut total = sum;
     let mut now = walk;
     for _ in 0..u32::MAX {
-        let Step::Frame { frame, next } = now.next(s) else {
+        let Ok(Some(Step { frame, next })) = now.next(s) else {
             break;
         };
         total = add_frame(total, s, frame);
@@ -299,10 +286,9 @@ fn add_walk(sum: u32, s: &[u8], walk: SourceLocations) -> u32 {
 }
 
 fn add_lookup(sum: u32, s: &[u8], address: u64) -> u32 {
-    let looked_up = lookup::lookup(s, address);
-    match looked_up {
-        LookedUp::Walk(walk) => add_walk(sum, s, walk),
-        LookedUp::Refused(kind) => add(sum, kind.number()),
+    match lookup::lookup(s, address) {
+        Ok(walk) => add_walk(sum, s, walk),
+        Err(kind) => add(sum, kind.number()),
     }
 }
 
