@@ -13,7 +13,7 @@ use native.Mathlib.Numerals.{add-one}
 use lib.ListN.{length, get_or, take, drop, length-drop, drop_of_length-le}
 use lib.Seq.{take_all, drop-cons}
 use lib.Dec.{eqb, leb}
-use borrow.Author.Tests.{eq-eqb, ne_eqb, lt-ltb, lt-leb, le-leb, leb-true, eqb-true, eqb-false}
+use borrow.Author.Tests.{eq-eqb, ne_eqb, lt-ltb, lt-leb, le-leb, eqb-true, eqb-false}
 use Rattle.names.specs.Names.{starts_with, special, contains, rfind, digit, digits, value, number, prefixed}
 
 -- The part `&s[k..]` is the name without its first k bytes.
@@ -92,14 +92,6 @@ fits-over n s h = rw (lt-leb (value n s) 4294967295 (omega (arith, value_grows n
 pub digit-is : (b : ℕ) → is_ascii_digit b ≡ digit b
 unfolding digit
 digit-is b = refl
-
-pub digit_low : (b : ℕ) → digit b ≡ true → 48 ≤ b
-unfolding digit
-digit_low b h = leb-true 48 b (go (leb 48 b) h)
-  where
-    go : (t : Bool) → (t && leb b 57) ≡ true → t ≡ true
-    go true e = refl
-    go false e = e
 
 pub number_other : (s : List ℕ) → fits 0 s ≡ false → false ≡ number s
 unfolding number fits

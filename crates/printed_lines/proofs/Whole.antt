@@ -5,7 +5,7 @@ use mathlib.Core.List.{List, [], ◌∷◌, ◌++◌}
 use native.Mathlib.Omega.{arith}
 use lib.ListN.{length, length-append, replicate}
 use lib.Seq.{sets}
-use Rattle.printed_lines.specs.Printed.{hex_field, spaced, frame_line_lem, no_frame_line, bad_line, refused_line}
+use Rattle.printed_lines.specs.Printed.{hex_field, spaced, frame_line_lem, no_frame_line, bad_line}
 use Rattle.printed_lines.proofs.Runs.{Filled, blank, next, hex_length, spaced-length}
 
 -- ---- lengths
@@ -20,10 +20,6 @@ no_frame-length a = simp (length-append, hex_length, spaced-length)
 pub bad-length : (n : ℕ) → length (bad_line n) ≡ 11
 unfolding bad_line
 bad-length n = simp (length-append, spaced-length)
-
-pub refused-length : (n : ℕ) → length (refused_line n) ≡ 11
-unfolding refused_line
-refused-length n = refl
 
 -- ---- bytes
 field : {vs s s' : List ℕ} {n : ℕ} (v at m : ℕ) → Filled vs s n → at ≡ length vs → n ≡ 9 + m → s' ≡ sets s at (spaced v) → Filled (vs ++ spaced v) s' m

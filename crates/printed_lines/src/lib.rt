@@ -35,7 +35,10 @@ fn put_spaced(out: &mut [u8], at: usize, value: u32)
     put_hex(out, at + 1, u64::from(value), 8);
 }
 
-// A line.
+// Each of the following prints a line to `out` from `at` on and answers the place after it. Where the line has no
+// room, nothing changes and the answer is `at`.
+
+// A line of any bytes.
 fn put_line(out: &mut [u8], at: usize, line: &[u8]) -> usize
     ensures { wrote_line result out.new ≡ put_line out.old at line.now }
 {
@@ -45,9 +48,6 @@ fn put_line(out: &mut [u8], at: usize, line: &[u8]) -> usize
     }
     at
 }
-
-// Each of the following prints a line to `out` from `at` on and answers the place after it. Where the line has no
-// room, nothing changes and the answer is `at`.
 
 // A frame: 62 bytes.
 pub fn frame_line(

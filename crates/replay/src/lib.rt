@@ -121,11 +121,8 @@ pub fn add_bytes(sum: u32, s: &[u8]) -> u32
 fn hex_digit(d: u32) -> u8
     ensures { result ≡ sum_digit (d % 16) }
 {
-    let d = d % 16;
-    if d < 10 {
-        return (48 + d) as u8;
-    }
-    (55 + d) as u8
+    let d = (d % 16) as u8;
+    if d < 10 { b'0' + d } else { b'A' + (d - 10) }
 }
 
 // The printed line of a checksum. (Digit by digit, as its definition says it: a loop is no plainer.)

@@ -10,7 +10,7 @@ use lib.Dec.{leb}
 use Rattle.std.specs.Int.{w32, from_le_bytes, to_le_bytes}
 use borrow.Author.Tests.{leb-true, leb-false, le-leb, lt-leb}
 use lib.ListN.{length, get_or, set, take, drop, length-append, take-append-drop}
-use lib.Seq.{sets, sets-eq, get_or-append_seam, length-take-le, take_at, drop-cons, take-suc-set, take-length, set_out, length-sets}
+use lib.Seq.{sets, sets-eq, get_or-append_seam, length-take-le, take_at, take-suc-set, take-length, set_out, length-sets}
 use Rattle.slices.specs.Bytes.{le, le_at, bytes_at, word_bytes, Words32, Stands, table_bytes}
 
 -- lengths
@@ -139,12 +139,6 @@ leb-shift a n l h = go (leb a (l - n)) refl where
   go false e = sym (lt-leb (a + n) l (omega (arith, leb-false a (l - n) e)))
 
 -- Runs of stores
-
--- one turn: the element at i is stored, and the rest is to come
-pub sets-turn : (s b : List ℕ) (at i : ℕ) → i < length b → sets (set s (at + i) (get_or b i 0)) (at + (i + 1)) (drop (i + 1) b) ≡ sets s (at + i) (drop i b)
-sets-turn s b at i h =
-    let e : at + suc i ≡ suc (at + i) = omega arith in
-    rw (add-one i, e, drop-cons b i 0 h)
 
 -- two runs, the second where the first ends
 pub sets_join : (vs ws s : List ℕ) (at n : ℕ) → n ≡ at + length vs → sets (sets s at vs) n ws ≡ sets s at (vs ++ ws)
