@@ -14,7 +14,7 @@ ghost use Rattle.memory.specs.Memory.{memory};
 ghost use Rattle.serialize.specs.File.{header_of, layout_of, written_file, Ready, wrote, serialize_of};
 
 use memory::{Converter, State, is_usable, lent};
-use raw::{Header, Range, Stored, VersionInfo};
+use raw::{File, Function, Header, Range, SourceLocation, Stored, VersionInfo};
 use slices::{copy, load_u32, store_u32};
 use tables::Row;
 use tables::kinds::{call_of_row, file_of_row, function_of_row, location_of_row, start_of_row};
@@ -22,16 +22,8 @@ use tables::kinds::{call_of_row, file_of_row, function_of_row, location_of_row, 
 // Document 01's number for an output that is shorter than the file.
 const SYMCACHE_OUTPUT_TOO_SHORT: u32 = 18;
 
-// Magic, version and header; then the rows, of these sizes in bytes.
-const HEAD_SIZE: usize = 80;
-
-const FILE_SIZE: usize = 24;
-
-const FUNCTION_SIZE: usize = 16;
-
-const LOCATION_SIZE: usize = 16;
-
-const RANGE_SIZE: usize = 4;
+// Magic, version and header; then the rows.
+const HEAD_SIZE: usize = VersionInfo::SIZE + Header::SIZE;
 
 // An entry, while the ranges are sorted: a start and a row number.
 const ENTRY_SIZE: usize = 8;
@@ -148,10 +140,10 @@ fn lay_out(state: State) -> Layout
     ensures { result ≡ layout_of state state.ranges }
 {
     let n = state.ranges as usize;
-    let functions = HEAD_SIZE + (state.files as usize) * FILE_SIZE;
-    let call_locations = functions + (state.functions as usize) * FUNCTION_SIZE;
-    let locations = call_locations + (state.call_locations as usize) * LOCATION_SIZE;
-    let padding = locations + n * LOCATION_SIZE + n * RANGE_SIZE;
+    let functions = HEAD_SIZE + (state.files as usize) * File::SIZE;
+    let call_locations = functions + (state.functions as usize) * Function::SIZE;
+    let locations = call_locations + (state.call_locations as usize) * SourceLocation::SIZE;
+    let padding = locations + n * SourceLocation::SIZE + n * Range::SIZE;
     let texts = padding + n % 2 * 4;
     let len = texts + (state.string_bytes as usize);
     Layout {
@@ -220,7 +212,7 @@ fn write_sorted(out: &mut [u8], at: usize, ranges: &[u32], count: u32)
         out.new ≡ sets out.old at (range_sections ranges.now ascending) }
 {
     let entries = at + (count as usize) * ENTRY_SIZE;
-    let starts = at + (count as usize) * LOCATION_SIZE;
+    let starts = at + (count as usize) * SourceLocation::SIZE;
     write_entries(out, entries, ranges, count);
     sorting::sort_entries(&mut out[entries..starts]);
     write_ranges(out, at, ranges, count);
@@ -232,7 +224,7 @@ fn write_entry(out: &mut [u8], at: usize, start: u32, row: u32)
     ensures { out.new ≡ sets out.old at (entry_row (record { from = start; to = row })) }
 {
     store_u32(out, at, start);
-    store_u32(out, at + RANGE_SIZE, row);
+    store_u32(out, at + Range::SIZE, row);
 }
 
 // The entries of the ranges from `at` on.
@@ -254,13 +246,13 @@ fn write_ranges(out: &mut [u8], at: usize, ranges: &[u32], count: u32)
         out.new ≡ sets out.old at (range_sections ranges.now read) }
 {
     let entries = at + (count as usize) * ENTRY_SIZE;
-    let starts = at + (count as usize) * LOCATION_SIZE;
+    let starts = at + (count as usize) * SourceLocation::SIZE;
     for k in 0..count as usize {
         let start = load_u32(out, entries + k * ENTRY_SIZE);
-        let row = load_u32(out, entries + k * ENTRY_SIZE + RANGE_SIZE);
+        let row = load_u32(out, entries + k * ENTRY_SIZE + Range::SIZE);
         let l = location_of_row(tables::row_at(ranges, row));
-        Range(start).write(out, starts + k * RANGE_SIZE);
-        l.write(out, at + k * LOCATION_SIZE);
+        Range(start).write(out, starts + k * Range::SIZE);
+        l.write(out, at + k * SourceLocation::SIZE);
     }
 }
 
