@@ -18,7 +18,14 @@ version_info-cut s at = rw (first_word s at, cut_word s at 4 (omega arith))
 pub file-cut : (s : List ℕ) (at : ℕ) → file_at_lem (bytes_at 72 s at) 0 ≡ file_at_lem s at
 unfolding file_at_lem
 file-cut s at =
-    rw (first_word s at, cut_word s at 4 (omega arith), cut_word s at 8 (omega arith), cut_word s at 12 (omega arith), cut_word s at 16 (omega arith), cut_word s at 20 (omega arith))
+    rw (
+      first_word s at,
+      cut_word s at 4 (omega arith),
+      cut_word s at 8 (omega arith),
+      cut_word s at 12 (omega arith),
+      cut_word s at 16 (omega arith),
+      cut_word s at 20 (omega arith),
+    )
 
 pub function-cut : (s : List ℕ) (at : ℕ) → function_at_lem (bytes_at 72 s at) 0 ≡ function_at_lem s at
 unfolding function_at_lem

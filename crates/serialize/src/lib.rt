@@ -21,16 +21,8 @@ use slices::{copy, load_u32, store_u32};
 use tables::Row;
 use tables::kinds::RangeRow;
 
-// Magic, version and header; then the rows, of these sizes in bytes.
-const HEAD_SIZE: usize = 80;
-
-const FILE_SIZE: usize = 24;
-
-const FUNCTION_SIZE: usize = 16;
-
-const LOCATION_SIZE: usize = 16;
-
-const RANGE_SIZE: usize = 4;
+// Magic, version and header; then the rows.
+const HEAD_SIZE: usize = VersionInfo::SIZE + Header::SIZE;
 
 // An entry, while the ranges are sorted: a start and a row number.
 const ENTRY_SIZE: usize = 8;
@@ -95,10 +87,10 @@ fn lay_out(state: State) -> Layout
     ensures { result ≡ layout_of state state.ranges }
 {
     let n = state.ranges as usize;
-    let functions = HEAD_SIZE + (state.files as usize) * FILE_SIZE;
-    let call_locations = functions + (state.functions as usize) * FUNCTION_SIZE;
-    let locations = call_locations + (state.call_locations as usize) * LOCATION_SIZE;
-    let padding = locations + n * LOCATION_SIZE + n * RANGE_SIZE;
+    let functions = HEAD_SIZE + (state.files as usize) * File::SIZE;
+    let call_locations = functions + (state.functions as usize) * Function::SIZE;
+    let locations = call_locations + (state.call_locations as usize) * SourceLocation::SIZE;
+    let padding = locations + n * SourceLocation::SIZE + n * Range::SIZE;
     let texts = padding + n % 2 * 4;
     let len = texts + (state.string_bytes as usize);
     Layout {
@@ -167,7 +159,7 @@ fn write_sorted(out: &mut [u8], at: usize, ranges: &[u32], count: u32)
         out.new ≡ sets out.old at (range_sections ranges.now ascending) }
 {
     let entries = at + (count as usize) * ENTRY_SIZE;
-    let starts = at + (count as usize) * LOCATION_SIZE;
+    let starts = at + (count as usize) * SourceLocation::SIZE;
     write_entries(out, entries, ranges, count);
     sorting::sort_entries(&mut out[entries..starts]);
     write_ranges(out, at, ranges, count);
@@ -179,7 +171,7 @@ fn write_entry(out: &mut [u8], at: usize, start: u32, row: u32)
     ensures { out.new ≡ sets out.old at (entry_row (record { from = start; to = row })) }
 {
     store_u32(out, at, start);
-    store_u32(out, at + RANGE_SIZE, row);
+    store_u32(out, at + Range::SIZE, row);
 }
 
 // The entries of the ranges from `at` on.
@@ -201,13 +193,13 @@ fn write_ranges(out: &mut [u8], at: usize, ranges: &[u32], count: u32)
         out.new ≡ sets out.old at (range_sections ranges.now read) }
 {
     let entries = at + (count as usize) * ENTRY_SIZE;
-    let starts = at + (count as usize) * LOCATION_SIZE;
+    let starts = at + (count as usize) * SourceLocation::SIZE;
     for k in 0..count as usize {
         let start = load_u32(out, entries + k * ENTRY_SIZE);
-        let row = load_u32(out, entries + k * ENTRY_SIZE + RANGE_SIZE);
+        let row = load_u32(out, entries + k * ENTRY_SIZE + Range::SIZE);
         let l = RangeRow::from(tables::row_at(ranges, row)).location;
-        Range(start).write(out, starts + k * RANGE_SIZE);
-        l.write(out, at + k * LOCATION_SIZE);
+        Range(start).write(out, starts + k * Range::SIZE);
+        l.write(out, at + k * SourceLocation::SIZE);
     }
 }
 

@@ -1,5 +1,4 @@
-use Rattle.std.proofs.Common.{◌≡◌, ◌∙◌, ◌+◌, ◌*◌, refl, sym, ap, arith}
-use Rattle.std.proofs.lemmas.List.Edits.{sets}
+use Rattle.std.proofs.Common.{◌≡◌, ◌∙◌, ◌+◌, ◌*◌, refl, sym, arith}
 use Rattle.slices.specs.Bytes.{table_bytes}
 use Rattle.tables.specs.Table.{rows_from}
 use Rattle.serialize.proofs.Rows.{rows-turn}
@@ -17,7 +16,7 @@ loop-i-preserved g c =
     λ bytes gives long.
     rows-turn bytes size (λ r. long r ∙ sym c.SIZE.ensures) a.out.now c.loop-i.out _ a.at to a.table.now c.loop-i.i c.row_at.result c.row_at.ensures (omega arith)
     (c.loop-i.invariant bytes gives long)
-    (c.write.ensures ∙ ap (sets c.loop-i.out to) (gives c.row_at.result c.of-row.result c.of-row.ensures))
+    (rw (gives c.row_at.result c.of-row.result c.of-row.ensures) at c.write.ensures)
 
 pub returns : goal.returns
 returns g c =
