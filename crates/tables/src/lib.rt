@@ -172,6 +172,7 @@ pub fn over(t: &[u32], n: u32) -> u32
 }
 
 // Row n, at the head of the bucket of its hash, where there is room. The answer is the count of rows after it.
+#[tactic(auto, using(crate::proofs::Room::cap_most), unfolding(crate::specs::Table::push_of))]
 pub fn push(t: &mut [u32], n: u32, row: Row, hash: u32) -> u32
     ensures { left result t.new ≡ push_of t.old n row hash }
 {
