@@ -28,6 +28,7 @@ pub struct Noted {
 
 // The location at a start becomes loc; where `on`, the journal says what was there. The flag stands alone, since the journal is lent either way, and a clause
 // says of a slice inside an Option not what it becomes.
+#[tactic(auto, unfolding(crate::specs::Undo::put_marked_of))]
 pub fn put(
     t: &mut [u32],
     count: u32,
@@ -75,6 +76,7 @@ fn put_noted(
 }
 
 // One more entry for what a put to n rows did: row n was added, or row i changed, or nothing.
+#[tactic(auto, unfolding(crate::specs::Undo::note_was))]
 fn note_was(journal: &mut [u32], m: u32, was: Was, n: u32, i: u32, old: Row) -> u32
     ensures { left result journal.new ≡ note_was journal.old m was n i old }
 {
@@ -86,6 +88,7 @@ fn note_was(journal: &mut [u32], m: u32, was: Was, n: u32, i: u32, old: Row) -> 
 }
 
 // One more entry after m, where there is room.
+#[tactic(auto, unfolding(crate::specs::Undo::note_of))]
 fn note(journal: &mut [u32], m: u32, i: u32, v: u32, old: Row) -> u32
     ensures { left result journal.new ≡ note_of journal.old m i v old }
 {
@@ -97,6 +100,7 @@ fn note(journal: &mut [u32], m: u32, i: u32, v: u32, old: Row) -> u32
     tables::over(journal, m)
 }
 
+#[tactic(auto, unfolding(crate::specs::Undo::set_entry))]
 fn set_entry(journal: &mut [u32], k: u32, i: u32, v: u32, old: Row)
     ensures { journal.new ≡ set_entry journal.old k i v old }
 {
@@ -117,6 +121,7 @@ pub fn undo_ranges(t: &mut [u32], journal: &mut [u32], entries: u32, to: u32)
 }
 
 // The ranges with entry k taken back.
+#[tactic(auto, unfolding(crate::specs::Undo::undo_at))]
 fn undo_at(t: &mut [u32], journal: &[u32], k: u32)
     ensures { t.new ≡ undo_at t.old journal.now k }
 {
@@ -128,6 +133,7 @@ fn undo_at(t: &mut [u32], journal: &[u32], k: u32)
 }
 
 // Row i is taken off where it was added, and is again what it was where it was changed.
+#[tactic(auto, unfolding(crate::specs::Undo::undo_entry))]
 fn undo_entry(t: &mut [u32], i: u32, v: u32, old: Row)
     ensures { t.new ≡ undo_entry t.old i v old }
 {

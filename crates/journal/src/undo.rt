@@ -50,6 +50,7 @@ fn cut(text: &mut [u8], to: u32, n: u32)
 }
 
 // Row n is taken off, where there is room for one.
+#[tactic(auto, unfolding(crate::specs::Undo::off_of))]
 pub fn take_off(t: &mut [u32], n: u32, by: By)
     ensures { t.new ≡ off_of (width_by by) t.old n }
 {
@@ -61,6 +62,7 @@ pub fn take_off(t: &mut [u32], n: u32, by: By)
 }
 
 // The hash by which a row was put into its bucket.
+#[tactic(auto, unfolding(crate::specs::Undo::row_hash_of))]
 fn row_hash(row: Row, by: By) -> u32
     ensures { result ≡ row_hash_of (width_by by) row }
 {

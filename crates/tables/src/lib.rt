@@ -62,6 +62,7 @@ pub fn capacity(t: &[u32]) -> u32
 }
 
 // Row i; words past the end are 0.
+#[tactic(auto, unfolding(crate::specs::Table::row_at))]
 pub fn row_at(t: &[u32], i: u32) -> Row
     ensures { result ≡ row_at t.now i }
 {
@@ -87,6 +88,7 @@ pub fn six(t: &[u32], k0: usize) -> Row
 }
 
 // Row i becomes r; words past the end are not stored.
+#[tactic(auto, unfolding(crate::specs::Table::set_row))]
 pub fn set_row(t: &mut [u32], i: u32, r: Row)
     ensures { t.new ≡ set_row t.old i r }
 {
@@ -109,6 +111,7 @@ pub fn set_six(t: &mut [u32], k0: usize, r: Row)
 }
 
 // The link of row i.
+#[tactic(auto, unfolding(crate::specs::Table::link_at))]
 pub fn link_at(t: &[u32], i: u32) -> u32
     ensures { result ≡ link_at t.now i }
 {
@@ -116,6 +119,7 @@ pub fn link_at(t: &[u32], i: u32) -> u32
 }
 
 // The head of bucket h, in a table of cap rows.
+#[tactic(auto, unfolding(crate::specs::Table::head_at))]
 fn head_at(t: &[u32], cap: u32, h: u32) -> u32
     ensures { result ≡ head_at cap t.now h }
 {
@@ -129,8 +133,9 @@ pub fn bucket(hash: u32, cap: u32) -> u32
     if cap == 0 {
         return 0;
     }
-    let all = cap as u64;
-    let at = (hash as u64 / 512) * all / 8388608 + hash as u64 % 512;
+    let all = u64::from(cap);
+    let hash = u64::from(hash);
+    let at = hash / 512 * all / 8388608 + hash % 512;
     if at < all {
         return at as u32;
     }
@@ -138,6 +143,7 @@ pub fn bucket(hash: u32, cap: u32) -> u32
 }
 
 // Row n, with its link, at the head of bucket h.
+#[tactic(auto, unfolding(crate::specs::Table::append_of))]
 fn append(t: &mut [u32], cap: u32, n: u32, row: Row, link: u32, h: u32)
     requires { n < max_rows }
     ensures { t.new ≡ append_of cap t.old n row link h }
@@ -166,6 +172,7 @@ pub fn over(t: &[u32], n: u32) -> u32
 }
 
 // Row n, at the head of the bucket of its hash, where there is room. The answer is the count of rows after it.
+#[tactic(auto, using(crate::proofs::Room::cap_most), unfolding(crate::specs::Table::push_of))]
 pub fn push(t: &mut [u32], n: u32, row: Row, hash: u32) -> u32
     ensures { left result t.new ≡ push_of t.old n row hash }
 {
@@ -198,15 +205,16 @@ impl Key {
 // The words by factors that no power of two divides, modulo a prime. Of the first word its block of 4,096 counts there, and its place in the block is added by
 // sixteens, so that starts that are near each other have buckets that are. Blocks go by the golden section: those that follow each other lie apart, and hardly
 // overlap.
+#[tactic(auto, unfolding(crate::specs::Table::hash_of))]
 pub fn hash(k: Row) -> u32
     ensures { result ≡ hash_of k }
 {
-    let s = (k.a as u64 / 4096) * 2654435443
-        + (k.b as u64) * 378551279
-        + (k.c as u64) * 511286833
-        + (k.d as u64) * 296414521
-        + (k.e as u64) * 347229887
-        + (k.f as u64) * 467201681;
+    let s = (u64::from(k.a) / 4096) * 2654435443
+        + u64::from(k.b) * 378551279
+        + u64::from(k.c) * 511286833
+        + u64::from(k.d) * 296414521
+        + u64::from(k.e) * 347229887
+        + u64::from(k.f) * 467201681;
     (s % 4294966769) as u32 / 512 * 512 + k.a % 4096 / 16
 }
 
@@ -254,6 +262,7 @@ pub fn follow<P: Probe>(t: &[u32], n: u32, l: u32, probe: &P) -> Option<u32>
 }
 
 // The number + 1 of the newest row in the bucket of the key of `row`, which may have it; 0 where there is none.
+#[tactic(auto, unfolding(crate::specs::Table::newest_of))]
 fn newest(t: &[u32], row: Row, key: Key) -> u32
     ensures { result ≡ newest_of (width_of key) t.now row }
 {
@@ -261,6 +270,7 @@ fn newest(t: &[u32], row: Row, key: Key) -> u32
 }
 
 // The number of the row with the key of `row` among the first n.
+#[tactic(auto, unfolding(crate::specs::Table::lookup_of))]
 pub fn lookup(t: &[u32], n: u32, row: Row, key: Key) -> Option<u32>
     ensures { result ≡ found_of n (lookup_of (width_of key) t.now n row) }
 {

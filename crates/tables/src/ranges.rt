@@ -67,6 +67,7 @@ pub fn put(t: &mut [u32], count: u32, start: u32, loc: SourceLocation) -> Change
 }
 
 // Row i becomes row.
+#[tactic(auto, using(crate::proofs::Rows::equal_same), unfolding(crate::specs::Ranges::replace_of))]
 fn replace(t: &mut [u32], i: u32, row: Row) -> Was
     ensures { left result t.new ≡ replace_of t.old i row }
 {
