@@ -9,7 +9,7 @@ fn print_after_space(rt: &impl Print, n: u64) {
 }
 
 fn print_error(rt: &impl Print, kind: ErrorKind) {
-    print_after_space(rt, kind.number() as u64);
+    print_after_space(rt, u64::from(kind.number()));
     let ErrorKind::UnexpectedStringBytes { expected, found } = kind else {
         return;
     };
@@ -19,11 +19,11 @@ fn print_error(rt: &impl Print, kind: ErrorKind) {
 
 fn print_cache(rt: &impl Print, c: SymCache) {
     print_after_space(rt, 0);
-    print_after_space(rt, c.num_files as u64);
-    print_after_space(rt, c.num_functions as u64);
-    print_after_space(rt, c.num_source_locations as u64);
-    print_after_space(rt, c.num_ranges as u64);
-    print_after_space(rt, c.string_bytes as u64);
+    print_after_space(rt, u64::from(c.num_files));
+    print_after_space(rt, u64::from(c.num_functions));
+    print_after_space(rt, u64::from(c.num_source_locations));
+    print_after_space(rt, u64::from(c.num_ranges));
+    print_after_space(rt, u64::from(c.string_bytes));
 }
 
 fn print_parsed(rt: &impl Print, s: &[u8]) {
@@ -33,18 +33,11 @@ fn print_parsed(rt: &impl Print, s: &[u8]) {
     }
 }
 
-fn print_cut(rt: &impl Print, s: &[u8], n: usize) {
-    if s.len() < n {
-        return;
-    }
-    let _ = print!(rt; "{n}");
-    print_parsed(rt, &s[0..n]);
-    let _ = println!(rt);
-}
-
 fn print_cuts(rt: &impl Print, s: &[u8]) {
     for n in 0..=s.len() {
-        print_cut(rt, s, n);
+        let _ = print!(rt; "{n}");
+        print_parsed(rt, &s[..n]);
+        let _ = println!(rt);
     }
 }
 

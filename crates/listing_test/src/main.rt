@@ -2,12 +2,21 @@
 // case: how many runs, and how many of them printed something else. stdout.txt says how the cases were made.
 #![tactic(auto)]
 
-ghost use Rattle.std.specs.Prelude.{◌+◌, ◌≤◌, length};
+ghost use Rattle.std.specs.Prelude.{◌≤◌, length};
 
 use input_lines::Input;
 use listing::Listing;
+use replay::{place, word};
 use std::fs;
 use std::io::Read;
+
+// A file, an input, and what is to be printed of it.
+#[derive(Clone, Copy)]
+struct Case<'a> {
+    file: &'a [u8],
+    input: &'a [u8],
+    expected: &'a [u8],
+}
 
 // A listing under way, how many of the expected bytes were printed, and whether all that was printed was expected.
 #[derive(Clone, Copy)]
@@ -17,202 +26,79 @@ struct Run {
     same: bool,
 }
 
-// The same after a call, and how many bytes of the piece it used.
-#[derive(Clone, Copy)]
-struct Called {
-    run: Run,
-    used: usize,
-}
-
 // How many runs were made, and how many of them printed something else.
-#[derive(Clone, Copy)]
+#[derive(Clone, Copy, Default)]
 struct Tally {
     runs: u32,
     differ: u32,
 }
 
-// Comparing
-
-// Whether the byte at `i` of `out` is the one at `at + i` of `expected`.
-fn same_byte(expected: &[u8], at: usize, out: &[u8], i: usize) -> bool {
-    if out.len() <= i {
-        return false;
-    }
-    if expected.len() <= at {
-        return false;
-    }
-    if expected.len() - at <= i {
-        return false;
-    }
-    expected[at + i] == out[i]
-}
-
-// Whether the first `n` bytes of `out` stand in `expected` from `at` on.
-fn same_at(expected: &[u8], at: usize, out: &[u8], n: usize) -> bool {
-    for i in 0..n {
-        if !same_byte(expected, at, out, i) {
-            return false;
-        }
-    }
-    true
-}
-
 // Listing
 
-fn least(a: usize, b: usize) -> usize
-    ensures { (result ≤ a) × (result ≤ b) }
-{
-    if a < b {
-        return a;
-    }
-    b
-}
-
-fn both(a: bool, b: bool) -> bool {
-    if a {
-        return b;
-    }
-    false
-}
-
-// One call.
-fn call(file: &[u8], run: Run, piece: &[u8], out: &mut [u8], expected: &[u8]) -> Called
-    ensures { result.used ≤ length piece.now }
-{
-    let listing = run.listing;
-    let listed = listing::list(file, listing, piece, out);
-    let as_expected = same_at(expected, run.at, out, listed.written);
-    let listing = listed.listing;
-    Called {
-        run: Run {
-            listing,
-            at: replay::place(run.at, listed.written),
-            same: both(run.same, as_expected),
-        },
-        used: listed.used,
-    }
-}
-
-// One call with a piece of the input from `from` on, of `most` bytes at most; `used` is the place after what it used.
-fn call_from(
-    file: &[u8],
-    run: Run,
-    input: &[u8],
-    from: usize,
-    most: usize,
-    out: &mut [u8],
-    expected: &[u8],
-) -> Called
-    requires { from ≤ length input.now }
-    ensures { result.used ≤ length input.now }
-{
-    let end = from + least(most, input.len() - from);
-    let called = call(file, run, &input[from..end], out, expected);
-    let run = called.run;
-    Called {
-        run,
-        used: replay::place(from, called.used),
-    }
-}
-
-// The whole input, in pieces of `step` bytes at most, the first of `first`. Nothing says that calls get on, so they are counted.
-fn list_input(
-    file: &[u8],
-    run: Run,
-    input: &[u8],
-    first: usize,
-    step: usize,
-    out: &mut [u8],
-    expected: &[u8],
-) -> Run {
-    let mut run = run;
-    let mut from: usize = 0;
-    let mut most = first;
-    for _ in 0..1000000 {
-        if input.len() <= from {
-            break;
-        }
-        let called = call_from(file, run, input, from, most, out, expected);
-        let rest = called.run;
-        run = rest;
-        from = called.used;
-        most = step;
-    }
-    run
-}
-
-// Calls without input, until nothing waits.
-fn drain(file: &[u8], run: Run, out: &mut [u8], expected: &[u8]) -> Run {
-    let mut run = run;
-    for _ in 0..1000000 {
-        if !run.is_waiting() {
-            break;
-        }
-        let called = call(file, run, &file[..0], out, expected);
-        let rest = called.run;
-        run = rest;
-    }
-    run
-}
-
 impl Run {
-    fn is_waiting(self) -> bool {
-        let listing = self.listing;
-        listing.is_waiting()
+    // One call, and how many bytes of the piece it used.
+    fn call(&mut self, case: Case, piece: &[u8], out: &mut [u8]) -> usize
+        ensures { result ≤ length piece.now }
+    {
+        let listed = listing::list(case.file, self.listing, piece, out);
+        let printed = &out[..listed.written];
+        let as_expected = match case.expected.get(self.at..) {
+            Some(rest) => rest.starts_with(printed),
+            None => false,
+        };
+        self.listing = listed.listing;
+        self.at = place(self.at, listed.written);
+        self.same = self.same && as_expected;
+        listed.used
     }
 
-    // After the end of the input.
-    fn end(self, file: &[u8]) -> Run {
-        let listing = self.listing;
-        Run {
-            listing: listing.end(file),
-            at: self.at,
-            same: self.same,
+    // The whole input, in pieces of `step` bytes at most, the first of `first`. Nothing says that calls get on, so they are counted.
+    fn read(&mut self, case: Case, first: usize, step: usize, out: &mut [u8]) {
+        let mut rest = case.input;
+        let mut most = first;
+        for _ in 0..1000000 {
+            if rest.is_empty() {
+                break;
+            }
+            let used = self.call(case, &rest[..most.min(rest.len())], out);
+            rest = &rest[used..];
+            most = step;
         }
     }
 
-    // Whether just what was expected was printed.
-    fn is_whole(self, expected: &[u8]) -> bool {
-        if self.same {
-            return self.at == expected.len();
+    // Calls without input, until nothing waits.
+    fn drain(&mut self, case: Case, out: &mut [u8]) {
+        for _ in 0..1000000 {
+            if !self.listing.is_waiting() {
+                break;
+            }
+            self.call(case, &[], out);
         }
-        false
     }
 }
 
-// Whether a listing to outputs of `room` bytes prints what is expected.
-fn list_to(
-    file: &[u8],
-    listing: Listing,
-    input: &[u8],
-    first: usize,
-    step: usize,
-    room: usize,
-    expected: &[u8],
-) -> bool {
+// Whether a listing to outputs of `room` bytes prints just what is expected.
+fn is_listed(case: Case, listing: Listing, first: usize, step: usize, room: usize) -> bool {
     let mut space = [0u8; 65536];
-    let room = least(room, 65536);
-    let out = &mut space[..room];
-    let run = Run {
+    let out = &mut space[..room.min(65536)];
+    let mut run = Run {
         listing,
         at: 0,
         same: true,
     };
-    let run = list_input(file, run, input, first, step, out, expected);
-    let run = drain(file, run, out, expected);
-    let run = run.end(file);
-    let run = drain(file, run, out, expected);
-    run.is_whole(expected)
+    run.read(case, first, step, out);
+    run.drain(case, out);
+    run.listing = run.listing.end(case.file);
+    run.drain(case, out);
+    run.same && run.at == case.expected.len()
 }
 
 // Cases
 
 impl Tally {
-    fn with(self, same: bool) -> Tally {
-        Tally {
-            runs: std::num::wrapping_add_u32(self.runs, 1),
-            differ: std::num::wrapping_add_u32(self.differ, one_unless(same)),
-        }
+    fn add(&mut self, same: bool) {
+        self.runs = self.runs.wrapping_add(1);
+        self.differ = self.differ.wrapping_add(u32::from(!same));
     }
 
     fn print(self, rt: &impl Print) {
@@ -222,92 +108,58 @@ impl Tally {
     }
 }
 
-fn one_unless(same: bool) -> u32 {
-    if same {
-        return 0;
+fn list_case(case: Case, listing: Listing) -> Tally {
+    let mut tally = Tally::default();
+    // The input in two pieces, cut at each place; into one output.
+    for cut in 0..case.input.len() {
+        tally.add(is_listed(case, listing, cut, 65536, 65536));
     }
-    1
-}
-
-// The input in two pieces, cut at each place; into one output.
-fn cut_once(file: &[u8], listing: Listing, input: &[u8], expected: &[u8], tally: Tally) -> Tally {
-    let mut tally = tally;
-    for cut in 0..input.len() {
-        tally = tally.with(list_to(file, listing, input, cut, 65536, 65536, expected));
+    // The input in pieces of each length, from one byte on; into outputs that one line fits into.
+    for step in 1..=case.input.len() {
+        tally.add(is_listed(case, listing, step, step, 62));
     }
-    tally
-}
-
-// The input in pieces of each length, from one byte on; into outputs that one line fits into.
-fn cut_often(file: &[u8], listing: Listing, input: &[u8], expected: &[u8], tally: Tally) -> Tally {
-    let mut tally = tally;
-    for step in 1..=input.len() {
-        tally = tally.with(list_to(file, listing, input, step, step, 62, expected));
-    }
-    tally
-}
-
-// The whole input; into outputs of 62 to 186 bytes, which three lines fit into.
-fn cut_output(file: &[u8], listing: Listing, input: &[u8], expected: &[u8], tally: Tally) -> Tally {
-    let mut tally = tally;
+    // The whole input; into outputs of 62 to 186 bytes, which three lines fit into.
     for room in 62..=186 {
-        tally = tally.with(list_to(file, listing, input, 65536, 65536, room, expected));
+        tally.add(is_listed(case, listing, 65536, 65536, room));
     }
+    tally
+}
+
+// A refused file prints its line, and nothing else.
+fn refuse_case(case: Case, number: u32) -> Tally {
+    let mut out = [0u8; 11];
+    printed_lines::refused_line(&mut out, 0, number);
+    let mut tally = Tally::default();
+    tally.add(case.expected == out.as_slice());
     tally
 }
 
 // The listing, at a line of that number.
 fn at_number(listing: Listing, number: u32) -> Listing {
-    let input = listing.input;
-    let line = input.line;
-    let cache = listing.cache;
-    let waiting = listing.waiting;
-    Listing {
-        cache,
-        input: Input { line, number },
-        waiting,
-    }
-}
-
-fn list_case(file: &[u8], listing: Listing, input: &[u8], expected: &[u8]) -> Tally {
-    let tally = Tally { runs: 0, differ: 0 };
-    let tally = cut_once(file, listing, input, expected, tally);
-    let tally = cut_often(file, listing, input, expected, tally);
-    cut_output(file, listing, input, expected, tally)
-}
-
-// A refused file prints its line, and nothing else.
-fn refuse_case(number: u32, expected: &[u8]) -> Tally {
-    let mut out = [0u8; 11];
-    printed_lines::refused_line(&mut out, 0, number);
-    let same = both(expected.len() == 11, same_at(expected, 0, &out, 11));
-    let tally = Tally { runs: 0, differ: 0 };
-    tally.with(same)
-}
-
-fn run_case(
-    rt: &impl Print,
-    file: &[u8],
-    too_long: bool,
-    number: u32,
-    input: &[u8],
-    expected: &[u8],
-) {
-    let tally = match listing::begin(file, too_long) {
-        Ok(listing) => list_case(file, at_number(listing, number), input, expected),
-        Err(refused) => refuse_case(refused.number(), expected),
+    let input = Input {
+        number,
+        ..listing.input
     };
-    tally.print(rt);
+    Listing { input, ..listing }
 }
 
 // A record: whether the file is too long, the number of the first line, how many bytes the file has, and the input; then these, and what is expected.
 fn replay_case(rt: &impl Print, s: &[u8]) {
-    let too_long = replay::word(s, 0) != 0;
-    let number = replay::word(s, 4);
-    let a = least(16, s.len());
-    let b = a + least(replay::word(s, 8) as usize, s.len() - a);
-    let c = b + least(replay::word(s, 12) as usize, s.len() - b);
-    run_case(rt, &s[a..b], too_long, number, &s[b..c], &s[c..]);
+    let too_long = word(s, 0) != 0;
+    let number = word(s, 4);
+    let (_, rest) = s.split_at(s.len().min(16));
+    let (file, rest) = rest.split_at(rest.len().min(word(s, 8) as usize));
+    let (input, expected) = rest.split_at(rest.len().min(word(s, 12) as usize));
+    let case = Case {
+        file,
+        input,
+        expected,
+    };
+    let tally = match listing::begin(file, too_long) {
+        Ok(listing) => list_case(case, at_number(listing, number)),
+        Err(refused) => refuse_case(case, refused.number()),
+    };
+    tally.print(rt);
 }
 
 // Replays the next record, and answers whether there was one.

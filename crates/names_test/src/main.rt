@@ -7,11 +7,9 @@ fn show(rt: &impl Print, name: &[u8]) {
 }
 
 fn show_lines(rt: &impl Print, s: &[u8]) {
-    let mut start = 0;
-    for (i, &b) in s.iter().enumerate() {
-        if b == b'\n' {
-            show(rt, &s[start..i]);
-            start = i + 1;
+    for line in s.split_inclusive(|b| *b == b'\n') {
+        if let Some(name) = line.strip_suffix(b"\n") {
+            show(rt, name);
         }
     }
 }
