@@ -31,6 +31,7 @@ pub fn newest(t: &[u32], start: u32) -> u32
 }
 
 // The location at a start.
+#[tactic(auto, using(crate::proofs::Found::some_found, crate::proofs::Found::none_found), unfolding(crate::specs::Ranges::get_of))]
 pub fn get(t: &[u32], count: u32, start: u32) -> Option<SourceLocation>
     ensures { result ≡ get_of t.now count start }
 {
