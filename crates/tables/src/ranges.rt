@@ -40,6 +40,7 @@ pub fn get(t: &[u32], count: u32, start: u32) -> Option<SourceLocation>
 }
 
 // The location at a start becomes loc. A count above the capacity changes nothing.
+#[tactic(auto, using(crate::proofs::Kept::count_kept), unfolding(crate::specs::Ranges::put_of, crate::specs::Ranges::put_at))]
 pub fn put(t: &mut [u32], count: u32, start: u32, loc: SourceLocation) -> Change
     ensures { left result t.new ≡ put_of t.old count (range_row_lem start loc) }
 {
