@@ -4,22 +4,25 @@
 
 ghost use Rattle.std.specs.Prelude.{◌≡◌, []};
 ghost use Rattle.slices.specs.Bytes.{bytes_at};
-ghost use Rattle.memory.specs.Memory.{memory};
+ghost use Rattle.errors.specs.Numbers.{code_of};
+ghost use Rattle.memory.specs.Memory.{SameTables, memory_of};
 ghost use Rattle.c_words.specs.Writing.{call_left, begin_call};
 
 use c_words::record::store;
-use memory::SYMCACHE_CLOSED;
+use errors::Refusal;
+use memory::Tables;
+use raw::{Header, Stored};
 use slices::is_set;
 
 // The first 32 bytes, zeros past the end: a header row begins with its debug id.
 fn debug_id_of(bytes: &[u8]) -> [u8; 32]
     ensures { result ≡ bytes_at 32 bytes.now 0 }
 {
-    let header = raw::header_at(bytes, 0);
+    let header = Header::read(bytes, 0);
     header.debug_id
 }
 
-// A new converter. 0, or 19 where the record has fewer than twenty words.
+// A new converter; closed where the record has fewer than twenty words.
 #[tactic(auto, using(crate::proofs::BeginLaws::begin_cases))]
 pub fn begin(
     record: &mut [u32],
@@ -27,35 +30,22 @@ pub fn begin(
     arch: u32,
     undecorate_functions: u32,
     undecorate_symbols: u32,
-    string_bytes: &mut [u8],
-    strings: &mut [u32],
-    files: &mut [u32],
-    functions: &mut [u32],
-    call_locations: &mut [u32],
-    ranges: &mut [u32],
-) -> u32
-    ensures { let before = memory string_bytes.old strings.old files.old functions.old
-        call_locations.old ranges.old in
-        let after = memory string_bytes.new strings.new files.new functions.new
-        call_locations.new ranges.new in
-        call_left result «record».new after []
-        ≡ begin_call «record».old debug_id.now arch undecorate_functions undecorate_symbols before }
+    tables: &mut Tables,
+) -> Result<(), Refusal>
+    ensures same { SameTables tables.old tables.new }
+    ensures left { call_left (code_of result) «record».new (memory_of tables.new) []
+        ≡ begin_call «record».old debug_id.now arch undecorate_functions undecorate_symbols (memory_of tables.old) }
 {
     if record.len() < 20 {
-        return SYMCACHE_CLOSED;
+        return Err(Refusal::Closed);
     }
-    let c = memory::begin(
+    let converter = memory::begin(
         debug_id_of(debug_id),
         arch,
         is_set(undecorate_functions),
         is_set(undecorate_symbols),
-        string_bytes,
-        strings,
-        files,
-        functions,
-        call_locations,
-        ranges,
+        tables,
     );
-    store(record, c);
-    0
+    store(record, converter);
+    Ok(())
 }

@@ -10,7 +10,7 @@ use lib.ListN.{length, take, drop, length-take}
 use lib.Seq.{take-take, drop-drop}
 use Rattle.raw.specs.declared.Function.{Function}
 use Rattle.text.specs.declared.strings.Text.{Text}
-use Rattle.text.specs.declared.strings.Text.TheVariants as text
+use Rattle.std.specs.Prelude as std
 use Rattle.text.specs.Texts.{read_text, bytes_of, text_part}
 use Rattle.text.proofs.TextLaws.{text-within}
 use Rattle.symcache.specs.declared.SymCache.{SymCache}
@@ -80,13 +80,13 @@ part_of_front (suc start) len (suc n) [] h = refl
 part_of_front (suc start) len (suc n) (a ∷ x) h = part_of_front start len n x (omega arith)
 
 module _ (s d : List ℕ) (c : SymCache) where
-  placed-shown : (o : ℕ) (t : Text) → read_text (section_of s c) o ≡ t → name_or d (part_of s (gives (placed c.strings t))) ≡ text_or d (section_of s c) t
+  placed-shown : (o : ℕ) (t : std.Option Text) → read_text (section_of s c) o ≡ t → name_or d (part_of s (gives (placed c.strings t))) ≡ text_or d (section_of s c) t
   unfolding placed text_or section_of
-  placed-shown o text.Absent e = refl
-  placed-shown o (text.At start len) e =
-      let within : start + len ≤ length (take c.string_bytes (drop c.strings s)) = text-within _ o start len e in
+  placed-shown o std.None e = refl
+  placed-shown o (std.Some t) e =
+      let within : t.start + t.len ≤ length (take c.string_bytes (drop c.strings s)) = text-within _ o t.start t.len e in
       let front : length (take c.string_bytes (drop c.strings s)) ≤ c.string_bytes = simp length-take (omega arith) in
-      sym (part_of_front start len c.string_bytes (drop c.strings s) (omega arith) ∙ ap (take len) (drop-drop start c.strings s))
+      sym (part_of_front t.start t.len c.string_bytes (drop c.strings s) (omega arith) ∙ ap (take t.len) (drop-drop t.start c.strings s))
 
   function-shown : (f : Option Function) → parsed s ≡ gives c
       → name_or d (part_of s (name_after s f)) ≡ elim f [ none ↦ d | some g ↦ text_or d (section_of s c) (read_text (section_of s c) g.name_offset) ]
@@ -108,9 +108,9 @@ pub string_is : (s : List ℕ) (o : ℕ) → name_or [] (text_shown s o) ≡ str
 unfolding got_string string_of and_then or_else text_or text_part bytes_of
 string_is s o = go (parsed s)
   where
-    or_empty : (t : List ℕ) (x : Text) → text_or [] t x ≡ bytes_of t x
-    or_empty t text.Absent = refl
-    or_empty t (text.At start len) = refl
+    or_empty : (t : List ℕ) (x : std.Option Text) → text_or [] t x ≡ bytes_of t x
+    or_empty t std.None = refl
+    or_empty t (std.Some p) = refl
 
     go : (p : Answer SymCache)
         → name_or [] (part_of s (and_then p (λ c. gives (placed c.strings (read_text (section_of s c) o))))) ≡ or_else (and_then p (λ c. gives (text_part (section_of s c) o))) []

@@ -10,20 +10,20 @@ ghost use Rattle.c_reading.specs.Reading.{find_call, walk_words, walk_of, walk_c
 
 use c_reading::put_file;
 use lookup::{Frame, SourceLocations, Step};
-use slices::{put, word, word64};
+use slices::{put, word};
 use symcache::{ErrorKind, SymCache};
 
 // A count: its word cut to 32 bits.
 fn count(cache: &[u64], j: usize) -> u32
     ensures { result ≡ count_at cache.now j }
 {
-    (word64(cache, j) % 4294967296) as u32
+    (word(cache, j) % 4294967296) as u32
 }
 
 fn offset(cache: &[u64], j: usize) -> usize
     ensures { result ≡ get_or cache.now j 0 }
 {
-    word64(cache, j) as usize
+    word(cache, j) as usize
 }
 
 #[tactic(auto, unfolding(c_reading::specs::Reading::cache_of))]

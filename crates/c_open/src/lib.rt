@@ -7,7 +7,7 @@ ghost use Rattle.symcache.specs.Answers.{refusal_of, parse_answer};
 ghost use Rattle.c_reading.specs.Stored.{stored};
 ghost use Rattle.c_reading.specs.Reading.{filled, cache_words, refused, cached, parse_call, open_call};
 
-use slices::put64;
+use slices::put;
 use symcache::{ErrorKind, SymCache};
 
 // Where a table lies and how many rows it has: words k and k + 1.
@@ -15,8 +15,8 @@ fn put_table(cache: &mut [u64], k: u32, at: usize, n: u32)
     ensures { cache.new ≡ sets cache.old k (at ∷ n ∷ []) }
 {
     let k = k as usize;
-    put64(cache, k, at as u64);
-    put64(cache, k + 1, u64::from(n));
+    put(cache, k, at as u64);
+    put(cache, k + 1, u64::from(n));
 }
 
 // The words of a cache: offset and count of the files, functions, source locations and ranges, then where the texts lie and how many bytes they have.
@@ -37,8 +37,8 @@ fn put_refusal(cache: &mut [u64], kind: ErrorKind) -> u32
 {
     match kind {
         ErrorKind::UnexpectedStringBytes { expected, found } => {
-            put64(cache, 0, expected as u64);
-            put64(cache, 1, found as u64);
+            put(cache, 0, expected as u64);
+            put(cache, 1, found as u64);
             10
         }
         _ => kind.number(),

@@ -6,7 +6,7 @@ ghost use Rattle.file_texts.specs.Strings.{string_answer};
 ghost use Rattle.c_reading.specs.Reading.{filled, answered, part_words, string_call, got_name, name_call};
 
 use file_texts::Part;
-use slices::put64;
+use slices::put;
 use symcache::ErrorKind;
 
 #[tactic(auto, unfolding(c_reading::specs::Reading::answered))]
@@ -15,13 +15,13 @@ fn put_string(part: &mut [u64], string: Result<Option<Part>, ErrorKind>) -> u32
 {
     match string {
         Ok(Some(Part { start, len })) => {
-            put64(part, 0, 1);
-            put64(part, 1, start as u64);
-            put64(part, 2, len as u64);
+            put(part, 0, 1);
+            put(part, 1, start as u64);
+            put(part, 2, len as u64);
             0
         }
         Ok(None) => {
-            put64(part, 0, 0);
+            put(part, 0, 0);
             0
         }
         Err(kind) => kind.number(),

@@ -26,13 +26,6 @@ use Rattle.c_words.specs.Record.{converter_of, kept}
 use Rattle.c_words.specs.Writing.{CallLeft, call_left, tree_call, LinesCallLeft, lines_left_lem, lines_call}
 use Rattle.c_trees.specs.Unpacked.{unpacked_call}
 
--- ── `lines_refusal` ──
-
-pub decided : (r : List ℕ) (x i f g k q : ℕ) (s u v : ℕ) (f64 f32 : List ℕ) (n : ℕ) (b : Bool) (t : List ℕ) {c : Converter} {w : Bool} {z : ℕ} → c ≡ converter_of r → w ≡ usable_by c x i f g k q
-    → z ≡ number_of w s u v f64 f32 n b t → z ≡ number_of (usable_by (converter_of r) x i f g k q) s u v f64 f32 n b t
-decided r x i f g k q s u v f64 f32 n b t ec ew e =
-    e ∙ (λ j. number_of (ew j) s u v f64 f32 n b t) ∙ (λ j. number_of (usable_by (ec j) x i f g k q) s u v f64 f32 n b t)
-
 -- ── `process_unpacked` ──
 
 module _ (refused n : ℕ) (r : List ℕ) (m : Memory) (s u v f64 f32 t : List ℕ) where
@@ -53,13 +46,6 @@ module _ (refused n : ℕ) (r : List ℕ) (m : Memory) (s u v f64 f32 t : List �
         → lines_left_lem o u₁ v₁ ≡ unpacked_call refused n r m s u v f64 f32 t
     unfolding unpacked_call
     unpacked_taken g h d x y = rw (eq-eqb refused 0 e, le-leb n (length u / 3) g, le-leb n (length v / 14) h, d, x, y)
-
--- the words of n rows that were tested to have room
-pub fits64 : (n m : ℕ) → n ≤ m / 3 → n * 3 ≤ m
-fits64 n m h = omega arith
-
-pub fits32 : (n m : ℕ) → n ≤ m / 14 → n * 14 ≤ m
-fits32 n m h = omega arith
 
 -- ── A refusal leaves the record ──
 

@@ -1,162 +1,175 @@
-// Tree calls over words: the converter's record is twenty words between calls, and the six tables are lent at each call. The exported functions pass on
-// what these answer.
+// Tree and symbol calls over words: the converter's record is twenty words between calls, and the six tables are lent at each call. The exported functions
+// pass on what these answer.
 #![tactic(auto)]
 
-ghost use Rattle.std.specs.Prelude.{◌≡◌};
-ghost use Rattle.rows.specs.Columns.{columns};
-ghost use Rattle.memory.specs.Memory.{memory};
+ghost use Rattle.std.specs.Prelude.{◌≡◌, []};
+ghost use Rattle.rows.specs.Columns.{columns_of};
+ghost use Rattle.errors.specs.Numbers.{code_of};
+ghost use Rattle.memory.specs.Memory.{SameTables, memory_of};
+ghost use Rattle.line_rows.specs.Lines.{line_columns};
 ghost use Rattle.line_rows.specs.Numbers.{usable_by, number_of};
 ghost use Rattle.c_words.specs.Record.{converter_of};
-ghost use Rattle.c_words.specs.Writing.{call_left, tree_call, lines_left_lem};
+ghost use Rattle.c_words.specs.Writing.{call_left, tree_call, symbol_call, lines_left_lem, lines_call};
 ghost use Rattle.c_trees.specs.Unpacked.{unpacked_call};
 
 use c_words::record::{load, store_answer};
-use memory::{Lengths, is_usable};
-use refusals::SYMCACHE_SCRATCH_TOO_SMALL;
-use slices::{zero, zero64};
+use errors::Refusal;
+use memory::{Lengths, Tables, is_usable};
+use rows::{FunctionRows, LineRow, LineRows, OptionalPart};
+use slices::zero;
 
-// A tree: 0, or 19, 13, 25, 14, 15, 16, 17.
+// A tree.
 pub fn process_symbolic_function(
     record: &mut [u32],
-    string_bytes: &mut [u8],
-    strings: &mut [u32],
-    files: &mut [u32],
-    functions: &mut [u32],
-    call_locations: &mut [u32],
-    ranges: &mut [u32],
+    tables: &mut Tables,
     scratch: &mut [u32],
-    functions64: &[u64],
-    functions32: &[u32],
-    lines64: &[u64],
-    lines32: &[u32],
+    functions: FunctionRows,
+    lines: LineRows,
     text: &[u8],
-) -> u32
-    ensures { let given = columns functions64.now functions32.now lines64.now lines32.now
-        text.now in
-        let before = memory string_bytes.old strings.old files.old functions.old
-        call_locations.old ranges.old in
-        let after = memory string_bytes.new strings.new files.new functions.new
-        call_locations.new ranges.new in
-        call_left result «record».new after scratch.new ≡ tree_call «record».old before scratch.old given }
+) -> Result<(), Refusal>
+    ensures same { SameTables tables.old tables.new }
+    ensures left { call_left (code_of result) «record».new (memory_of tables.new) scratch.new
+        ≡ tree_call «record».old (memory_of tables.old) scratch.old (columns_of functions.entry lines.entry text.now) }
 {
+    let mut converter = load(record);
     let answer = writer::calls::process_symbolic_function(
-        load(record),
-        string_bytes,
-        strings,
-        files,
-        functions,
-        call_locations,
-        ranges,
+        &mut converter,
+        tables,
         scratch,
-        functions64,
-        functions32,
-        lines64,
-        lines32,
+        functions,
+        lines,
         text,
     );
-    let c = answer.converter;
-    store_answer(record, answer.code, c);
-    answer.code
+    store_answer(record, answer, converter);
+    answer
 }
 
-// The number that a tree whose line rows are one list is refused with before a row is unpacked: 19, 13, 25, 14, 15, 16; 0 where it isn't. Of the tables,
-// scratch, the memory to unpack into and the line rows the lengths are given; the record is lent as the caller has it, and stays.
-pub fn lines_refusal(
+// A symbol.
+pub fn process_symbolic_symbol(
     record: &mut [u32],
-    string_bytes: usize,
-    strings: usize,
-    files: usize,
-    functions: usize,
-    call_locations: usize,
-    ranges: usize,
+    tables: &mut Tables,
+    text: &[u8],
+    address: u64,
+    size: u64,
+    name: OptionalPart,
+) -> Result<(), Refusal>
+    ensures same { SameTables tables.old tables.new }
+    ensures left { call_left (code_of result) «record».new (memory_of tables.new) []
+        ≡ symbol_call «record».old (memory_of tables.old) text.now address size name }
+{
+    let mut converter = load(record);
+    let answer = symbol_call::process_symbolic_symbol(
+        &mut converter,
+        tables,
+        text,
+        address,
+        size,
+        name,
+    );
+    store_answer(record, answer, converter);
+    answer
+}
+
+// What a tree whose line rows are one list is refused with before a row is unpacked. Of the tables, scratch, the memory to unpack into and the line rows
+// the lengths are given.
+pub fn lines_refusal(
+    record: &[u32],
+    tables: Lengths,
     scratch: usize,
     unpacked64: usize,
     unpacked32: usize,
-    functions64: &[u64],
-    functions32: &[u32],
+    functions: FunctionRows,
     lines: usize,
     texts: bool,
     text: &[u8],
-) -> u32
-    ensures { let usable = usable_by (converter_of «record».old) string_bytes strings files functions call_locations ranges in
-        (result ≡ number_of usable scratch unpacked64 unpacked32 functions64.now functions32.now lines texts text.now)
-        × («record».new ≡ «record».old) }
+) -> Result<(), Refusal>
+    ensures { let usable = usable_by (converter_of «record».now) tables.string_bytes tables.strings tables.files tables.functions tables.call_locations tables.ranges in
+        code_of result
+        ≡ number_of usable scratch unpacked64 unpacked32 functions.entry.columns64.now functions.entry.columns32.now lines texts text.now }
 {
-    let usable = is_usable(
-        load(record),
-        Lengths {
-            string_bytes,
-            strings,
-            files,
-            functions,
-            call_locations,
-            ranges,
-        },
-    );
     line_rows::refusal(
-        usable,
+        is_usable(load(record), tables),
         scratch,
         unpacked64,
         unpacked32,
-        functions64,
-        functions32,
+        functions,
         lines,
         texts,
         text,
     )
 }
 
-// The tree over the rows that were unpacked, unless it is refused; they are zeroed after it. 16 where less was lent than they ask for.
+// The tree over the rows that were unpacked, unless it is refused; they are zeroed after it. Too little scratch memory where less was lent than they ask for.
 pub fn process_unpacked(
-    refused: u32,
+    refused: Result<(), Refusal>,
     lines: usize,
     record: &mut [u32],
-    string_bytes: &mut [u8],
-    strings: &mut [u32],
-    files: &mut [u32],
-    functions: &mut [u32],
-    call_locations: &mut [u32],
-    ranges: &mut [u32],
+    tables: &mut Tables,
     scratch: &mut [u32],
     unpacked64: &mut [u64],
     unpacked32: &mut [u32],
-    functions64: &[u64],
-    functions32: &[u32],
+    functions: FunctionRows,
     text: &[u8],
-) -> u32
-    ensures { let before = memory string_bytes.old strings.old files.old functions.old
-        call_locations.old ranges.old in
-        let after = memory string_bytes.new strings.new files.new functions.new
-        call_locations.new ranges.new in
-        lines_left_lem (call_left result «record».new after scratch.new) unpacked64.new unpacked32.new
-        ≡ unpacked_call refused lines «record».old before scratch.old unpacked64.old unpacked32.old
-        functions64.now functions32.now text.now }
+) -> Result<(), Refusal>
+    ensures same { SameTables tables.old tables.new }
+    ensures left { lines_left_lem (call_left (code_of result) «record».new (memory_of tables.new) scratch.new) unpacked64.new unpacked32.new
+        ≡ unpacked_call (code_of refused) lines «record».old (memory_of tables.old) scratch.old unpacked64.old unpacked32.old
+        functions.entry.columns64.now functions.entry.columns32.now text.now }
 {
-    if refused != 0 {
-        return refused;
-    }
+    refused?;
     if lines > unpacked64.len() / 3 {
-        return SYMCACHE_SCRATCH_TOO_SMALL;
+        return Err(Refusal::ScratchTooSmall);
     }
     if lines > unpacked32.len() / 14 {
-        return SYMCACHE_SCRATCH_TOO_SMALL;
+        return Err(Refusal::ScratchTooSmall);
     }
-    let code = process_symbolic_function(
+    let line_rows = LineRows {
+        columns64: &unpacked64[..lines * 3],
+        columns32: &unpacked32[..lines * 14],
+    };
+    let answer = process_symbolic_function(record, tables, scratch, functions, line_rows, text);
+    zero(unpacked64);
+    zero(unpacked32);
+    answer
+}
+
+// A tree whose line rows are one list. They are unpacked into memory that is lent for them, if the call isn't refused before that.
+pub fn process_symbolic_function_lines(
+    record: &mut [u32],
+    tables: &mut Tables,
+    scratch: &mut [u32],
+    unpacked64: &mut [u64],
+    unpacked32: &mut [u32],
+    functions: FunctionRows,
+    lines: &[LineRow],
+    text: &[u8],
+) -> Result<(), Refusal>
+    ensures same { SameTables tables.old tables.new }
+    ensures left { lines_left_lem (call_left (code_of result) «record».new (memory_of tables.new) scratch.new) unpacked64.new unpacked32.new
+        ≡ lines_call «record».old (memory_of tables.old) scratch.old unpacked64.old unpacked32.old
+        (line_columns functions.entry.columns64.now functions.entry.columns32.now lines.now text.now) }
+{
+    let refused = lines_refusal(
         record,
-        string_bytes,
-        strings,
-        files,
+        tables.lengths(),
+        scratch.len(),
+        unpacked64.len(),
+        unpacked32.len(),
         functions,
-        call_locations,
-        ranges,
-        scratch,
-        functions64,
-        functions32,
-        &unpacked64[..lines * 3],
-        &unpacked32[..lines * 14],
+        lines.len(),
+        line_rows::lines_texts(lines, text),
         text,
     );
-    zero64(unpacked64);
-    zero(unpacked32);
-    code
+    line_rows::unpack(refused, lines, unpacked64, unpacked32);
+    process_unpacked(
+        refused,
+        lines.len(),
+        record,
+        tables,
+        scratch,
+        unpacked64,
+        unpacked32,
+        functions,
+        text,
+    )
 }

@@ -27,7 +27,7 @@ use Rattle.tables.specs.Table.{capacity_of}
 use Rattle.strings.specs.Strings.{text_capacity_of}
 use Rattle.table_laws.specs.Plain.{Holds}
 use Rattle.table_laws.specs.PlainTexts.{Texts}
-use Rattle.tables.proofs.Room.{cap-most}
+use Rattle.tables.proofs.Room.{cap_most}
 use Rattle.strings.proofs.TextRoom.{text-room}
 use Rattle.table_laws.proofs.TextTables as text-tables
 use Rattle.memory.specs.Memory.{Words}
@@ -51,12 +51,12 @@ capacities n = record {
 -- "at most 16,777,216 rows (text: 268,435,456 bytes)"
 pub capacities-lent : (n : Lens) → Lent (capacities n)
 capacities-lent n = record {
-  texts = cap-most n.strings;
+  texts = cap_most n.strings;
   bytes = (text-room n.text).most;
-  files = cap-most n.files;
-  functions = cap-most n.functions;
-  calls = cap-most n.calls;
-  ranges = cap-most n.ranges;
+  files = cap_most n.files;
+  functions = cap_most n.functions;
+  calls = cap_most n.calls;
+  ranges = cap_most n.ranges;
 }
 
 -- the test of the counts, taken apart and put together

@@ -27,7 +27,7 @@ use Rattle.table_laws.specs.Plain.{row_intern}
 use Rattle.table_laws.specs.PlainTexts.{text_bytes_lem, text_offset_lem, with_text, offset_in, Texts}
 use Rattle.tables.specs.declared.Row.{Row}
 use Rattle.tables.specs.declared.Inserted.{Inserted}
-use Rattle.tables.specs.declared.ranges.Found.TheVariants.{At as Held}
+use Rattle.std.specs.Prelude.{Some as Held}
 use Rattle.table_laws.proofs.Rows.{same-eq, words-refl}
 use Rattle.table_laws.proofs.Sets.{Over}
 use Rattle.table_laws.proofs.Sets as sets

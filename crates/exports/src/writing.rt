@@ -4,9 +4,9 @@ ghost use Rattle.rows.specs.Columns.{columns};
 ghost use Rattle.memory.specs.Memory.{memory};
 ghost use Rattle.c_words.specs.Writing.{call_left, begin_call, tree_call, name_at, symbol_call, clamped_call, left_file, serialize_call};
 
-use c_words::file::put_len;
-use c_words::record::{load, store_answer};
-use rows::{OptionalPart, TextPart};
+use errors::code_of;
+use memory::{Lent, State, Tables};
+use rows::{FunctionRows, LineRows, OptionalPart, TextPart};
 use slices::is_set;
 
 // A new converter. 0, or 19 where the record has fewer than twenty words.
@@ -31,19 +31,23 @@ pub extern "C" fn symcache_begin(
         call_left result «record».new after []
         ≡ begin_call «record».old debug_id.now arch undecorate_functions undecorate_symbols before }
 {
-    c_begin::begin(
-        record,
-        debug_id,
-        arch,
-        undecorate_functions,
-        undecorate_symbols,
+    let mut tables = Tables {
+        state: State::unused(),
         string_bytes,
         strings,
         files,
         functions,
         call_locations,
         ranges,
-    )
+    };
+    code_of(c_begin::begin(
+        record,
+        debug_id,
+        arch,
+        undecorate_functions,
+        undecorate_symbols,
+        &mut tables,
+    ))
 }
 
 // A tree: 0, or 19, 13, 25, 14, 15, 16, 17.
@@ -71,21 +75,31 @@ pub extern "C" fn symcache_process_symbolic_function(
         call_locations.new ranges.new in
         call_left result «record».new after scratch.new ≡ tree_call «record».old before scratch.old given }
 {
-    c_trees::process_symbolic_function(
-        record,
+    let mut tables = Tables {
+        state: State::unused(),
         string_bytes,
         strings,
         files,
         functions,
         call_locations,
         ranges,
+    };
+    let function_rows = FunctionRows {
+        columns64: functions64,
+        columns32: functions32,
+    };
+    let line_rows = LineRows {
+        columns64: lines64,
+        columns32: lines32,
+    };
+    code_of(c_trees::process_symbolic_function(
+        record,
+        &mut tables,
         scratch,
-        functions64,
-        functions32,
-        lines64,
-        lines32,
+        function_rows,
+        line_rows,
         text,
-    )
+    ))
 }
 
 // A symbol: 0, or 19, 14, 17.
@@ -112,29 +126,23 @@ pub extern "C" fn symcache_process_symbolic_symbol(
         call_left result «record».new after []
         ≡ symbol_call «record».old before text.now address size (name_at named name_start name_len) }
 {
-    let part = TextPart {
-        start: name_start,
-        len: name_len,
-    };
-    let answer = symbol_call::process_symbolic_symbol(
-        load(record),
+    let mut tables = Tables {
+        state: State::unused(),
         string_bytes,
         strings,
         files,
         functions,
         call_locations,
         ranges,
-        text,
-        address,
-        size,
-        OptionalPart {
-            present: is_set(named),
-            part,
+    };
+    let name = OptionalPart {
+        present: is_set(named),
+        part: TextPart {
+            start: name_start,
+            len: name_len,
         },
-    );
-    let c = answer.converter;
-    store_answer(record, answer.code, c);
-    answer.code
+    };
+    code_of(c_trees::process_symbolic_symbol(record, &mut tables, text, address, size, name))
 }
 
 // How many line rows of the accepted trees had addresses that were cut back to u32::MAX; 0 while closed.
@@ -162,16 +170,13 @@ pub extern "C" fn symcache_serialize(
         call_locations.now ranges.now in
         left_file result out.new len.new ≡ serialize_call «record».now before out.old len.old }
 {
-    let written = serialize::serialize(
-        load(record),
+    let lent = Lent {
         string_bytes,
         strings,
         files,
         functions,
         call_locations,
         ranges,
-        out,
-    );
-    put_len(len, written.code, written.len);
-    written.code
+    };
+    code_of(c_words::file::serialize(record, lent, out, len))
 }

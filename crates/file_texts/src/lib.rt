@@ -6,8 +6,8 @@ ghost use Rattle.text.specs.Texts.{read_text};
 ghost use Rattle.symcache.specs.Reader.{Within};
 ghost use Rattle.file_texts.specs.Strings.{section_of, string_answer, got_string, string_of, text_or, name_of};
 
+use raw::{Function, Stored};
 use symcache::{ErrorKind, SymCache};
-use text::strings::Text;
 
 // Where a text lies in the file.
 #[derive(Clone, Copy)]
@@ -34,11 +34,11 @@ pub fn read_string(s: &[u8], offset: u32) -> Result<Option<Part>, ErrorKind>
 {
     let c = symcache::parse(s)?;
     match text::strings::read_text(section_of(s, c), offset) {
-        Text::At { start, len } => Ok(Some(Part {
-            start: c.strings + start,
-            len,
+        Some(text) => Ok(Some(Part {
+            start: c.strings + text.start,
+            len: text.len,
         })),
-        Text::Absent => Ok(None),
+        None => Ok(None),
     }
 }
 
@@ -58,11 +58,10 @@ pub fn get_string<'a>(s: &'a [u8], offset: u32) -> &'a [u8]
 fn text_or<'a>(section: &'a [u8], stand_in: &'a [u8], offset: u32) -> &'a [u8]
     ensures { result.now ≡ text_or stand_in.now section.now (read_text section.now offset) }
 {
-    let Text::At { start, len } = text::strings::read_text(section, offset) else {
-        return stand_in;
-    };
-    let end = start + len;
-    &section[start..end]
+    match text::strings::read_text(section, offset) {
+        Some(text) => &section[text.start..text.start + text.len],
+        None => stand_in,
+    }
 }
 
 // The name of a function: a part of the file's texts, or the stand-in where the function or its name is absent, and where the file is refused.
@@ -76,6 +75,6 @@ pub fn function_name<'a>(s: &'a [u8], stand_in: &'a [u8], function_idx: u32) -> 
     if c.num_functions <= function_idx {
         return stand_in;
     }
-    let function = raw::function_at(s, c.functions + 16 * (function_idx as usize));
+    let function = Function::read(s, c.functions + 16 * (function_idx as usize));
     text_or(section_of(s, c), stand_in, function.name_offset)
 }

@@ -1,30 +1,30 @@
--- `digit_of` by the order of its byte: the byte lies in one of the three ranges, or in none.
-use Rattle.std.proofs.Common.{◌≡◌, ℕ, ◌-◌, ◌<◌, ◌≤◌, Bool, true, false, ◌&&◌, leb, refl, arith, le-leb, leb-true}
+-- `digit_of` by the library's value of a digit.
+use Rattle.std.proofs.Common.{◌≡◌, ℕ, ◌+◌, ◌%◌, ◌<◌, min, Bool, true, false, not, cond, leb, ltb, Option, Some, None, unwrap_or, sym, arith, tests}
+use Rattle.std.specs.Char.{digit_value}
+use Rattle.std.specs.Option.{SomeIff, is_some}
 use borrow.Author.Tests.{lt-leb}
+use Rattle.slices.proofs.Cases.{false-true}
 use Rattle.input_lines.specs.Line.{digit_of}
 
-inside : (low high b : ℕ) → low ≤ b → b ≤ high → (leb low b && leb b high) ≡ true
-inside low high b h k = rw (le-leb low b h, le-leb b high k)
-
-outside : (low high b : ℕ) → (low ≤ b → high < b) → (leb low b && leb b high) ≡ false
-outside low high b h = go (leb low b) refl
-  where
-    go : (t : Bool) → leb low b ≡ t → (leb low b && leb b high) ≡ false
-    go true e = rw (e, lt-leb b high (h (leb-true low b e)))
-    go false e = rw e
-
-pub digit-number : (b : ℕ) → 48 ≤ b → b ≤ 57 → b - 48 ≡ digit_of b
+below : (b : ℕ) → digit_value b < 16 → digit_of b ≡ digit_value b
 unfolding digit_of
-digit-number b h k = rw (inside 48 57 b h k)
+below b h = grind (arith, tests)
 
-pub digit_upper : (b : ℕ) → 65 ≤ b → b ≤ 70 → b - 55 ≡ digit_of b
+above : (b : ℕ) → (digit_value b < 16 → ⊥) → digit_of b ≡ 16
 unfolding digit_of
-digit_upper b h k = rw (outside 48 57 b (λ l. omega arith), inside 65 70 b h k)
+above b h = grind (arith, tests)
 
-pub digit_lower : (b : ℕ) → 97 ≤ b → b ≤ 102 → b - 87 ≡ digit_of b
-unfolding digit_of
-digit_lower b h k = rw (outside 48 57 b (λ l. omega arith), outside 65 70 b (λ l. omega arith), inside 97 102 b h k)
+-- a digit as it was read: its value, 0 where there is none, and whether there is none
+pub digit_read : (b : ℕ) (o : Option ℕ) → SomeIff o (digit_value b < 16) (digit_value b) → unwrap_or o 0 ≡ digit_of b % 16
+digit_read b None h = rw (above b h)
+digit_read b (Some d) h = let e = below b h.0 in omega (arith, e, h.0, h.1)
 
-pub digit-none : (b : ℕ) → (48 ≤ b → 57 < b) → (65 ≤ b → 70 < b) → (97 ≤ b → 102 < b) → 16 ≡ digit_of b
-unfolding digit_of
-digit-none b h k l = rw (outside 48 57 b h, outside 65 70 b k, outside 97 102 b l)
+pub digit-none : (b : ℕ) (o : Option ℕ) (r : Bool) → SomeIff o (digit_value b < 16) (digit_value b) → is_some o ≡ not r → r ≡ leb 16 (digit_of b)
+digit-none b None true h e = rw (above b h)
+digit-none b None false h e = false-true e
+digit-none b (Some d) true h e = false-true (sym e)
+digit-none b (Some d) false h e = sym (lt-leb 16 (digit_of b) (rw (below b h.0) h.0))
+
+-- one byte more, up to 17
+pub one_more : (d m n : ℕ) → m ≡ min (d + 1) 4294967295 → n ≡ min m 17 → n ≡ cond (ltb d 17) (d + 1) 17
+one_more d m n e f = grind (arith, tests)

@@ -1,15 +1,14 @@
 -- Lines of document 01's lister example, computed.
-use Rattle.std.proofs.Common.{◌≡◌, [], ◌∷◌, refl}
-use Rattle.input_lines.specs.declared.LineRead.TheVariants.{Address, Bad}
+use Rattle.std.proofs.Common.{◌≡◌, Some, None, [], ◌∷◌, refl}
 use Rattle.input_lines.specs.Line.{digit_of, all_digits, number_from, meaning, lines_after}
 
 -- "1003"
-example-line : meaning (49 ∷ 48 ∷ 48 ∷ 51 ∷ []) ≡ Address 4099
+example-line : meaning (49 ∷ 48 ∷ 48 ∷ 51 ∷ []) ≡ Some 4099
 unfolding meaning all_digits number_from digit_of
 example-line = refl
 
 -- an empty line
-example-empty : meaning [] ≡ Bad
+example-empty : meaning [] ≡ None
 unfolding meaning all_digits
 example-empty = refl
 

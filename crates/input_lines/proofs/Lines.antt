@@ -1,12 +1,10 @@
 -- Feeding a line's bytes one by one gives the line's meaning (`line_read`), and running over an input gives the meanings
 -- of its lines (`lines-read`). The three fields of the state are followed each by itself.
-use Rattle.std.proofs.Common.{◌≡◌, ℕ, suc, ◌+◌, ◌*◌, ◌^◌, ◌<◌, ◌≤◌, Bool, true, false, cond, not, ◌&&◌, ◌||◌, eqb, ltb, leb, ◌⊎◌, List, [], ◌∷◌, ◌++◌, map, length, refl, ap, ◌∙◌, inl, inr, ⊎_elim, pow-suc, zero-add, arith, ltb-false, ltb-true, lt-ltb, ne_eqb, le-leb}
+use Rattle.std.proofs.Common.{◌≡◌, ℕ, Option, Some, None, suc, ◌+◌, ◌*◌, ◌^◌, ◌<◌, ◌≤◌, Bool, true, false, cond, not, ◌&&◌, ◌||◌, eqb, ltb, leb, ◌⊎◌, List, [], ◌∷◌, ◌++◌, map, length, refl, ap, ◌∙◌, inl, inr, ⊎_elim, pow-suc, zero-add, arith, ltb-false, ltb-true, lt-ltb, ne_eqb, le-leb}
 use native.Mathlib.Nat.{pow-le-pow_right}
 use borrow.Author.Tests.{lt-leb}
 use Rattle.slices.proofs.Cases.{lt-or_ge, both_true}
 use Rattle.input_lines.specs.declared.LineState.{LineState}
-use Rattle.input_lines.specs.declared.LineRead.{LineRead}
-use Rattle.input_lines.specs.declared.LineRead.TheVariants.{Address, Bad}
 use Rattle.input_lines.specs.Line.{digit_of, all_digits, number_from, meaning, line_start, feed_of, finish_of, lines_after}
 
 -- all bytes of a line, one after the other
@@ -15,7 +13,7 @@ feed_all s [] = s
 feed_all s (b ∷ bs) = feed_all (feed_of s b) bs
 
 -- what an input says byte by byte, with the state `s` of the line at hand
-unfoldable pub run_lines : LineState → List ℕ → List LineRead
+unfoldable pub run_lines : LineState → List ℕ → List (Option ℕ)
 run_lines s [] = cond (eqb s.digits 0) [] (finish_of s ∷ [])
 run_lines s (b ∷ rest) = cond (eqb b 10) (finish_of s ∷ run_lines line_start rest) (run_lines (feed_of s b) rest)
 
@@ -90,10 +88,10 @@ short line h =
     rw (d, m) (go (leb 1 (length line) && leb (length line) 16) (all_digits line) refl)
   where
     go : (t v : Bool) → all_digits line ≡ v
-        → cond (t && not (not v)) (Address (feed_all line_start line).value) Bad ≡ cond (t && v) (Address (number_from 0 line)) Bad
+        → cond (t && not (not v)) (Some (feed_all line_start line).value) None ≡ cond (t && v) (Some (number_from 0 line)) None
     go false v e = refl
     go true false e = refl
-    go true true e = ap Address (number line_start line 0 (omega arith) (omega arith) e)
+    go true true e = ap Some (number line_start line 0 (omega arith) (omega arith) e)
 
 long : (line : List ℕ) → 16 < length line → finish_of (feed_all line_start line) ≡ meaning line
 unfolding finish_of meaning line_start

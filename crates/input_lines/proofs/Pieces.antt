@@ -1,13 +1,9 @@
 -- Reading on by the byte at hand (`at-line`, `in_line`, `at_piece_end`). However an input is cut: what one read leaves is what was to come (`one-read`), and
 -- from the start on that is what the input says (`says_all`).
-use Rattle.std.proofs.Common.{◌≡◌, ℕ, suc, ◌+◌, ◌-◌, ◌%◌, ◌<◌, ◌≤◌, Bool, true, false, cond, eqb, List, [], ◌∷◌, ◌++◌, map, length, get_or, drop, sym, refl, ap, ◌∙◌, add-one, arith, drop_of_length-le, drop-cons, eq-eqb, ne_eqb}
+use Rattle.std.proofs.Common.{◌≡◌, ℕ, Option, Some, None, suc, ◌+◌, ◌-◌, ◌%◌, ◌<◌, ◌≤◌, Bool, true, false, cond, eqb, List, [], ◌∷◌, ◌++◌, map, length, get_or, drop, sym, refl, ap, ◌∙◌, add-one, arith, drop_of_length-le, drop-cons, eq-eqb, ne_eqb}
 use lib.Seq.{drop-nil}
-use Rattle.input_lines.specs.declared.LineRead.{LineRead}
-use Rattle.input_lines.specs.declared.LineRead.TheVariants as Line-read
 use Rattle.input_lines.specs.declared.Input.{Input}
-use Rattle.input_lines.specs.declared.Got.{Got}
-use Rattle.input_lines.specs.declared.Got.TheVariants as got
-use Rattle.input_lines.specs.Line.{meaning, lines_after, line_start, feed_of, finish_of}
+use Rattle.input_lines.specs.Line.{Got, meaning, lines_after, line_start, feed_of, finish_of}
 use Rattle.input_lines.specs.Input.{told, all_told, input_says, input_start, fed, after_line, whole_line, line_at_lem, read_on, at_end}
 use Rattle.input_lines.proofs.Lines.{run_lines, lines-read}
 
@@ -20,7 +16,7 @@ module _ (s : Input) (bytes : List ℕ) (i : ℕ) where
   unfolding read_on
   in_line h n = rw (drop-cons bytes i 0 h, ne_eqb (get_or bytes i 0) 10 n, add-one i)
 
-  pub at_piece_end : length bytes ≤ i → record { input = s; next = i; got = got.More } ≡ read_on s i (drop i bytes)
+  pub at_piece_end : length bytes ≤ i → record { input = s; next = i; got = None } ≡ read_on s i (drop i bytes)
   unfolding read_on
   at_piece_end h = rw (drop_of_length-le bytes h)
 
@@ -31,9 +27,8 @@ pub ruleset read_cases = (at-line, in_line, at_piece_end)
 
 -- what is read, before what comes after it
 unfoldable pub kept : Got → List Got → List Got
-kept got.More gs = gs
-kept (got.Address a) gs = got.Address a ∷ gs
-kept (got.Bad n) gs = got.Bad n ∷ gs
+kept None gs = gs
+kept (Some r) gs = Some r ∷ gs
 
 -- what an input still says, of which these bytes are to come
 unfoldable pub says : Input → List ℕ → List Got
@@ -41,10 +36,10 @@ says s [] = kept (at_end s).got []
 says s (b ∷ bs) = cond (eqb b 10) ((whole_line s).got ∷ says (whole_line s).input bs) (says (fed s b) bs)
 
 -- a whole line is no line that goes on
-kept-told : (n : ℕ) (r : LineRead) (gs : List Got) → kept (told n r) gs ≡ told n r ∷ gs
+kept-told : (n : ℕ) (r : Option ℕ) (gs : List Got) → kept (told n r) gs ≡ told n r ∷ gs
 unfolding kept told
-kept-told n (Line-read.Address a) gs = refl
-kept-told n Line-read.Bad gs = refl
+kept-told n (Some a) gs = refl
+kept-told n None gs = refl
 
 kept_line : (s : Input) (gs : List Got) → kept (whole_line s).got gs ≡ (whole_line s).got ∷ gs
 unfolding whole_line
@@ -97,7 +92,7 @@ one-read s i (b ∷ bs) rest = go (one-read (fed s b) (i + 1) bs rest) (eqb b 10
 
 -- ── From the start on ──
 
-numbered : ℕ → List LineRead → List Got
+numbered : ℕ → List (Option ℕ) → List Got
 numbered n [] = []
 numbered n (r ∷ rs) = told n r ∷ numbered ((n + 1) % 4294967296) rs
 
@@ -106,7 +101,7 @@ unfolding says run_lines at_end whole_line after_line fed kept numbered
 says-run s [] = go (eqb s.line.digits 0)
   where
     go : (t : Bool)
-        → kept (cond t (record { input = s; got = got.More }) (whole_line s)).got [] ≡ numbered s.number (cond t [] (finish_of s.line ∷ []))
+        → kept (cond t (record { input = s; got = None }) (whole_line s)).got [] ≡ numbered s.number (cond t [] (finish_of s.line ∷ []))
     go true = refl
     go false = kept_line s []
 says-run s (b ∷ bs) = go (says-run (after_line s) bs) (says-run (fed s b) bs) (eqb b 10)

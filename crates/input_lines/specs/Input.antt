@@ -1,20 +1,16 @@
 -- AN INPUT OF LINES (document 01, "Lister"), and how it is read in pieces of any length.
-use Rattle.std.specs.Prelude.{ℕ, ◌+◌, ◌%◌, cond, List, [], ◌∷◌, ◌==◌}
-use Rattle.input_lines.specs.declared.LineRead.{LineRead}
-use Rattle.input_lines.specs.declared.LineRead.TheVariants as Line-read
+use Rattle.std.specs.Prelude.{ℕ, Option, Some, None, Ok, Err, ◌+◌, ◌%◌, cond, List, [], ◌∷◌, ◌==◌}
 use Rattle.input_lines.specs.declared.Input.{Input}
-use Rattle.input_lines.specs.declared.Got.{Got}
-use Rattle.input_lines.specs.declared.Got.TheVariants as got
 use Rattle.input_lines.specs.declared.ReadOn.{ReadOn}
 use Rattle.input_lines.specs.declared.AtEnd.{AtEnd}
-use Rattle.input_lines.specs.Line.{meaning, lines_after, line_start, feed_of, finish_of}
+use Rattle.input_lines.specs.Line.{Got, meaning, lines_after, line_start, feed_of, finish_of}
 
 -- ── What an input says ──
 
 -- what a whole line says, with its number
-unfoldable pub told : ℕ → LineRead → Got
-told n (Line-read.Address a) = got.Address a
-told n Line-read.Bad = got.Bad n
+unfoldable pub told : ℕ → Option ℕ → Got
+told n (Some a) = Some (Ok a)
+told n None = Some (Err (record { 0 = n }))
 
 -- what lines say, one after the other, the first of them with the number n. "its number from 1 modulo 2^32"
 unfoldable pub all_told : ℕ → List (List ℕ) → List Got
@@ -49,9 +45,9 @@ line_at_lem s i = record { input = (whole_line s).input; next = i; got = (whole_
 
 -- reading on in a piece, of which these bytes from place i on are left: up to the end of a line, or to that of the piece
 unfoldable pub read_on : Input → ℕ → List ℕ → ReadOn
-read_on s i [] = record { input = s; next = i; got = got.More }
+read_on s i [] = record { input = s; next = i; got = None }
 read_on s i (b ∷ bs) = cond (b == 10) (line_at_lem s (i + 1)) (read_on (fed s b) (i + 1) bs)
 
 -- the input has ended: "bytes after the last 0A, if any, are a line"
 unfoldable pub at_end : Input → AtEnd
-at_end s = cond (s.line.digits == 0) (record { input = s; got = got.More }) (whole_line s)
+at_end s = cond (s.line.digits == 0) (record { input = s; got = None }) (whole_line s)

@@ -1,46 +1,17 @@
 // Document 01, "Lister": the lines of an input, in pieces of any length, and the address that each line has.
 #![tactic(auto)]
 
-ghost use Rattle.std.specs.Prelude.{◌≡◌, ◌+◌, drop, if◌then◌else◌, ◌==◌, nat_lt};
-ghost use Rattle.input_lines.specs.Line.{digit_of, line_start, feed_of, finish_of};
-ghost use Rattle.input_lines.specs.Input.{input_start, told, after_line, whole_line, line_at_lem, fed, read_on, at_end};
+ghost use Rattle.std.specs.Prelude.{◌≡◌, drop, ◌==◌};
+ghost use Rattle.input_lines.specs.Line.{line_start, feed_of, finish_of};
+ghost use Rattle.input_lines.specs.Input.{input_start, after_line, whole_line, line_at_lem, fed, read_on, at_end};
 
 // What is kept of the line that is being read: its bytes, counted up to 17, the number that its digits write,
 // and whether a byte was no digit.
-#[derive(Clone, Copy)]
+#[derive(Clone, Copy, Debug, PartialEq, Eq)]
 pub struct LineState {
     pub digits: u32,
     pub value: u64,
     pub bad: bool,
-}
-
-// What a whole line says.
-#[derive(Clone, Copy)]
-pub enum LineRead {
-    Address(u64),
-    Bad,
-}
-
-// The value of a hexadecimal digit of either case; 16 for any other byte.
-fn digit(b: u8) -> u64
-    ensures { result ≡ digit_of b }
-{
-    match b {
-        b'0'..=b'9' => (b - 48) as u64,
-        b'A'..=b'F' => (b - 55) as u64,
-        b'a'..=b'f' => (b - 87) as u64,
-        _ => 16,
-    }
-}
-
-// One more, up to 17.
-fn one_more(n: u32) -> u32
-    ensures { result ≡ (if nat_lt n 17 then n + 1 else 17) }
-{
-    if n < 17 {
-        return n + 1;
-    }
-    17
 }
 
 impl LineState {
@@ -59,20 +30,11 @@ impl LineState {
     fn feed(self, byte: u8) -> LineState
         ensures { result ≡ feed_of self byte }
     {
-        let d = digit(byte);
-        let digits = one_more(self.digits);
-        let value = self.value % 1152921504606846976 * 16 + d % 16;
-        if self.bad {
-            return LineState {
-                digits,
-                value,
-                bad: true,
-            };
-        }
+        let digit = char::from(byte).to_digit(16);
         LineState {
-            digits,
-            value,
-            bad: 16 <= d,
+            digits: self.digits.saturating_add(1).min(17),
+            value: self.value % 0x1000_0000_0000_0000 * 16 + u64::from(digit.unwrap_or(0)),
+            bad: self.bad || digit.is_none(),
         }
     }
 
@@ -83,62 +45,44 @@ impl LineState {
         self.digits == 0
     }
 
-    // What the line says, now that it is whole.
+    // The address that the line has, now that it is whole; none where it is bad.
     #[tactic(auto, unfolding(crate::specs::Line::finish_of))]
-    fn finish(self) -> LineRead
+    fn finish(self) -> Option<u64>
         ensures { result ≡ finish_of self }
     {
-        if self.digits < 1 {
-            return LineRead::Bad;
+        if 1 <= self.digits && self.digits <= 16 && !self.bad {
+            Some(self.value)
+        } else {
+            None
         }
-        if 16 < self.digits {
-            return LineRead::Bad;
-        }
-        if self.bad {
-            return LineRead::Bad;
-        }
-        LineRead::Address(self.value)
     }
 }
 
 // An input that is being read: the line at hand, and its number from 1 modulo 2^32.
-#[derive(Clone, Copy)]
+#[derive(Clone, Copy, Debug, PartialEq, Eq)]
 pub struct Input {
     pub line: LineState,
     pub number: u32,
 }
 
-// What reading on gives: the address of a whole line, the number of a bad one, or that the line goes on.
-#[derive(Clone, Copy)]
-pub enum Got {
-    Address(u64),
-    Bad(u32),
-    More,
-}
+// A bad line, by its number.
+#[derive(Clone, Copy, Debug, PartialEq, Eq)]
+pub struct BadLine(pub u32);
 
-// The input after reading on in a piece, the place in the piece from which on to read, and what was read.
-#[derive(Clone, Copy)]
+// The input after reading on in a piece, the place in the piece from which on to read, and the whole line that was
+// read, if any.
+#[derive(Clone, Copy, Debug, PartialEq, Eq)]
 pub struct ReadOn {
     pub input: Input,
     pub next: usize,
-    pub got: Got,
+    pub got: Option<Result<u64, BadLine>>,
 }
 
-// The input after its end, and its last line.
-#[derive(Clone, Copy)]
+// The input after its end, and its last line, if any.
+#[derive(Clone, Copy, Debug, PartialEq, Eq)]
 pub struct AtEnd {
     pub input: Input,
-    pub got: Got,
-}
-
-// What a whole line says, with its number.
-fn tell(number: u32, read: LineRead) -> Got
-    ensures { result ≡ told number read }
-{
-    match read {
-        LineRead::Address(address) => Got::Address(address),
-        LineRead::Bad => Got::Bad(number),
-    }
+    pub got: Option<Result<u64, BadLine>>,
 }
 
 impl Input {
@@ -158,7 +102,7 @@ impl Input {
     {
         Input {
             line: LineState::start(),
-            number: std::num::wrapping_add_u32(self.number, 1),
+            number: self.number.wrapping_add(1),
         }
     }
 
@@ -166,11 +110,9 @@ impl Input {
     fn end_line(self) -> AtEnd
         ensures { result ≡ whole_line self }
     {
-        let line = self.line;
-        let got = tell(self.number, line.finish());
         AtEnd {
             input: self.after_line(),
-            got,
+            got: Some(self.line.finish().ok_or(BadLine(self.number))),
         }
     }
 
@@ -178,9 +120,7 @@ impl Input {
     fn end_at(self, next: usize) -> ReadOn
         ensures { result ≡ line_at_lem self next }
     {
-        let ended = self.end_line();
-        let input = ended.input;
-        let got = ended.got;
+        let AtEnd { input, got } = self.end_line();
         ReadOn { input, next, got }
     }
 
@@ -188,9 +128,8 @@ impl Input {
     fn feed(self, byte: u8) -> Input
         ensures { result ≡ fed self byte }
     {
-        let line = self.line;
         Input {
-            line: line.feed(byte),
+            line: self.line.feed(byte),
             number: self.number,
         }
     }
@@ -201,18 +140,16 @@ impl Input {
         ensures { result ≡ read_on self from (drop from bytes.now) }
     {
         let mut input = self;
-        let mut next = from;
-        while next < bytes.len() {
-            if bytes[next] == 10 {
-                return input.end_at(next + 1);
+        for i in from..bytes.len() {
+            if bytes[i] == b'\n' {
+                return input.end_at(i + 1);
             }
-            input = input.feed(bytes[next]);
-            next += 1;
+            input = input.feed(bytes[i]);
         }
         ReadOn {
             input,
-            next,
-            got: Got::More,
+            next: from.max(bytes.len()),
+            got: None,
         }
     }
 
@@ -220,11 +157,10 @@ impl Input {
     pub fn end(self) -> AtEnd
         ensures { result ≡ at_end self }
     {
-        let line = self.line;
-        if line.is_empty() {
+        if self.line.is_empty() {
             return AtEnd {
                 input: self,
-                got: Got::More,
+                got: None,
             };
         }
         self.end_line()

@@ -2,7 +2,8 @@
 -- can be taken off again in reverse order; a journal says which rows of the ranges were added and what the others held.
 use Rattle.std.specs.Prelude.{ℕ, zero, suc, ◌+◌, ◌*◌, ◌-◌, List, ◌∷◌, Bool, cond, ltb, eqb, length, get_or, set, replicate}
 use Rattle.std.proofs.lemmas.List.Edits.{sets}
-use Rattle.tables.specs.Table.{words_at, row_words, row_of, row_at, link_at, set_row, capacity_of, bucket_of, hash_of, key_of, over_of, lookup_of, Left, left}
+use Rattle.tables.specs.Table.{words_at, row_words, row_of, row_at, link_at, set_row, capacity_of, bucket_of, hash_of, width_of, key_of}
+use Rattle.tables.specs.Table.{over_of, lookup_of, Left, left}
 use Rattle.tables.specs.Kinds.{text_of_row}
 use Rattle.tables.specs.Ranges.{put_of}
 use Rattle.tables.specs.declared.Row.{Row}
@@ -10,8 +11,15 @@ use Rattle.tables.specs.declared.ranges.Was.{Was}
 use Rattle.tables.specs.declared.ranges.Was.TheVariants.{Vacant, Same, Changed}
 use Rattle.tables.specs.declared.ranges.Change.{Change}
 use Rattle.journal.specs.declared.ranges.Noted.{Noted}
+use Rattle.journal.specs.declared.undo.By.{By}
+use Rattle.journal.specs.declared.undo.By.TheVariants.{Key, Text}
 
 -- ── Rows ───────────────────────────────────────────────────────────────────────────────────────────────────────────────
+
+-- a kind of rows as the number that stands for it below: how many words of a row are compared, or 4 for the index of texts
+abbrev pub width_by : By → ℕ
+width_by (Key k) = width_of k
+width_by Text = 4
 
 -- the hash by which a row was put into its bucket: its text's where the width is 4 (texts), else that of its key (1: ranges; 6: index sets)
 unfoldable pub row_hash_of : ℕ → Row → ℕ

@@ -5,11 +5,12 @@ ghost use Rattle.tables.specs.Table.{left};
 ghost use Rattle.tables.specs.Ranges.{range_row_lem};
 ghost use Rattle.journal.specs.Undo.{set_entry, note_of, note_was, put_noted_of, put_marked_of, journaled, undo_entry, undo_at, undone_ranges, undone};
 
+use crate::undo::{By, take_off};
 use raw::SourceLocation;
 use slices::word;
-use tables::Row;
-use tables::kinds::row_of_range;
+use tables::kinds::RangeRow;
 use tables::ranges::{Change, Was};
+use tables::{Key, Row};
 
 // The words of an entry, and the second of them.
 const ENTRY: usize = 8;
@@ -25,7 +26,9 @@ pub struct Noted {
     pub noted: u32,
 }
 
-// The location at a start becomes loc; where `on`, the journal says what was there.
+// The location at a start becomes loc; where `on`, the journal says what was there. The flag stands alone, since the journal is lent either way, and a clause
+// says of a slice inside an Option not what it becomes.
+#[tactic(auto, unfolding(crate::specs::Undo::put_marked_of))]
 pub fn put(
     t: &mut [u32],
     count: u32,
@@ -60,8 +63,11 @@ fn put_noted(
     ensures { let after = journaled result t.new journal.new in
         after ≡ put_noted_of t.old count journal.old entries (range_row_lem start loc) }
 {
-    let row = row_of_range(start, loc);
-    let i = tables::lookup(t, count, row, tables::FIRST);
+    let row = Row::from(RangeRow {
+        start,
+        location: loc,
+    });
+    let i = tables::lookup(t, count, row, Key::First).unwrap_or(count);
     let old = tables::row_at(t, i);
     let change = tables::ranges::put(t, count, start, loc);
     let was = change.was;
@@ -70,17 +76,19 @@ fn put_noted(
 }
 
 // One more entry for what a put to n rows did: row n was added, or row i changed, or nothing.
+#[tactic(auto, unfolding(crate::specs::Undo::note_was))]
 fn note_was(journal: &mut [u32], m: u32, was: Was, n: u32, i: u32, old: Row) -> u32
     ensures { left result journal.new ≡ note_was journal.old m was n i old }
 {
     match was {
-        Was::Vacant => note(journal, m, n, ADDED, Row::ZERO),
+        Was::Vacant => note(journal, m, n, ADDED, Row::default()),
         Was::Same => m,
         Was::Changed => note(journal, m, i, CHANGED, old),
     }
 }
 
 // One more entry after m, where there is room.
+#[tactic(auto, unfolding(crate::specs::Undo::note_of))]
 fn note(journal: &mut [u32], m: u32, i: u32, v: u32, old: Row) -> u32
     ensures { left result journal.new ≡ note_of journal.old m i v old }
 {
@@ -92,6 +100,7 @@ fn note(journal: &mut [u32], m: u32, i: u32, v: u32, old: Row) -> u32
     tables::over(journal, m)
 }
 
+#[tactic(auto, unfolding(crate::specs::Undo::set_entry))]
 fn set_entry(journal: &mut [u32], k: u32, i: u32, v: u32, old: Row)
     ensures { journal.new ≡ set_entry journal.old k i v old }
 {
@@ -105,15 +114,14 @@ fn set_entry(journal: &mut [u32], k: u32, i: u32, v: u32, old: Row)
 pub fn undo_ranges(t: &mut [u32], journal: &mut [u32], entries: u32, to: u32)
     ensures { undone t.new journal.new ≡ undone_ranges to t.old journal.old entries }
 {
-    let mut m = entries;
-    while to < m {
-        m -= 1;
+    for m in (to..entries).rev() {
         undo_at(t, journal, m);
-        set_entry(journal, m, 0, 0, Row::ZERO);
+        set_entry(journal, m, 0, 0, Row::default());
     }
 }
 
 // The ranges with entry k taken back.
+#[tactic(auto, unfolding(crate::specs::Undo::undo_at))]
 fn undo_at(t: &mut [u32], journal: &[u32], k: u32)
     ensures { t.new ≡ undo_at t.old journal.now k }
 {
@@ -125,14 +133,13 @@ fn undo_at(t: &mut [u32], journal: &[u32], k: u32)
 }
 
 // Row i is taken off where it was added, and is again what it was where it was changed.
+#[tactic(auto, unfolding(crate::specs::Undo::undo_entry))]
 fn undo_entry(t: &mut [u32], i: u32, v: u32, old: Row)
     ensures { t.new ≡ undo_entry t.old i v old }
 {
-    if v == ADDED {
-        crate::undo::take_off(t, i, tables::FIRST);
-        return;
-    }
-    if v == CHANGED {
-        tables::set_row(t, i, old);
+    match v {
+        ADDED => take_off(t, i, By::Key(Key::First)),
+        CHANGED => tables::set_row(t, i, old),
+        _ => {}
     }
 }

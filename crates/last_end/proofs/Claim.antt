@@ -7,8 +7,7 @@ use Prim.Native.Nat.{ℕ}
 use Rattle.slices.proofs.Cases.{none-some, false-true}
 use Rattle.raw.specs.declared.SourceLocation.{SourceLocation}
 use Rattle.tables.specs.Ranges.{get_of}
-use Rattle.tables.specs.declared.ranges.Found.{Found}
-use Rattle.tables.specs.declared.ranges.Found.TheVariants.{Absent, At}
+use Rattle.std.specs.Prelude.{Option, Some, None}
 use Rattle.model.specs.Converter.{Setup, Tables, converted}
 use Rattle.model.specs.Written.{as_written}
 use Rattle.model.specs.FileWords.{sections}
@@ -26,9 +25,9 @@ use Rattle.last_end.specs.LastEnd.{reference_file, Unneeded, LastEndUnneeded}
 use Rattle.last_end.proofs.Starts.{last-end-starts, nothing-added}
 
 -- what is held is found
-found : (f : Found) (l : SourceLocation) → held f ≡ some l → (k : SourceLocation) × (f ≡ At k)
-found Absent l e = none-some e
-found (At k) l e = (k, refl)
+found : (f : Option SourceLocation) (l : SourceLocation) → held f ≡ some l → (k : SourceLocation) × (f ≡ Some k)
+found None l e = none-some e
+found (Some k) l e = (k, refl)
 
 pub last-end_unneeded : LastEndUnneeded
 unfolding begin_of

@@ -5,6 +5,7 @@ use Prim.Native.Nat.{ℕ, zero, suc, ◌+◌, ◌-◌, ◌<◌, ◌≤◌}
 use mathlib.Core.Path.{◌≡◌, refl, sym, ◌∙◌, ap}
 use mathlib.Core.List.{List, [], ◌∷◌, ◌++◌, map, append_assoc, append-nil}
 use mathlib.Core.Option.{Option, none, some}
+use Rattle.std.proofs.Common.{Some, None, Ok, Err}
 use mathlib.Core.Logic.{◌⊎◌, inl, inr, ⊎_elim}
 use mathlib.Core.Bool.{Bool, true, false, cond}
 use native.Mathlib.Omega.{arith}
@@ -23,8 +24,7 @@ use Rattle.lookup.specs.Answers.{Framed}
 use Rattle.lookup.specs.Lookup.{belongs_to, walk_from_lem, walk_tested, walk_at_lem, step_in_lem, stepped, frames_in}
 use Rattle.lookup.proofs.ByMeaning.{by_meaning}
 use Rattle.input_lines.specs.declared.Input.{Input}
-use Rattle.input_lines.specs.declared.Got.{Got}
-use Rattle.input_lines.specs.declared.Got.TheVariants as got
+use Rattle.input_lines.specs.Line.{Got}
 use Rattle.input_lines.specs.Input.{input_says, fed, whole_line, at_end}
 use Rattle.input_lines.proofs.Pieces.{kept, says, says_all}
 use Rattle.printed_lines.specs.Printed.{no_frame_line, bad_line, refused_line}
@@ -278,9 +278,9 @@ drained file {l} (cut.call out d) =
 -- the last line
 last-text : (file : List ℕ) (c : SymCache) (g : Got) → waits_text file (waiting_for file c g) ≡ says-text file c (kept g [])
 unfolding kept says-text waits_text waiting_for turns text_of
-last-text file c (got.Address a) = sym (append-nil (waits_text file (waiting_for file c (got.Address a))))
-last-text file c (got.Bad n) = sym (append-nil (waits_text file (waiting_for file c (got.Bad n))))
-last-text file c got.More = refl
+last-text file c (Some (Ok a)) = sym (append-nil (waits_text file (waiting_for file c (Some (Ok a)))))
+last-text file c (Some (Err n)) = sym (append-nil (waits_text file (waiting_for file c (Some (Err n)))))
+last-text file c None = refl
 
 end-waiting : (file : List ℕ) (l : Listing) → waits? l.waiting ≡ false → (end_of file l).waiting ≡ waiting_for file l.cache (at_end l.input).got
 unfolding end_of
@@ -378,7 +378,7 @@ module _ (file : List ℕ) (c : SymCache) (is : opened file ≡ gives c) where
   unfolding count_in
   counted p n e h = rw (e, h) (omega arith)
 
-  address-text : (a : ℕ) → waits_text file (waiting_for file c (got.Address a)) ≡ address_lines a (frames_of file c a)
+  address-text : (a : ℕ) → waits_text file (waiting_for file c (Some (Ok a))) ≡ address_lines a (frames_of file c a)
   unfolding waits_text waiting_for turns walk_at_lem frames_of count_in
   address-text a =
       let k = walk_tested file c (belongs_to file c a) in
@@ -390,9 +390,9 @@ module _ (file : List ℕ) (c : SymCache) (is : opened file ≡ gives c) where
 
   line-text : (g : Got) → waits_text file (waiting_for file c g) ≡ line_prints file c g
   unfolding line_prints waits_text waiting_for turns text_of
-  line-text (got.Address a) = address-text a
-  line-text (got.Bad n) = append-nil (bad_line n)
-  line-text got.More = refl
+  line-text (Some (Ok a)) = address-text a
+  line-text (Some (Err b)) = append-nil (bad_line b.0)
+  line-text None = refl
 
   lines-text : (gs : List Got) → says-text file c gs ≡ lines_print file c gs
   unfolding says-text lines_print

@@ -1,12 +1,11 @@
 -- THE LISTING: the whole output of the lister for a file and an input, as document 01 "Lister" says it.
-use Rattle.std.specs.Prelude.{ℕ, ◌+◌, List, [], ◌∷◌, ◌++◌}
+use Rattle.std.specs.Prelude.{ℕ, Some, None, Ok, Err, ◌+◌, List, [], ◌∷◌, ◌++◌}
 use Rattle.symcache.specs.declared.SymCache.{SymCache}
 use Rattle.symcache.specs.Answers.{Answer, gives, refuses}
 use Rattle.symcache.specs.Reader.{opened}
 use Rattle.lookup.specs.declared.Frame.{Frame}
 use Rattle.lookup.specs.Lookup.{belongs_to, walk_tested, frames_in}
-use Rattle.input_lines.specs.declared.Got.{Got}
-use Rattle.input_lines.specs.declared.Got.TheVariants as got
+use Rattle.input_lines.specs.Line.{Got}
 use Rattle.input_lines.specs.Input.{input_says}
 use Rattle.printed_lines.specs.Printed.{frame_line_lem, no_frame_line, bad_line, refused_line}
 
@@ -31,9 +30,9 @@ address_lines a (f ∷ fs) = frame_lines a 0 (f ∷ fs)
 
 -- what a line of the input prints. Each address is looked up as it is read
 unfoldable pub line_prints : List ℕ → SymCache → Got → List ℕ
-line_prints file c (got.Address a) = address_lines a (frames_of file c a)
-line_prints file c (got.Bad n) = bad_line n
-line_prints file c got.More = []
+line_prints file c (Some (Ok a)) = address_lines a (frames_of file c a)
+line_prints file c (Some (Err b)) = bad_line b.0
+line_prints file c None = []
 
 unfoldable pub lines_print : List ℕ → SymCache → List Got → List ℕ
 lines_print file c [] = []

@@ -1,5 +1,5 @@
 -- A LISTING UNDER WAY: what each call does to it. That what is printed is the listing, however input and output are cut: Cut.
-use Rattle.std.specs.Prelude.{ℕ, zero, suc, ◌+◌, ◌-◌, List, [], ◌∷◌, Bool, true, false, cond, leb, eqb, length, Result, Ok, Err}
+use Rattle.std.specs.Prelude.{ℕ, zero, suc, ◌+◌, ◌-◌, List, [], ◌∷◌, Bool, true, false, cond, leb, eqb, length, Result, Ok, Err, Some, None}
 use Rattle.std.proofs.Math.Option.{Option, none, some}
 use Rattle.std.proofs.lemmas.List.Edits.{sets}
 use Rattle.symcache.specs.declared.SymCache.{SymCache}
@@ -10,8 +10,7 @@ use Rattle.lookup.specs.declared.Frame.{Frame}
 use Rattle.lookup.specs.Answers.{Framed}
 use Rattle.lookup.specs.Lookup.{walk_at_lem, stepped}
 use Rattle.input_lines.specs.declared.Input.{Input}
-use Rattle.input_lines.specs.declared.Got.{Got}
-use Rattle.input_lines.specs.declared.Got.TheVariants as got
+use Rattle.input_lines.specs.Line.{Got}
 use Rattle.input_lines.specs.Input.{input_start, fed, whole_line, at_end}
 use Rattle.printed_lines.specs.Printed.{frame_line_lem, no_frame_line, bad_line, WroteLine, put_line}
 use Rattle.listing.specs.declared.Waiting.{Waiting}
@@ -50,9 +49,9 @@ waits? (waiting.Frames a k) = true
 
 -- what a line of the input leaves to print
 unfoldable pub waiting_for : List ℕ → SymCache → Got → Waiting
-waiting_for file c (got.Address a) = waiting.Frames a (walk_at_lem file c a)
-waiting_for file c (got.Bad n) = waiting.Bad n
-waiting_for file c got.More = waiting.Nothing
+waiting_for file c (Some (Ok a)) = waiting.Frames a (walk_at_lem file c a)
+waiting_for file c (Some (Err b)) = waiting.Bad b.0
+waiting_for file c None = waiting.Nothing
 
 -- how many frames a walk can have at most: as many as there are locations
 unfoldable pub count_in : Answer SymCache → ℕ

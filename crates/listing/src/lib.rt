@@ -10,7 +10,7 @@ ghost use Rattle.lookup.specs.Lookup.{stepped};
 ghost use Rattle.listing.specs.Pieces.{frame_in, listing_start, refused_of, begin_answer, begun_of, waits?, waiting_for, frame_line, printed_out, print_of, bad_printed, no_more};
 ghost use Rattle.listing.specs.Pieces.{listed_out, list_of, end_of};
 
-use input_lines::{Got, Input};
+use input_lines::{BadLine, Input};
 use lookup::{Frame, SourceLocations, Step};
 use symcache::{ErrorKind, SymCache};
 
@@ -210,16 +210,17 @@ fn print(file: &[u8], waiting: Waiting, out: &mut [u8], at: usize) -> Printed
 // Listing
 
 // What a line of the input leaves to print.
-fn waiting_for(file: &[u8], cache: SymCache, got: Got) -> Waiting
+#[tactic(auto, unfolding(crate::specs::Pieces::waiting_for))]
+fn waiting_for(file: &[u8], cache: SymCache, got: Option<Result<u64, BadLine>>) -> Waiting
     ensures { result ≡ waiting_for file.now cache got }
 {
     match got {
-        Got::Address(address) => Waiting::Frames {
+        Some(Ok(address)) => Waiting::Frames {
             address,
             walk: lookup::walk(file, cache, address),
         },
-        Got::Bad(number) => Waiting::Bad(number),
-        Got::More => Waiting::Nothing,
+        Some(Err(bad)) => Waiting::Bad(bad.0),
+        None => Waiting::Nothing,
     }
 }
 

@@ -313,12 +313,11 @@ fn replay_case(rt: &impl Print, s: &[u8]) {
 // Replays the next record, and answers whether there was one.
 fn replay_next<F: Read>(rt: &impl Print, from: &mut F) -> bool {
     let mut record = [0u8; 65536];
-    let got = replay::read_record(from, &mut record);
-    let n = got.len;
-    if got.some {
-        replay_case(rt, &record[..n]);
-    }
-    got.some
+    let Some(n) = replay::read_record(from, &mut record) else {
+        return false;
+    };
+    replay_case(rt, &record[..n]);
+    true
 }
 
 // Nothing says that the container ends, so the records are counted.

@@ -9,7 +9,7 @@ ghost use Rattle.lookup.specs.Answers.{lookup_answer, step_answer, file_answer, 
 ghost use Rattle.lookup.specs.Lookup.{found_at, walk_from_lem, walk_at_lem, looked_up_lem, met, entry_of, language_of};
 ghost use Rattle.lookup.specs.Lookup.{frame_in_lem, ended, step_in_lem, stepped, got_file, got_function, next_function, functions_next, next_file, files_next};
 
-use raw::{File, Function, SourceLocation};
+use raw::{File, Function, SourceLocation, Stored};
 use symcache::{ErrorKind, SymCache};
 
 // A walk from a source location to the one into which it was inlined, and so on: where it began, where it is, and how many steps it made.
@@ -88,7 +88,7 @@ fn location_in(s: &[u8], c: SymCache, i: u32) -> SourceLocation
     requires { c.source_locations + 16 * i < 2 ^ 64 }
     ensures { result ≡ location_in_lem s.now c i }
 {
-    raw::location_at(s, c.source_locations + 16 * (i as usize))
+    SourceLocation::read(s, c.source_locations + 16 * (i as usize))
 }
 
 #[tactic(auto, unfolding(symcache::specs::Reader::file_in_lem))]
@@ -97,7 +97,7 @@ fn file_in(s: &[u8], c: SymCache, i: u32) -> Option<File>
     ensures { maybe_of result ≡ file_in_lem s.now c i }
 {
     if i < c.num_files {
-        return Some(raw::file_at(s, c.files + 24 * (i as usize)));
+        return Some(File::read(s, c.files + 24 * (i as usize)));
     }
     None
 }
@@ -108,7 +108,7 @@ fn function_in(s: &[u8], c: SymCache, i: u32) -> Option<Function>
     ensures { maybe_of result ≡ function_in_lem s.now c i }
 {
     if i < c.num_functions {
-        return Some(raw::function_at(s, c.functions + 16 * (i as usize)));
+        return Some(Function::read(s, c.functions + 16 * (i as usize)));
     }
     None
 }
@@ -276,7 +276,7 @@ fn next_function(s: &[u8], c: SymCache, from: u32) -> Option<NextFunction>
     ensures { maybe_of result ≡ next_function s.now c from (c.num_functions - from) }
 {
     for index in from..c.num_functions {
-        let function = raw::function_at(s, c.functions + 16 * (index as usize));
+        let function = Function::read(s, c.functions + 16 * (index as usize));
         if function.entry_pc != u32::MAX {
             return Some(NextFunction {
                 index,

@@ -2,10 +2,10 @@
 // Which tables there are stands here: `State`, `Lengths`, `lent`, `zero_tables`, and `Memory` of specs/.
 #![tactic(auto)]
 
-ghost use Rattle.std.specs.Prelude.{◌≡◌, ◌&&◌, ◌+◌, leb};
+ghost use Rattle.std.specs.Prelude.{◌≡◌, leb};
 ghost use Rattle.tables.specs.Table.{capacity_of};
 ghost use Rattle.strings.specs.Strings.{text_capacity_of};
-ghost use Rattle.memory.specs.Memory.{memory, lent, zeroed};
+ghost use Rattle.memory.specs.Memory.{SameTables, memory_of, memory_in, lent, zeroed};
 ghost use Rattle.memory.specs.Record.{
   fits_in_lem,
   usable_in,
@@ -19,7 +19,7 @@ ghost use Rattle.memory.specs.Record.{
   begin_of,
 };
 
-use slices::{zero, zero_bytes};
+use slices::zero;
 
 // How much of each lent table is in use.
 #[derive(Clone, Copy)]
@@ -45,6 +45,29 @@ pub struct Converter {
     pub clamped_lines: u64,
 }
 
+// The lent tables during a call, and how much of each is in use.
+#[derive(Drop)]
+pub struct Tables<'a> {
+    pub state: State,
+    pub string_bytes: &'a mut [u8],
+    pub strings: &'a mut [u32],
+    pub files: &'a mut [u32],
+    pub functions: &'a mut [u32],
+    pub call_locations: &'a mut [u32],
+    pub ranges: &'a mut [u32],
+}
+
+// The lent tables, to be read alone.
+#[derive(Clone, Copy)]
+pub struct Lent<'a> {
+    pub string_bytes: &'a [u8],
+    pub strings: &'a [u32],
+    pub files: &'a [u32],
+    pub functions: &'a [u32],
+    pub call_locations: &'a [u32],
+    pub ranges: &'a [u32],
+}
+
 // The lengths of the lent tables: of the texts in bytes, of the others in words.
 #[derive(Clone, Copy)]
 pub struct Lengths {
@@ -66,231 +89,179 @@ pub const SYMCACHE_CLOSED: u32 = 19;
 
 // Capacities
 
-// The lengths of tables that are lent.
-pub fn lent(
-    string_bytes: &[u8],
-    strings: &[u32],
-    files: &[u32],
-    functions: &[u32],
-    call_locations: &[u32],
-    ranges: &[u32],
-) -> Lengths
-    ensures { let before = memory string_bytes.now strings.now files.now
-        functions.now call_locations.now ranges.now in
-        result ≡ lent before }
-{
-    Lengths {
-        string_bytes: string_bytes.len(),
-        strings: strings.len(),
-        files: files.len(),
-        functions: functions.len(),
-        call_locations: call_locations.len(),
-        ranges: ranges.len(),
+impl Lent<'_> {
+    pub fn lengths(self) -> Lengths
+        ensures { result ≡ lent (memory_in self.entry) }
+    {
+        Lengths {
+            string_bytes: self.string_bytes.len(),
+            strings: self.strings.len(),
+            files: self.files.len(),
+            functions: self.functions.len(),
+            call_locations: self.call_locations.len(),
+            ranges: self.ranges.len(),
+        }
+    }
+}
+
+impl Tables<'_> {
+    // The same tables, to be read alone.
+    pub fn lent(&self) -> Lent<'_>
+        ensures { memory_in result ≡ memory_of self.now }
+    {
+        Lent {
+            string_bytes: &*self.string_bytes,
+            strings: &*self.strings,
+            files: &*self.files,
+            functions: &*self.functions,
+            call_locations: &*self.call_locations,
+            ranges: &*self.ranges,
+        }
+    }
+
+    pub fn lengths(&self) -> Lengths
+        ensures { result ≡ lent (memory_of self.now) }
+    {
+        self.lent().lengths()
+    }
+
+    // All lent memory becomes zero.
+    pub fn zero(&mut self)
+        ensures same { SameTables self.old self.new }
+        ensures state { self.new.state ≡ self.old.state }
+        ensures zeroed { memory_of self.new ≡ zeroed (memory_of self.old) }
+    {
+        zero(self.string_bytes);
+        zero(self.strings);
+        zero(self.files);
+        zero(self.functions);
+        zero(self.call_locations);
+        zero(self.ranges);
     }
 }
 
 // Whether a count is at most the number of rows that a table of so many words has room for.
+#[tactic(auto, using(crate::proofs::Laws::capacity_is))]
 fn within(count: u32, words: usize) -> bool
     ensures { result ≡ leb count (capacity_of words) }
 {
-    let rows = words / 8;
-    if rows < 16777216 {
-        return count as usize <= rows;
-    }
-    count <= 16777216
+    let rows = (words / 8).min(16777216);
+    count as usize <= rows
 }
 
 // The same of text bytes.
+#[tactic(auto, using(crate::proofs::Laws::text_capacity_is))]
 fn text_within(count: u32, bytes: usize) -> bool
     ensures { result ≡ leb count (text_capacity_of bytes) }
 {
-    if bytes < 268435456 {
-        return count as usize <= bytes;
-    }
-    count <= 268435456
-}
-
-fn both(a: bool, b: bool) -> bool
-    ensures { result ≡ a && b }
-{
-    if a {
-        return b;
-    }
-    false
+    let room = bytes.min(268435456);
+    count as usize <= room
 }
 
 // Whether no count is above the capacity of its table.
+#[tactic(auto, unfolding(crate::specs::Record::fits_in_lem))]
 pub fn fits(state: State, lent: Lengths) -> bool
     ensures { result ≡ fits_in_lem state lent }
 {
-    let string_bytes = text_within(state.string_bytes, lent.string_bytes);
-    let strings = within(state.strings, lent.strings);
-    let files = within(state.files, lent.files);
-    let functions = within(state.functions, lent.functions);
-    let call_locations = within(state.call_locations, lent.call_locations);
-    let ranges = within(state.ranges, lent.ranges);
-    both(
-        string_bytes,
-        both(
-            strings,
-            both(files, both(functions, both(call_locations, ranges))),
-        ),
-    )
+    text_within(state.string_bytes, lent.string_bytes)
+        && within(state.strings, lent.strings)
+        && within(state.files, lent.files)
+        && within(state.functions, lent.functions)
+        && within(state.call_locations, lent.call_locations)
+        && within(state.ranges, lent.ranges)
 }
 
 // 19: whether the converter is open and no count is above the capacity of its table.
+#[tactic(auto, unfolding(crate::specs::Record::usable_in))]
 pub fn is_usable(c: Converter, lent: Lengths) -> bool
     ensures { result ≡ usable_in c lent }
 {
-    both(c.open, fits(c.state, lent))
+    c.open && fits(c.state, lent)
 }
 
 // The record
 
-// Nothing is in use.
-pub fn nothing_used() -> State
-    ensures { result ≡ unused }
-{
-    State {
-        string_bytes: 0,
-        strings: 0,
-        files: 0,
-        functions: 0,
-        call_locations: 0,
-        ranges: 0,
+impl State {
+    // Nothing is in use.
+    pub fn unused() -> State
+        ensures { result ≡ unused }
+    {
+        State {
+            string_bytes: 0,
+            strings: 0,
+            files: 0,
+            functions: 0,
+            call_locations: 0,
+            ranges: 0,
+        }
     }
 }
 
-// The record of a new converter.
-fn opened(
-    debug_id: [u8; 32],
-    arch: u32,
-    undecorate_functions: bool,
-    undecorate_symbols: bool,
-) -> Converter
-    ensures { result ≡ begun debug_id arch undecorate_functions undecorate_symbols }
-{
-    Converter {
-        debug_id,
-        arch,
-        undecorate_functions,
-        undecorate_symbols,
-        open: true,
-        state: nothing_used(),
-        clamped_lines: 0,
+impl Converter {
+    // The record of a new converter.
+    fn opened(
+        debug_id: [u8; 32],
+        arch: u32,
+        undecorate_functions: bool,
+        undecorate_symbols: bool,
+    ) -> Converter
+        ensures { result ≡ begun debug_id arch undecorate_functions undecorate_symbols }
+    {
+        Converter {
+            debug_id,
+            arch,
+            undecorate_functions,
+            undecorate_symbols,
+            open: true,
+            state: State::unused(),
+            clamped_lines: 0,
+        }
     }
-}
 
-// A count is 0 while the converter is closed.
-fn while_open(open: bool, count: u64) -> u64
-    ensures { result ≡ while_open «open» count }
-{
-    if open {
-        return count;
+    // The record after a call; while it is closed no line row counts.
+    pub fn with_state(self, open: bool, state: State) -> Converter
+        ensures { result ≡ with_state self «open» state }
+    {
+        let clamped_lines = if open { self.clamped_lines } else { 0 };
+        Converter {
+            open,
+            state,
+            clamped_lines,
+            ..self
+        }
     }
-    0
-}
 
-// The record after a call.
-pub fn with_state(c: Converter, open: bool, state: State) -> Converter
-    ensures { result ≡ with_state c «open» state }
-{
-    let id = c.debug_id;
-    Converter {
-        debug_id: id,
-        arch: c.arch,
-        undecorate_functions: c.undecorate_functions,
-        undecorate_symbols: c.undecorate_symbols,
-        open,
-        state,
-        clamped_lines: while_open(open, c.clamped_lines),
+    // The record with so many more line rows counted as clamped; the count stays at 2^64 - 1.
+    pub fn with_clamped(self, lines: u64) -> Converter
+        ensures { result ≡ with_clamped self lines }
+    {
+        Converter {
+            clamped_lines: self.clamped_lines.saturating_add(lines),
+            ..self
+        }
     }
-}
 
-// The sum, which stays at 2^64 - 1.
-fn saturated(a: u64, b: u64) -> u64
-    ensures { result ≡ capped (a + b) }
-{
-    if u64::MAX - a < b {
-        return u64::MAX;
+    // How many line rows of the accepted trees had addresses that were cut back to u32::MAX; 0 while the converter is closed.
+    #[tactic(auto, unfolding(crate::specs::Record::clamped_lines_lem))]
+    pub fn clamped_lines(self) -> u64
+        ensures { result ≡ clamped_lines_lem self }
+    {
+        if self.open { self.clamped_lines } else { 0 }
     }
-    a + b
-}
-
-// The record with so many more line rows counted as clamped.
-pub fn with_clamped(c: Converter, lines: u64) -> Converter
-    ensures { result ≡ with_clamped c lines }
-{
-    let id = c.debug_id;
-    let state = c.state;
-    Converter {
-        debug_id: id,
-        arch: c.arch,
-        undecorate_functions: c.undecorate_functions,
-        undecorate_symbols: c.undecorate_symbols,
-        open: c.open,
-        state,
-        clamped_lines: saturated(c.clamped_lines, lines),
-    }
-}
-
-// How many line rows of the accepted trees had addresses that were cut back to u32::MAX.
-pub fn clamped_lines(c: Converter) -> u64
-    ensures { result ≡ clamped_lines_lem c }
-{
-    while_open(c.open, c.clamped_lines)
-}
-
-// The tables
-
-pub fn zero_tables(
-    string_bytes: &mut [u8],
-    strings: &mut [u32],
-    files: &mut [u32],
-    functions: &mut [u32],
-    call_locations: &mut [u32],
-    ranges: &mut [u32],
-)
-    ensures { let before = memory string_bytes.old strings.old files.old
-        functions.old call_locations.old ranges.old in
-        let after = memory string_bytes.new strings.new files.new
-        functions.new call_locations.new ranges.new in
-        after ≡ zeroed before }
-{
-    zero_bytes(string_bytes);
-    zero(strings);
-    zero(files);
-    zero(functions);
-    zero(call_locations);
-    zero(ranges);
 }
 
 // A new converter: nothing is in use, and the lent tables are zero.
+#[tactic(auto, unfolding(crate::specs::Record::begin_of))]
 pub fn begin(
     debug_id: [u8; 32],
     arch: u32,
     undecorate_functions: bool,
     undecorate_symbols: bool,
-    string_bytes: &mut [u8],
-    strings: &mut [u32],
-    files: &mut [u32],
-    functions: &mut [u32],
-    call_locations: &mut [u32],
-    ranges: &mut [u32],
+    tables: &mut Tables,
 ) -> Converter
-    ensures { let before = memory string_bytes.old strings.old files.old
-        functions.old call_locations.old ranges.old in
-        let after = memory string_bytes.new strings.new files.new
-        functions.new call_locations.new ranges.new in
-        (result, after) ≡ begin_of debug_id arch undecorate_functions undecorate_symbols before }
+    ensures same { SameTables tables.old tables.new }
+    ensures begun { (result, memory_of tables.new) ≡ begin_of debug_id arch undecorate_functions undecorate_symbols (memory_of tables.old) }
 {
-    zero_tables(
-        string_bytes,
-        strings,
-        files,
-        functions,
-        call_locations,
-        ranges,
-    );
-    opened(debug_id, arch, undecorate_functions, undecorate_symbols)
+    tables.zero();
+    Converter::opened(debug_id, arch, undecorate_functions, undecorate_symbols)
 }

@@ -10,9 +10,9 @@ use native.Mathlib.Omega.{arith}
 use lib.ListN.{length, take, drop, get_or, get_elem?, length-append, length-map}
 use Rattle.slices.proofs.Cases.{lt-or_ge}
 use Rattle.text.specs.Leb128.{encoded}
-use Rattle.text.specs.Texts.{read_text, bytes_of, text_part}
+use Rattle.text.specs.Texts.{part, read_text, bytes_of, text_part}
 use Rattle.text.specs.declared.strings.Text as text-type
-use Rattle.text.specs.declared.strings.Text.TheVariants as text
+use Rattle.std.specs.Prelude as std
 use Rattle.text.proofs.Leb128Laws.{length_last, length_more, decoded-past}
 use Rattle.text.proofs.TextLaws.{read-stored, part-stored, absent_prefix}
 use Rattle.model.specs.Basics.{◌∈◌, Entry}
@@ -215,16 +215,16 @@ placed (u ∷ ts) (suc i) t h =
     }
 
 -- what is read at an offset of a section, as text's `read_text` has it
-abbrev pub shown : List ℕ → text-type.Text → Option Text
-shown s text.Absent = none
-shown s (text.At start len) = some (take len (drop start s))
+abbrev pub shown : List ℕ → std.Option text-type.Text → Option Text
+shown s std.None = none
+shown s (std.Some p) = some (take p.len (drop p.start s))
 
 abbrev pub text_at : List ℕ → ℕ → Option Text
 text_at s w = shown s (read_text s w)
 
-at-present : (s : List ℕ) (w start len : ℕ) → read_text s w ≡ text.At start len → text_at s w ≡ some (text_part s w)
+at-present : (s : List ℕ) (w start len : ℕ) → read_text s w ≡ part start len → text_at s w ≡ some (text_part s w)
 unfolding text_part bytes_of
-at-present s w start len e = ap (λ (t : text-type.Text). shown s t) e ∙ sym (ap (λ (t : text-type.Text). some (bytes_of s t)) e)
+at-present s w start len e = ap (λ (t : std.Option text-type.Text). shown s t) e ∙ sym (ap (λ (t : std.Option text-type.Text). some (bytes_of s t)) e)
 
 at_place : (xs : List Text) (i : ℕ) → i < length xs → (t : Text) × At xs i t
 at_place [] i h = absurd (omega arith)
@@ -239,7 +239,7 @@ text-short (u ∷ ts) (suc i) t h = let r = text-short ts i t h in omega arith
 
 -- EVERY TEXT READS BACK: at the word of a reference the section has the text that the reference means, and none at MAX
 pub text-found : (ts : List Text) (r : Option ℕ) → Texts ts → text_bytes ts ≤ 268435456 → Within r (length ts) → text_at (string_section ts) (text_word ts r) ≡ read ts r
-text-found ts none g b h = ap (λ (t : text-type.Text). shown (string_section ts) t) (sym (absent_prefix (string_section ts) MAX (decoded-past (string_section ts) MAX (rw (section-length ts) (omega arith)))))
+text-found ts none g b h = ap (λ (t : std.Option text-type.Text). shown (string_section ts) t) (sym (absent_prefix (string_section ts) MAX (decoded-past (string_section ts) MAX (rw (section-length ts) (omega arith)))))
 text-found ts (some i) g b h =
     let (t, a) = at_place ts i h in
     let p = placed ts i t a in

@@ -3,7 +3,7 @@ use Prim.Native.Nat.{ℕ}
 use mathlib.Core.Path.{◌≡◌}
 use mathlib.Core.List.{List, [], ◌∷◌}
 use mathlib.Core.Bool.{true, false}
-use mathlib.Core.Option.{none, some}
+use Rattle.std.proofs.Common.{None, Some}
 use lib.ListN.{take, drop}
 use Rattle.names.specs.Names.{starts_with, contains, number, parses, cut, prefixed, undecorated}
 
@@ -27,24 +27,24 @@ module _ (s : List ℕ) where
     qualified b = rw (a, b)
 
     module _ (b : contains s ≡ false) where
-      pub vectorcall : (n : ℕ) → cut (64 ∷ 64 ∷ []) s ≡ some n → undecorated s ≡ take n s
+      pub vectorcall : (n : ℕ) → cut (64 ∷ 64 ∷ []) s ≡ Some n → undecorated s ≡ take n s
       unfolding undecorated
       vectorcall n e = rw (a, b, e)
 
-      module _ (v : cut (64 ∷ 64 ∷ []) s ≡ none) where
+      module _ (v : cut (64 ∷ 64 ∷ []) s ≡ None) where
         pub plain : prefixed s ≡ false → undecorated s ≡ s
         unfolding undecorated
         plain f = rw (a, b, v, f)
 
         module _ (f : prefixed s ≡ true) where
-          pub stdcall : (n : ℕ) → cut (64 ∷ []) (drop 1 s) ≡ some n → undecorated s ≡ take n (drop 1 s)
+          pub stdcall : (n : ℕ) → cut (64 ∷ []) (drop 1 s) ≡ Some n → undecorated s ≡ take n (drop 1 s)
           unfolding undecorated
           stdcall n e = rw (a, b, v, f, e)
 
-          pub cdecl : cut (64 ∷ []) (drop 1 s) ≡ none → starts_with (95 ∷ []) s ≡ true → undecorated s ≡ drop 1 s
+          pub cdecl : cut (64 ∷ []) (drop 1 s) ≡ None → starts_with (95 ∷ []) s ≡ true → undecorated s ≡ drop 1 s
           unfolding undecorated
           cdecl e u = rw (a, b, v, f, e, u)
 
-          pub fastcall_kept : cut (64 ∷ []) (drop 1 s) ≡ none → starts_with (95 ∷ []) s ≡ false → undecorated s ≡ s
+          pub fastcall_kept : cut (64 ∷ []) (drop 1 s) ≡ None → starts_with (95 ∷ []) s ≡ false → undecorated s ≡ s
           unfolding undecorated
           fastcall_kept e u = rw (a, b, v, f, e, u)

@@ -3,7 +3,7 @@ use Prim.Native.Nat.{ℕ, ◌+◌, ◌<◌}
 use mathlib.Core.Path.{◌≡◌, refl, sym, ◌∙◌}
 use mathlib.Core.List.{List, [], ◌∷◌}
 use mathlib.Core.Bool.{Bool, true, false, ◌&&◌, ◌||◌, false≢true}
-use mathlib.Core.Option.{some}
+use Rattle.std.proofs.Common.{Some}
 use native.Mathlib.Omega.{arith}
 use lib.ListN.{length, get_or, drop}
 use lib.Seq.{get_or-drop}
@@ -26,7 +26,7 @@ starts_first b p (a ∷ s) h = go (eqb a b) refl h
     go true e f = eqb-true a b e
     go false e f = absurd (false≢true f)
 
-cut-first : (b : ℕ) (p s : List ℕ) (n : ℕ) → cut (b ∷ p) s ≡ some n → get_or s n 0 ≡ b
+cut-first : (b : ℕ) (p s : List ℕ) (n : ℕ) → cut (b ∷ p) s ≡ Some n → get_or s n 0 ≡ b
 cut-first b p s n h =
     let z : n + 0 ≡ n = omega arith in
     rw z at (sym (get_or-drop n s 0 0) ∙ starts_first b p (drop n s) (rfind-found (b ∷ p) s (length s) n (cut-found (b ∷ p) s n h)).1)

@@ -1,62 +1,57 @@
 -- One step of each search of specs/Names, at a place in a list: what the loops' proofs cite.
 use Prim.Native.Nat.{ℕ, zero, suc, ◌+◌, ◌*◌, ◌-◌, ◌≤◌, ◌<◌}
-use mathlib.Core.Path.{◌≡◌, refl}
+use mathlib.Core.Path.{◌≡◌, refl, sym, ◌∙◌, ap}
 use mathlib.Core.List.{List, [], ◌∷◌}
-use mathlib.Core.Bool.{Bool, true, false, cond, ◌&&◌, and-false, false≢true}
-use mathlib.Core.Option.{none, some, none-ne-some, some-injective}
+use mathlib.Core.Bool.{Bool, true, false, cond, ◌&&◌, ◌||◌, and-false, false≢true}
+use Rattle.std.proofs.Common.{None, Some, not}
+use Rattle.std.proofs.lemmas.Option.{none-some}
+use Rattle.std.specs.Char.{is_ascii_digit}
+use Rattle.std.specs.List.{list_any}
+use Rattle.std.specs.Cmp.Lexicographic.{pointwise}
 use native.Mathlib.Omega.{arith}
 use native.Mathlib.Numerals.{add-one}
 use lib.ListN.{length, get_or, take, drop, length-drop, drop_of_length-le}
 use lib.Seq.{take_all, drop-cons}
 use lib.Dec.{eqb, leb}
-use borrow.Author.Tests.{eq-eqb, ne_eqb, lt-ltb, lt-leb, le-leb, leb-true}
+use borrow.Author.Tests.{eq-eqb, ne_eqb, lt-ltb, lt-leb, le-leb, eqb-true, eqb-false}
 use Rattle.names.specs.Names.{starts_with, special, contains, rfind, digit, digits, value, number, prefixed}
 
 -- The part `&s[k..]` is the name without its first k bytes.
 pub rest : (k : ℕ) (s : List ℕ) → take (length s - k) (drop k s) ≡ drop k s
 rest k s = take_all (length s - k) (drop k s) (omega (arith, length-drop k s))
 
--- `starts_with`: what is left of the pattern is compared with what is left of the name.
-module _ (p s : List ℕ) (i : ℕ) where
-  pub starts-done : length p ≤ i → starts_with (drop i p) (drop i s) ≡ true
-  unfolding starts_with
-  starts-done h = rw (drop_of_length-le p h)
+eqb-flip : (a b : ℕ) → eqb b a ≡ eqb a b
+eqb-flip a b = go (eqb a b) refl
+  where
+    go : (t : Bool) → eqb a b ≡ t → eqb b a ≡ t
+    go true e = eq-eqb b a (sym (eqb-true a b e))
+    go false e = ne_eqb b a (λ k. eqb-false a b e (sym k))
 
-  pub starts-short : i < length p → length s ≤ i → starts_with (drop i p) (drop i s) ≡ false
-  unfolding starts_with
-  starts-short h l = rw (drop-cons p i 0 h, drop_of_length-le s l)
+-- The library's `starts_with` is ours.
+pub stands : (p s : List ℕ) → pointwise eqb p (take (length p) s) ≡ starts_with p s
+unfolding starts_with
+stands [] s = refl
+stands (b ∷ p) [] = refl
+stands (b ∷ p) (a ∷ s) = rw (eqb-flip a b, stands p s)
 
-  pub starts_differ : i < length p → i < length s → (get_or s i 0 ≡ get_or p i 0 → ⊥) → starts_with (drop i p) (drop i s) ≡ false
-  unfolding starts_with
-  starts_differ h l d = rw (drop-cons p i 0 h, drop-cons s i 0 l, ne_eqb (get_or s i 0) (get_or p i 0) d)
+-- the answer b of the library's
+pub stood : (p s : List ℕ) {r b : Bool} → r ≡ pointwise eqb p (take (length p) s) → r ≡ b → starts_with p s ≡ b
+stood p s e f = sym (stands p s) ∙ (sym e ∙ f)
 
-  pub starts-same : i < length p → i < length s → get_or s i 0 ≡ get_or p i 0
-      → starts_with (drop i p) (drop i s) ≡ starts_with (drop (i + 1) p) (drop (i + 1) s)
-  unfolding starts_with
-  starts-same h l e = rw (drop-cons p i 0 h, drop-cons s i 0 l, eq-eqb (get_or s i 0) (get_or p i 0) e, add-one i)
-
--- `contains`.
-module _ (s : List ℕ) (i : ℕ) where
-  pub contains-none : length s ≤ i → contains (drop i s) ≡ false
-  unfolding contains
-  contains-none h = rw (drop_of_length-le s h)
-
-  pub contains-here : i < length s → special (get_or s i 0) ≡ true → contains (drop i s) ≡ true
-  unfolding contains
-  contains-here h e = rw (drop-cons s i 0 h, e)
-
-  pub contains-later : i < length s → special (get_or s i 0) ≡ false → contains (drop i s) ≡ contains (drop (i + 1) s)
-  unfolding contains
-  contains-later h e = rw (drop-cons s i 0 h, e, add-one i)
+-- `contains`: what `any` answers.
+pub contains-any : (s : List ℕ) → list_any special s ≡ contains s
+unfolding contains
+contains-any [] = refl
+contains-any (b ∷ s) = ap (λ (t : Bool). special b || t) (contains-any s)
 
 -- `rfind`, from the end down.
 module _ (p s : List ℕ) where
-  pub rfind-none : (i : ℕ) → i ≤ 0 → rfind p s i ≡ none
+  pub rfind-none : (i : ℕ) → i ≤ 0 → rfind p s i ≡ None
   unfolding rfind
   rfind-none zero h = refl
   rfind-none (suc n) h = absurd (omega arith)
 
-  pub rfind-here : (i : ℕ) → 0 < i → starts_with p (drop (i - 1) s) ≡ true → rfind p s i ≡ some (i - 1)
+  pub rfind-here : (i : ℕ) → 0 < i → starts_with p (drop (i - 1) s) ≡ true → rfind p s i ≡ Some (i - 1)
   unfolding rfind
   rfind-here zero h e = absurd (omega arith)
   rfind-here (suc n) h e = let q : suc n - 1 ≡ n = omega arith in rw (q, rw q at e)
@@ -94,21 +89,18 @@ pub fits-over : (n : ℕ) (s : List ℕ) → 4294967295 < n → fits n s ≡ fal
 unfolding fits
 fits-over n s h = rw (lt-leb (value n s) 4294967295 (omega (arith, value_grows n s)), and-false)
 
-pub digit_low : (b : ℕ) → digit b ≡ true → 48 ≤ b
+pub digit-is : (b : ℕ) → is_ascii_digit b ≡ digit b
 unfolding digit
-digit_low b h = leb-true 48 b (go (leb 48 b) h)
-  where
-    go : (t : Bool) → (t && leb b 57) ≡ true → t ≡ true
-    go true e = refl
-    go false e = e
+digit-is b = refl
 
-pub number-empty : (s : List ℕ) → length s ≡ 0 → number s ≡ false
-unfolding number
-number-empty s h = rw h
-
-pub number-some : (s : List ℕ) → (length s ≡ 0 → ⊥) → fits 0 s ≡ number s
+pub number_other : (s : List ℕ) → fits 0 s ≡ false → false ≡ number s
 unfolding number fits
-number-some s h = rw (lt-ltb 0 (length s) (omega arith))
+number_other s h = rw (h, and-false)
+
+pub number-done : (s : List ℕ) (r : Bool) → r ≡ eqb (length s) 0 → fits 0 s ≡ true → not r ≡ number s
+unfolding number fits
+number-done [] r e h = rw e
+number-done (b ∷ s) r e h = rw (e, h, lt-ltb 0 (suc (length s)) (omega arith), ne_eqb (suc (length s)) 0 (λ k. omega arith))
 
 -- A pattern that stands in a name lies in it.
 pub starts-within : (p s : List ℕ) → starts_with p s ≡ true → length p ≤ length s
@@ -122,14 +114,14 @@ starts-within (b ∷ p) (a ∷ s) h = go (eqb a b) h (starts-within p s)
     go false e r = absurd (false≢true e)
 
 -- A place that `rfind` finds is one at which the pattern stands.
-pub rfind-found : (p s : List ℕ) (n k : ℕ) → rfind p s n ≡ some k → (k < n) × (starts_with p (drop k s) ≡ true)
+pub rfind-found : (p s : List ℕ) (n k : ℕ) → rfind p s n ≡ Some k → (k < n) × (starts_with p (drop k s) ≡ true)
 unfolding rfind
-rfind-found p s zero k h = absurd (none-ne-some k h)
+rfind-found p s zero k h = absurd (none-some k h)
 rfind-found p s (suc n) k h = go (starts_with p (drop n s)) refl h (rfind-found p s n k)
   where
-    go : (t : Bool) → starts_with p (drop n s) ≡ t → cond t (some n) (rfind p s n) ≡ some k
-        → (rfind p s n ≡ some k → (k < n) × (starts_with p (drop k s) ≡ true)) → (k < suc n) × (starts_with p (drop k s) ≡ true)
-    go true e f r = let q : n ≡ k = some-injective n k f in (omega arith, rw q at e)
+    go : (t : Bool) → starts_with p (drop n s) ≡ t → cond t (Some n) (rfind p s n) ≡ Some k
+        → (rfind p s n ≡ Some k → (k < n) × (starts_with p (drop k s) ≡ true)) → (k < suc n) × (starts_with p (drop k s) ≡ true)
+    go true e f r = let q : n ≡ k = (let z : Some n ≡ Some k = f in cc) in (omega arith, rw q at e)
     go false e f r = let q : k < n = (r f).0 in (omega arith, (r f).1)
 
 -- A name with a prefix has a byte.

@@ -3,7 +3,8 @@ use Prim.Native.Nat.{ℕ, ◌+◌, ◌-◌, ◌≤◌}
 use mathlib.Core.Path.{◌≡◌, refl, sym}
 use mathlib.Core.List.{List, [], ◌∷◌}
 use mathlib.Core.Bool.{Bool, true, false, cond, ◌||◌}
-use mathlib.Core.Option.{Option, none, some, map, get_or}
+use Rattle.std.proofs.Common.{Option, None, Some, unwrap_or}
+use Rattle.std.specs.Option.{option_map}
 use native.Mathlib.Omega.{arith}
 use lib.ListN.{length, take, drop, length-drop}
 use lib.Seq.{take-length}
@@ -13,7 +14,7 @@ use Rattle.names.proofs.Sizes.{cut-within}
 
 -- The four outcomes: what holds of each of them holds of the answer.
 module _ (P : List ℕ → Type 0) (s : List ℕ) where
-  module _ (kept : P s) (vectorcall : (n : ℕ) → cut (64 ∷ 64 ∷ []) s ≡ some n → P (take n s)) (stdcall : prefixed s ≡ true → (n : ℕ) → cut (64 ∷ []) (drop 1 s) ≡ some n → P (take n (drop 1 s))) (cdecl : prefixed s ≡ true → P (drop 1 s)) where
+  module _ (kept : P s) (vectorcall : (n : ℕ) → cut (64 ∷ 64 ∷ []) s ≡ Some n → P (take n s)) (stdcall : prefixed s ≡ true → (n : ℕ) → cut (64 ∷ []) (drop 1 s) ≡ Some n → P (take n (drop 1 s))) (cdecl : prefixed s ≡ true → P (drop 1 s)) where
     pub by_outcome : P (undecorated s)
     unfolding undecorated
     by_outcome = alone (starts_with (63 ∷ []) s || contains s)
@@ -23,24 +24,24 @@ module _ (P : List ℕ → Type 0) (s : List ℕ) where
         underscored false f = kept
 
         single : (o : Option ℕ) → cut (64 ∷ []) (drop 1 s) ≡ o → prefixed s ≡ true
-            → P (get_or (map (λ n. take n (drop 1 s)) o) (cond (starts_with (95 ∷ []) s) (drop 1 s) s))
-        single none e f = underscored (starts_with (95 ∷ []) s) f
-        single (some n) e f = stdcall f n e
+            → P (unwrap_or (option_map (λ n. take n (drop 1 s)) o) (cond (starts_with (95 ∷ []) s) (drop 1 s) s))
+        single None e f = underscored (starts_with (95 ∷ []) s) f
+        single (Some n) e f = stdcall f n e
 
         first : (t : Bool) → prefixed s ≡ t
-            → P (cond t (get_or (text_before (64 ∷ []) (drop 1 s)) (cond (starts_with (95 ∷ []) s) (drop 1 s) s)) s)
+            → P (cond t (unwrap_or (text_before (64 ∷ []) (drop 1 s)) (cond (starts_with (95 ∷ []) s) (drop 1 s) s)) s)
         first true f = single (cut (64 ∷ []) (drop 1 s)) refl f
         first false f = kept
 
         double : (o : Option ℕ) → cut (64 ∷ 64 ∷ []) s ≡ o
-            → P (get_or (map (λ n. take n s) o)
-            (cond (prefixed s) (get_or (text_before (64 ∷ []) (drop 1 s)) (cond (starts_with (95 ∷ []) s) (drop 1 s) s)) s))
-        double none e = first (prefixed s) refl
-        double (some n) e = vectorcall n e
+            → P (unwrap_or (option_map (λ n. take n s) o)
+            (cond (prefixed s) (unwrap_or (text_before (64 ∷ []) (drop 1 s)) (cond (starts_with (95 ∷ []) s) (drop 1 s) s)) s))
+        double None e = first (prefixed s) refl
+        double (Some n) e = vectorcall n e
 
         alone : (t : Bool) → P (cond t s
-            (get_or (text_before (64 ∷ 64 ∷ []) s)
-            (cond (prefixed s) (get_or (text_before (64 ∷ []) (drop 1 s)) (cond (starts_with (95 ∷ []) s) (drop 1 s) s)) s)))
+            (unwrap_or (text_before (64 ∷ 64 ∷ []) s)
+            (cond (prefixed s) (unwrap_or (text_before (64 ∷ []) (drop 1 s)) (cond (starts_with (95 ∷ []) s) (drop 1 s) s)) s)))
         alone true = kept
         alone false = double (cut (64 ∷ 64 ∷ []) s) refl
 

@@ -1,7 +1,7 @@
 -- What `undecorate_win_symbol` of writer.rs gives, branch by branch, as a function of the name's bytes (document 01, "Names").
 -- A character that the Rust tests for is written as its ASCII byte.
-use Rattle.std.specs.Prelude.{ℕ, zero, suc, ◌+◌, ◌*◌, ◌-◌, List, [], ◌∷◌, Bool, true, false, cond, ◌&&◌, ◌||◌, length, take, drop, ltb, leb, eqb}
-use Rattle.std.proofs.Math.Option.{Option, none, some, map, get_or}
+use Rattle.std.specs.Prelude.{Option, None, Some, unwrap_or, ℕ, zero, suc, ◌+◌, ◌*◌, ◌-◌, List, [], ◌∷◌, Bool, true, false, cond, ◌&&◌, ◌||◌, length, take, drop, ltb, leb, eqb}
+use Rattle.std.specs.Option.{option_map}
 
 -- `starts_with(p)`: the first bytes of a name are p.
 unfoldable pub starts_with : List ℕ → List ℕ → Bool
@@ -20,8 +20,8 @@ contains (b ∷ s) = special b || contains s
 
 -- `rfind(p)`: the last place at which p stands in s, of those below n.
 unfoldable pub rfind : List ℕ → List ℕ → ℕ → Option ℕ
-rfind p s zero = none
-rfind p s (suc n) = cond (starts_with p (drop n s)) (some n) (rfind p s n)
+rfind p s zero = None
+rfind p s (suc n) = cond (starts_with p (drop n s)) (Some n) (rfind p s n)
 
 -- `0` to `9`.
 unfoldable pub digit : ℕ → Bool
@@ -46,8 +46,8 @@ parses s = cond (starts_with (43 ∷ []) s) (number (drop 1 s)) (number s)
 
 -- `parse::<u32>().is_ok()` of what follows p, which stands at a place n: the place is kept or dropped.
 unfoldable pub sized : List ℕ → List ℕ → Option ℕ → Option ℕ
-sized p s none = none
-sized p s (some n) = cond (parses (drop (n + length p) s)) (some n) none
+sized p s None = None
+sized p s (Some n) = cond (parses (drop (n + length p) s)) (Some n) None
 
 -- `rsplit_once(p)`, then the parse: how many bytes stand before p.
 unfoldable pub cut : List ℕ → List ℕ → Option ℕ
@@ -55,7 +55,7 @@ cut p s = sized p s (rfind p s (length s))
 
 -- The bytes before p, where cut finds it.
 abbrev pub text_before : List ℕ → List ℕ → Option (List ℕ)
-text_before p s = map (λ n. take n s) (cut p s)
+text_before p s = option_map (λ n. take n s) (cut p s)
 
 -- `strip_prefix(['@', '_'])` finds one of the two.
 unfoldable pub prefixed : List ℕ → Bool
@@ -66,7 +66,7 @@ prefixed s = starts_with (64 ∷ []) s || starts_with (95 ∷ []) s
 unfoldable pub undecorated : List ℕ → List ℕ
 undecorated s =
     cond (starts_with (63 ∷ []) s || contains s) s
-    (get_or (text_before (64 ∷ 64 ∷ []) s)
+    (unwrap_or (text_before (64 ∷ 64 ∷ []) s)
     (cond (prefixed s)
-    (get_or (text_before (64 ∷ []) (drop 1 s)) (cond (starts_with (95 ∷ []) s) (drop 1 s) s))
+    (unwrap_or (text_before (64 ∷ []) (drop 1 s)) (cond (starts_with (95 ∷ []) s) (drop 1 s) s))
     s))

@@ -5,168 +5,103 @@
 #![tactic(auto)]
 
 ghost use Rattle.std.specs.Prelude.{◌≡◌, length};
-ghost use Rattle.names.specs.Names.{starts_with, special, contains, rfind, digit, number, parses, cut, prefixed, undecorated};
-ghost use Rattle.names.specs.Found.{found};
-
-// A place in a slice, or none.
-#[derive(Clone, Copy)]
-enum Found {
-    At(usize),
-    Nothing,
-}
-
-// `starts_with`: whether the first bytes of `s` are `pat`.
-fn starts_with(s: &[u8], pat: &[u8]) -> bool
-    ensures { result ≡ starts_with pat.now s.now }
-{
-    let mut i = 0;
-    while i < pat.len() {
-        if s.len() <= i {
-            return false;
-        }
-        if s[i] != pat[i] {
-            return false;
-        }
-        i += 1;
-    }
-    true
-}
+ghost use Rattle.names.specs.Names.{special, contains, rfind, number, parses, cut, prefixed, undecorated};
 
 // Whether `b` is `:`, `(` or `<`.
 fn special(b: u8) -> bool
     ensures { result ≡ special b }
 {
-    if b == b':' {
-        return true;
-    }
-    if b == b'(' {
-        return true;
-    }
-    b == b'<'
+    matches!(b, b':' | b'(' | b'<')
 }
 
 // `contains`: whether `:`, `(` or `<` stands in `s`.
 fn contains(s: &[u8]) -> bool
     ensures { result ≡ contains s.now }
 {
-    let mut i = 0;
-    while i < s.len() {
-        if special(s[i]) {
-            return true;
-        }
-        i += 1;
-    }
-    false
+    s.iter().any(|b| special(*b))
 }
 
 // `rfind`: where `pat` stands last in `s`.
-fn rfind(s: &[u8], pat: &[u8]) -> Found
-    ensures { result ≡ found (rfind pat.now s.now (length s.now)) }
+fn rfind(s: &[u8], pat: &[u8]) -> Option<usize>
+    ensures { result ≡ rfind pat.now s.now (length s.now) }
 {
-    let mut i = s.len();
-    while 0 < i {
-        i -= 1;
-        if starts_with(&s[i..], pat) {
-            return Found::At(i);
+    for i in (0..s.len()).rev() {
+        if s[i..].starts_with(pat) {
+            return Some(i);
         }
     }
-    Found::Nothing
-}
-
-// Whether `b` is a decimal digit.
-fn digit(b: u8) -> bool
-    ensures { result ≡ digit b }
-{
-    if b < b'0' {
-        return false;
-    }
-    b <= b'9'
+    None
 }
 
 // Whether `s` is one or more digits whose number fits 32 bits.
 fn number(s: &[u8]) -> bool
     ensures { result ≡ number s.now }
 {
-    if s.len() == 0 {
-        return false;
-    }
     let mut value: u64 = 0;
-    let mut i = 0;
-    while i < s.len() {
-        if !digit(s[i]) {
+    for &b in s {
+        if !b.is_ascii_digit() {
             return false;
         }
-        value = value * 10 + (s[i] - b'0') as u64;
-        if (u32::MAX as u64) < value {
+        value = value * 10 + u64::from(b - b'0');
+        if u64::from(u32::MAX) < value {
             return false;
         }
-        i += 1;
     }
-    true
+    !s.is_empty()
 }
 
 // `parse::<u32>().is_ok()`: a number, before which a plus may stand.
 fn parses(s: &[u8]) -> bool
     ensures { result ≡ parses s.now }
 {
-    if starts_with(s, b"+") {
+    if s.starts_with(b"+") {
         return number(&s[1..]);
     }
     number(s)
 }
 
 // `rsplit_once(pat)`, where a parameter size follows `pat`: the length of what stands before it.
-fn cut(s: &[u8], pat: &[u8]) -> Found
-    ensures { result ≡ found (cut pat.now s.now) }
+fn cut(s: &[u8], pat: &[u8]) -> Option<usize>
+    ensures { result ≡ cut pat.now s.now }
 {
-    let Found::At(n) = rfind(s, pat) else {
-        return Found::Nothing;
-    };
+    let n = rfind(s, pat)?;
     if parses(&s[n + pat.len()..]) {
-        return Found::At(n);
+        return Some(n);
     }
-    Found::Nothing
+    None
 }
 
 // Whether `name` starts with `@` or `_`.
 fn prefixed(name: &[u8]) -> bool
     ensures { result ≡ prefixed name.now }
 {
-    if starts_with(name, b"@") {
-        return true;
-    }
-    starts_with(name, b"_")
+    name.starts_with(b"@") || name.starts_with(b"_")
 }
 
 // The name without the decoration of its calling convention.
 pub fn undecorate_win_symbol(name: &[u8]) -> &[u8]
     ensures { result.now ≡ undecorated name.now }
 {
-    if starts_with(name, b"?") {
-        return name;
-    }
-    if contains(name) {
+    if name.starts_with(b"?") || contains(name) {
         return name;
     }
 
     // Parse __vectorcall.
-    if let Found::At(n) = cut(name, b"@@") {
+    if let Some(n) = cut(name, b"@@") {
         return &name[..n];
     }
 
     // Parse the other three.
     if prefixed(name) {
         let rest = &name[1..];
-        if let Found::At(n) = cut(rest, b"@") {
+        if let Some(n) = cut(rest, b"@") {
             // __stdcall or __fastcall
             return &rest[..n];
         }
-        if starts_with(name, b"_") {
+        if name.starts_with(b"_") {
             // __cdecl
             return rest;
         }
-        return name;
     }
-
     name
 }

@@ -7,14 +7,12 @@ fn show(rt: &impl Print, name: &[u8]) {
 }
 
 fn show_lines(rt: &impl Print, s: &[u8]) {
-    let mut start: usize = 0;
-    let mut i: usize = 0;
-    while i < s.len() {
-        if s[i] == b'\n' {
+    let mut start = 0;
+    for (i, &b) in s.iter().enumerate() {
+        if b == b'\n' {
             show(rt, &s[start..i]);
             start = i + 1;
         }
-        i += 1;
     }
 }
 

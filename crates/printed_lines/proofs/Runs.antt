@@ -1,15 +1,15 @@
--- Runs of stores: one after the other (`more`), and a number's digits from the last to the first (`hex_turn`).
+-- Runs of stores: a number's digits from the last to the first (`hex_turn`), and a line that is filled from its start (`next`).
 use Prim.Native.Nat.{ℕ, zero, suc, ◌+◌, ◌-◌, ◌/◌, ◌%◌, ◌<◌, ◌≤◌}
 use mathlib.Core.Path.{◌≡◌, refl, sym, ◌∙◌, ap}
 use mathlib.Core.List.{List, [], ◌∷◌, ◌++◌}
 use mathlib.Core.Logic.{inr}
 use native.Mathlib.Omega.{arith}
-use lib.ListN.{length, set, length-append}
-use lib.Seq.{sets, length-sets}
-use Rattle.slices.proofs.Bytes.{sets_join}
+use lib.ListN.{length, set, replicate, length-append, length-replicate}
+use lib.Seq.{sets, sets-eq}
+use lib.Seq.{take-append_seam, drop-append-add}
+use Rattle.std.proofs.lemmas.List.{drop-replicate}
 use Rattle.slices.proofs.Runs.{set_apart}
-use Rattle.printed_lines.specs.Printed.{hex_digit, hex_field, spaced, wrote_line, put_line}
-use borrow.Author.Tests.{le-leb, lt-leb}
+use Rattle.printed_lines.specs.Printed.{hex_digit, hex_field, spaced}
 
 -- the last element of a run
 sets_last : (vs s : List ℕ) (at j x : ℕ) → j ≡ at + length vs → sets s at (vs ++ (x ∷ [])) ≡ set (sets s at vs) j x
@@ -36,19 +36,6 @@ hex_turn s at (suc w) v h =
     (set_apart (hex_field w (v / 16)) s at (at + w) (hex_digit (v % 16)) (inr (omega (arith, l)))
     ∙ sym (sets_last (hex_field w (v / 16)) s at (at + w) (hex_digit (v % 16)) (omega (arith, l))))
 
--- what calls in a row have stored: `vs` from `at` on, up to `n`
-pub record Run (s : List ℕ) (at : ℕ) (vs s' : List ℕ) (n : ℕ) : Type 0 where
-  pub stored : s' ≡ sets s at vs
-  pub ends : n ≡ at + length vs
-
--- one call more
-pub more : {s : List ℕ} {at : ℕ} {vs s₁ : List ℕ} {n : ℕ} (ws : List ℕ) (m : ℕ) {s₂ : List ℕ}
-    → Run s at vs s₁ n → s₂ ≡ sets s₁ n ws → m ≡ n + length ws → Run s at (vs ++ ws) s₂ m
-more {s} {at} {vs} {s₁} {n} ws m r e h = record {
-  stored = e ∙ ap (λ (l : List ℕ). sets l n ws) r.stored ∙ sets_join vs ws s at n r.ends;
-  ends = omega (arith, length-append vs ws, r.ends);
-}
-
 -- no digit is left
 pub hex_done : (s : List ℕ) (at left v : ℕ) → left ≤ 0 → sets s at (hex_field left v) ≡ s
 unfolding hex_field
@@ -59,14 +46,23 @@ pub spaced-length : (v : ℕ) → length (spaced v) ≡ 9
 unfolding spaced
 spaced-length v = ap suc (hex_length 8 v)
 
--- ---- a whole line
-pub no_room : (s line : List ℕ) (at n : ℕ) → length line ≡ n → length s < at + n → wrote_line at s ≡ put_line s at line
-unfolding put_line
-no_room s line at n e h = rw (e, lt-leb (at + n) (length s) h)
+-- a line of line feeds whose first bytes are `vs`, and n are left
+pub record Filled (vs s : List ℕ) (n : ℕ) : Type 0 where
+  pub stands : s ≡ vs ++ replicate n 10
 
-pub printed : (s : List ℕ) (at : ℕ) (line : List ℕ) {s' : List ℕ} {m : ℕ} → m ≤ length s → Run s at line s' m → wrote_line m s' ≡ put_line s at line
-unfolding put_line
-printed s at line {s'} {m} h r = rw (r.stored, ← r.ends, le-leb m (length s) h)
+pub blank : (n : ℕ) → Filled [] (replicate n 10) n
+blank n = record { stands = refl }
 
-pub kept : {s : List ℕ} {at : ℕ} {vs s' : List ℕ} {n : ℕ} → Run s at vs s' n → length s' ≡ length s
-kept {s} {at} {vs} r = ap length r.stored ∙ length-sets s at vs
+-- `ws` stored after them
+pub next : {vs s s' : List ℕ} {n : ℕ} (ws : List ℕ) (at m : ℕ) → Filled vs s n → at ≡ length vs → n ≡ length ws + m → s' ≡ sets s at ws → Filled (vs ++ ws) s' m
+next {vs} {s} {s'} {n} ws at m f e h g = record {
+  stands = go f.stands;
+} where
+  long : length (vs ++ replicate n 10) ≡ length vs + n
+  long = length-append vs (replicate n 10) ∙ ap (λ (k : ℕ). length vs + k) (length-replicate n 10)
+
+  left : n - length ws ≡ m
+  left = omega arith
+
+  go : s ≡ vs ++ replicate n 10 → s' ≡ vs ++ ws ++ replicate m 10
+  go k = rw (g, k, e, sets-eq ws (vs ++ replicate n 10) (length vs) (omega (arith, long)), take-append_seam, drop-append-add, drop-replicate, left)

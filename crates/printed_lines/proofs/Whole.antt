@@ -1,12 +1,12 @@
--- Each printed line, from what the calls before it stored.
-use Prim.Native.Nat.{ℕ, ◌+◌, ◌/◌, ◌%◌}
+-- How long each printed line is, and that its bytes are what is stored in a line of line feeds, field by field.
+use Prim.Native.Nat.{ℕ, ◌+◌}
 use mathlib.Core.Path.{◌≡◌, refl}
 use mathlib.Core.List.{List, [], ◌∷◌, ◌++◌}
 use native.Mathlib.Omega.{arith}
-use lib.ListN.{length, set, length-append}
+use lib.ListN.{length, length-append, replicate}
 use lib.Seq.{sets}
-use Rattle.printed_lines.specs.Printed.{hex_field, spaced, frame_line_lem, no_frame_line, bad_line, refused_line}
-use Rattle.printed_lines.proofs.Runs.{Run, more, hex_length, spaced-length}
+use Rattle.printed_lines.specs.Printed.{hex_field, spaced, frame_line_lem, no_frame_line, bad_line}
+use Rattle.printed_lines.proofs.Runs.{Filled, blank, next, hex_length, spaced-length}
 
 -- ---- lengths
 pub frame-length : (a n l f i k : ℕ) → length (frame_line_lem a n l f i k) ≡ 62
@@ -21,53 +21,28 @@ pub bad-length : (n : ℕ) → length (bad_line n) ≡ 11
 unfolding bad_line
 bad-length n = simp (length-append, spaced-length)
 
-pub refused-length : (n : ℕ) → length (refused_line n) ≡ 11
-unfolding refused_line
-refused-length n = refl
+-- ---- bytes
+field : {vs s s' : List ℕ} {n : ℕ} (v at m : ℕ) → Filled vs s n → at ≡ length vs → n ≡ 9 + m → s' ≡ sets s at (spaced v) → Filled (vs ++ spaced v) s' m
+field v at m f e h g = next (spaced v) at m f e (omega (arith, spaced-length v)) g
 
--- ---- runs
-first : (s : List ℕ) (at : ℕ) (vs : List ℕ) {s₁ : List ℕ} {n : ℕ} → s₁ ≡ sets s at vs → n ≡ at + length vs → Run s at vs s₁ n
-first s at vs e h = record { stored = e; ends = h }
+pub frame-bytes : (a n l f i k : ℕ) {s₁ s₂ s₃ s₄ s₅ s₆ : List ℕ} → s₁ ≡ sets (replicate 62 10) 0 (hex_field 16 a)
+    → s₂ ≡ sets s₁ 16 (spaced n) → s₃ ≡ sets s₂ 25 (spaced l) → s₄ ≡ sets s₃ 34 (spaced f) → s₅ ≡ sets s₄ 43 (spaced i) → s₆ ≡ sets s₅ 52 (spaced k)
+    → s₆ ≡ frame_line_lem a n l f i k
+unfolding frame_line_lem
+frame-bytes a n l f i k e₁ e₂ e₃ e₄ e₅ e₆ =
+    let r₁ = next (hex_field 16 a) 0 46 (blank 62) refl (omega (arith, hex_length 16 a)) e₁ in
+    let r₂ = field n 16 37 r₁ (simp (length-append, hex_length)) refl e₂ in
+    let r₃ = field l 25 28 r₂ (simp (length-append, hex_length, spaced-length)) refl e₃ in
+    let r₄ = field f 34 19 r₃ (simp (length-append, hex_length, spaced-length)) refl e₄ in
+    let r₅ = field i 43 10 r₄ (simp (length-append, hex_length, spaced-length)) refl e₅ in
+    (field k 52 1 r₅ (simp (length-append, hex_length, spaced-length)) refl e₆).stands
 
-field : {s : List ℕ} {at : ℕ} {vs s₁ : List ℕ} {n : ℕ} (v m : ℕ) {s₂ : List ℕ}
-    → Run s at vs s₁ n → s₂ ≡ sets s₁ n (spaced v) → m ≡ n + 9 → Run s at (vs ++ spaced v) s₂ m
-field v m r e h = more (spaced v) m r e (omega (arith, spaced-length v))
+pub no_frame-bytes : (a : ℕ) {s₁ s₂ : List ℕ} → s₁ ≡ sets (replicate 26 10) 0 (hex_field 16 a) → s₂ ≡ sets s₁ 16 (spaced 4294967295) → s₂ ≡ no_frame_line a
+unfolding no_frame_line
+no_frame-bytes a e₁ e₂ =
+    let r₁ = next (hex_field 16 a) 0 10 (blank 26) refl (omega (arith, hex_length 16 a)) e₁ in
+    (field 4294967295 16 1 r₁ (simp (length-append, hex_length)) refl e₂).stands
 
-module _ (s : List ℕ) (at : ℕ) where
-  pub frame-run : (a n l f i k : ℕ) {s₁ s₂ s₃ s₄ s₅ s₆ : List ℕ}
-      → s₁ ≡ sets s at (hex_field 16 a) → s₂ ≡ sets s₁ (at + 16) (spaced n) → s₃ ≡ sets s₂ (at + 25) (spaced l)
-      → s₄ ≡ sets s₃ (at + 34) (spaced f) → s₅ ≡ sets s₄ (at + 43) (spaced i) → s₆ ≡ sets s₅ (at + 52) (spaced k)
-      → Run s at (frame_line_lem a n l f i k) (set s₆ (at + 61) 10) (at + 62)
-  unfolding frame_line_lem
-  frame-run a n l f i k e₁ e₂ e₃ e₄ e₅ e₆ =
-      let r₁ = first s at (hex_field 16 a) {n = at + 16} e₁ (omega (arith, hex_length 16 a)) in
-      let r₂ = field n (at + 25) r₁ e₂ (omega arith) in
-      let r₃ = field l (at + 34) r₂ e₃ (omega arith) in
-      let r₄ = field f (at + 43) r₃ e₄ (omega arith) in
-      let r₅ = field i (at + 52) r₄ e₅ (omega arith) in
-      let r₆ = field k (at + 61) r₅ e₆ (omega arith) in
-      more (10 ∷ []) (at + 62) r₆ refl (omega arith)
-
-  pub no_frame-run : (a : ℕ) {s₁ s₂ : List ℕ} → s₁ ≡ sets s at (hex_field 16 a) → s₂ ≡ sets s₁ (at + 16) (spaced 4294967295)
-      → Run s at (no_frame_line a) (set s₂ (at + 25) 10) (at + 26)
-  unfolding no_frame_line
-  no_frame-run a e₁ e₂ =
-      let r₁ = first s at (hex_field 16 a) {n = at + 16} e₁ (omega (arith, hex_length 16 a)) in
-      let r₂ = field 4294967295 (at + 25) r₁ e₂ (omega arith) in
-      more (10 ∷ []) (at + 26) r₂ refl (omega arith)
-
-  pub bad-run : (n : ℕ) {s₁ : List ℕ} → s₁ ≡ sets (set s at 63) (at + 1) (spaced n) → Run s at (bad_line n) (set s₁ (at + 10) 10) (at + 11)
-  unfolding bad_line
-  bad-run n e₁ =
-      let r₁ = first s at (63 ∷ []) {s₁ = set s at 63} {n = at + 1} refl refl in
-      let r₂ = field n (at + 10) r₁ e₁ (omega arith) in
-      more (10 ∷ []) (at + 11) r₂ refl (omega arith)
-
-  pub refused-run : (n : ℕ) {s₁ : List ℕ} → s₁ ≡ sets s at (82 ∷ 69 ∷ 70 ∷ 85 ∷ 83 ∷ 69 ∷ 68 ∷ 32 ∷ [])
-      → Run s at (refused_line n) (set (set (set s₁ (at + 8) (48 + n / 10 % 10)) (at + 9) (48 + n % 10)) (at + 10) 10) (at + 11)
-  unfolding refused_line
-  refused-run n e₁ =
-      let r₁ = first s at (82 ∷ 69 ∷ 70 ∷ 85 ∷ 83 ∷ 69 ∷ 68 ∷ 32 ∷ []) {n = at + 8} e₁ refl in
-      let r₂ = more ((48 + n / 10 % 10) ∷ []) (at + 9) r₁ refl (omega arith) in
-      let r₃ = more ((48 + n % 10) ∷ []) (at + 10) r₂ refl (omega arith) in
-      more (10 ∷ []) (at + 11) r₃ refl (omega arith)
+pub bad-bytes : (n : ℕ) {s₁ s₂ : List ℕ} → s₁ ≡ sets (replicate 11 10) 0 (63 ∷ []) → s₂ ≡ sets s₁ 1 (spaced n) → s₂ ≡ bad_line n
+unfolding bad_line
+bad-bytes n e₁ e₂ = (field n 1 1 (next (63 ∷ []) 0 10 (blank 11) refl refl e₁) refl refl e₂).stands

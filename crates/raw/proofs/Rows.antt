@@ -6,7 +6,7 @@ use native.Mathlib.Omega.{arith}
 use native.Mathlib.Numerals.{add-one}
 use lib.ListN.{length, get_or, take, replicate, length-append, length-replicate}
 use lib.Seq.{sets, take_all, length-take-le, length-sets}
-use Rattle.slices.specs.Bytes.{le, le_at, bytes_at, word_bytes, Words32, Stands}
+use Rattle.slices.specs.Bytes.{le, word_bytes, Words32, Stands}
 use Rattle.raw.specs.Rows.{version_info_words, version_info_bytes, version_info_at, header_words, header_bytes, header_at, HeaderFits, file_words_lem, file_bytes_lem, file_at_lem, function_words_lem, function_bytes, function_at_lem, location_words_lem, location_bytes, location_at, range_bytes, range_at_lem}
 use Rattle.raw.specs.declared.VersionInfo.{VersionInfo}
 use Rattle.raw.specs.declared.Header.{Header}
@@ -14,7 +14,7 @@ use Rattle.raw.specs.declared.File.{File}
 use Rattle.raw.specs.declared.Function.{Function}
 use Rattle.raw.specs.declared.SourceLocation.{SourceLocation}
 use Rattle.raw.specs.declared.Range.{Range}
-use Rattle.slices.proofs.Bytes.{length-le, length-words, stands-left, stands-right, le-back, bytes_back, word_back, le_at-cut, bytes_at_cut, sets_join, take-sets}
+use Rattle.slices.proofs.Bytes.{length-le, length-words, stands-left, stands-right, le-back, bytes_back, word_back, sets_join, take-sets}
 
 -- Numbers stored one after the other
 
@@ -41,23 +41,11 @@ word-stored s vs at i h e₁ e₂ =
     rw (add-one i, words_more vs i h, e₂, e₁)
     (sets_join (word_bytes (take i vs)) (le 4 (get_or vs i 0)) s at (at + 4 * i) (rw (length-words, length-take-le i vs l)))
 
--- A number of a row cut out
-
-cut_word : (s : List ℕ) (at k : ℕ) → k + 4 ≤ 72 → le_at 4 (bytes_at 72 s at) k ≡ le_at 4 s (at + k)
-cut_word s at k h = le_at-cut 4 72 s at k (at + k) h refl
-
-first_word : (s : List ℕ) (at : ℕ) → le_at 4 (bytes_at 72 s at) 0 ≡ le_at 4 s at
-first_word s at = le_at-cut 4 72 s at 0 at (omega arith) (omega arith)
-
 -- Magic and version
 
 pub length-version_info : (v : VersionInfo) → length (version_info_bytes v) ≡ 8
 unfolding version_info_bytes
 length-version_info v = length-words (version_info_words v)
-
-pub version_info-cut : (s : List ℕ) (at : ℕ) → version_info_at (bytes_at 72 s at) 0 ≡ version_info_at s at
-unfolding version_info_at
-version_info-cut s at = rw (first_word s at, cut_word s at 4 (omega arith))
 
 pub version_info-back : (v : VersionInfo) (s : List ℕ) (at : ℕ) → Words32 (version_info_words v) → Stands (version_info_bytes v) s at → version_info_at s at ≡ v
 unfolding version_info_bytes version_info_at
@@ -70,11 +58,6 @@ version_info-back v s at f h =
 pub length-file : (f : File) → length (file_bytes_lem f) ≡ 24
 unfolding file_bytes_lem
 length-file f = length-words (file_words_lem f)
-
-pub file-cut : (s : List ℕ) (at : ℕ) → file_at_lem (bytes_at 72 s at) 0 ≡ file_at_lem s at
-unfolding file_at_lem
-file-cut s at =
-    rw (first_word s at, cut_word s at 4 (omega arith), cut_word s at 8 (omega arith), cut_word s at 12 (omega arith), cut_word s at 16 (omega arith), cut_word s at 20 (omega arith))
 
 pub file-back : (r : File) (s : List ℕ) (at : ℕ) → Words32 (file_words_lem r) → Stands (file_bytes_lem r) s at → file_at_lem s at ≡ r
 unfolding file_bytes_lem file_at_lem
@@ -95,11 +78,6 @@ pub length-function : (f : Function) → length (function_bytes f) ≡ 16
 unfolding function_bytes
 length-function f = length-words (function_words_lem f)
 
-pub function-cut : (s : List ℕ) (at : ℕ) → function_at_lem (bytes_at 72 s at) 0 ≡ function_at_lem s at
-unfolding function_at_lem
-function-cut s at =
-    rw (first_word s at, cut_word s at 4 (omega arith), cut_word s at 8 (omega arith), cut_word s at 12 (omega arith))
-
 pub function-back : (r : Function) (s : List ℕ) (at : ℕ) → Words32 (function_words_lem r) → Stands (function_bytes r) s at → function_at_lem s at ≡ r
 unfolding function_bytes function_at_lem
 function-back r s at f h =
@@ -117,11 +95,6 @@ pub length-location : (l : SourceLocation) → length (location_bytes l) ≡ 16
 unfolding location_bytes
 length-location l = length-words (location_words_lem l)
 
-pub location-cut : (s : List ℕ) (at : ℕ) → location_at (bytes_at 72 s at) 0 ≡ location_at s at
-unfolding location_at
-location-cut s at =
-    rw (first_word s at, cut_word s at 4 (omega arith), cut_word s at 8 (omega arith), cut_word s at 12 (omega arith))
-
 pub location-back : (r : SourceLocation) (s : List ℕ) (at : ℕ) → Words32 (location_words_lem r) → Stands (location_bytes r) s at → location_at s at ≡ r
 unfolding location_bytes location_at
 location-back r s at f h =
@@ -138,10 +111,6 @@ location-back r s at f h =
 pub length_range : (r : Range) → length (range_bytes r) ≡ 4
 unfolding range_bytes
 length_range r = length-words (r.0 ∷ [])
-
-pub range_cut : (s : List ℕ) (at : ℕ) → range_at_lem (bytes_at 72 s at) 0 ≡ range_at_lem s at
-unfolding range_at_lem
-range_cut s at = rw (first_word s at)
 
 pub range_back : (r : Range) (s : List ℕ) (at : ℕ) → Words32 (r.0 ∷ []) → Stands (range_bytes r) s at → range_at_lem s at ≡ r
 unfolding range_bytes range_at_lem
@@ -179,21 +148,6 @@ header_made h {r₄ = r₄} s at d z e₁ e₂ e₃ e₄ e =
     take_all 72 (sets zeros 0 (header_bytes h)) (omega (arith, length-sets zeros 0 (header_bytes h)))
     in
     e ∙ ap (λ (t : List ℕ). sets s at t) (made ∙ (sym all ∙ take-sets (header_bytes h) zeros 72 (length-header h d z) (omega arith)))
-
-pub header-cut : (s : List ℕ) (at : ℕ) → header_at (bytes_at 72 s at) 0 ≡ header_at s at
-unfolding header_at
-header-cut s at =
-    rw (
-      bytes_at_cut 32 72 s at 0 at (omega arith) (omega arith),
-      cut_word s at 32 (omega arith),
-      cut_word s at 36 (omega arith),
-      cut_word s at 40 (omega arith),
-      cut_word s at 44 (omega arith),
-      cut_word s at 48 (omega arith),
-      cut_word s at 52 (omega arith),
-      le_at-cut 2 72 s at 56 (at + 56) (omega arith) refl,
-      bytes_at_cut 14 72 s at 58 (at + 58) (omega arith) refl,
-    )
 
 pub header-back : (r : Header) (s : List ℕ) (at : ℕ) → HeaderFits r → Stands (header_bytes r) s at → header_at s at ≡ r
 unfolding header_bytes header_at

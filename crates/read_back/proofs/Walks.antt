@@ -15,7 +15,7 @@ use Rattle.raw.specs.declared.SourceLocation.{SourceLocation}
 use Rattle.raw.specs.Rows.{max32, is_no_source_location}
 use Rattle.text.specs.Texts.{read_text, bytes_of, text_part}
 use Rattle.text.specs.declared.strings.Text as text-type
-use Rattle.text.specs.declared.strings.Text.TheVariants as text
+use Rattle.std.specs.Prelude as std
 use Rattle.text.proofs.Leb128Laws.{decoded-past}
 use Rattle.text.proofs.TextLaws.{absent_prefix, text-within}
 use Rattle.symcache.specs.declared.SymCache.{SymCache}
@@ -240,26 +240,26 @@ module _ (id : List ℕ) (a : ℕ) (z : Sections) (ok : Readable id a z) (rest d
   unfolding got_string and_then placed
   text-is w = rw (is, and_then, section-there id a z ok rest) (go (read_text z.strings w) refl)
     where
-      go : (t : text-type.Text) → read_text z.strings w ≡ t → part_of F (gives (placed c.strings t)) ≡ file-rows.shown z.strings t
-      go text.Absent e = refl
-      go (text.At start len) e = ap some (part-there id a z ok rest start len (text-within z.strings w start len e))
+      go : (t : std.Option text-type.Text) → read_text z.strings w ≡ t → part_of F (gives (placed c.strings t)) ≡ file-rows.shown z.strings t
+      go std.None e = refl
+      go (std.Some t) e = ap some (part-there id a z ok rest t.start t.len (text-within z.strings w t.start t.len e))
 
   -- `get_string`: the same, and nothing where it is absent
   pub bytes-is : (w : ℕ) → string_of F w ≡ name_or [] (text_at z.strings w)
   unfolding string_of and_then or_else text_part bytes_of
   bytes-is w = rw (is, and_then, section-there id a z ok rest) (go (read_text z.strings w))
     where
-      go : (t : text-type.Text) → bytes_of z.strings t ≡ name_or [] (file-rows.shown z.strings t)
-      go text.Absent = refl
-      go (text.At start len) = refl
+      go : (t : std.Option text-type.Text) → bytes_of z.strings t ≡ name_or [] (file-rows.shown z.strings t)
+      go std.None = refl
+      go (std.Some t) = refl
 
   absent-at : text_at z.strings MAX ≡ none
-  absent-at = ap (λ (t : text-type.Text). file-rows.shown z.strings t) (sym (absent_prefix z.strings MAX (decoded-past z.strings MAX few_bytes)))
+  absent-at = ap (λ (t : std.Option text-type.Text). file-rows.shown z.strings t) (sym (absent_prefix z.strings MAX (decoded-past z.strings MAX few_bytes)))
 
-  text-or : (t : text-type.Text) → text_or d z.strings t ≡ name_or d (file-rows.shown z.strings t)
+  text-or : (t : std.Option text-type.Text) → text_or d z.strings t ≡ name_or d (file-rows.shown z.strings t)
   unfolding text_or
-  text-or text.Absent = refl
-  text-or (text.At start len) = refl
+  text-or std.None = refl
+  text-or (std.Some t) = refl
 
   -- ── Frames ──
 

@@ -1,7 +1,7 @@
 // What the programs share that replay stored cases: reading a data file, numbers in its bytes, and the checksum of a case (oracle/FORMAT.md).
 #![tactic(auto)]
 
-ghost use Rattle.std.specs.Prelude.{◌≡◌, ◌+◌, ◌*◌, ◌%◌, ◌≤◌, length};
+ghost use Rattle.std.specs.Prelude.{◌≡◌, ◌+◌, ◌*◌, ◌%◌, ◌≤◌, length, IfSome};
 ghost use Rattle.replay.specs.Counts.{IsPrefixLen};
 ghost use Rattle.slices.specs.Bytes.{le_at};
 ghost use Rattle.replay.specs.Sums.{sum_with, sum_with_all, sum_digit, sum_line};
@@ -27,17 +27,14 @@ fn read_at<F: Read>(from: &mut F, to: &mut [u8], at: usize) -> usize
     requires { at ≤ length to.old }
     ensures { at + result ≤ length to.new }
 {
-    match from.read(&mut to[at..]) {
-        Ok(n) => n,
-        Err(_) => 0,
-    }
+    from.read(&mut to[at..]).unwrap_or(0)
 }
 
 // Reads until `to` is full, the input ends or a read fails, and answers how many bytes stand at the front of `to`.
 pub fn read_full<F: Read>(from: &mut F, to: &mut [u8]) -> usize
     ensures { IsPrefixLen result to.new }
 {
-    let mut done: usize = 0;
+    let mut done = 0;
     while done < to.len() {
         let n = read_at(from, to, done);
         if n == 0 {
@@ -48,13 +45,6 @@ pub fn read_full<F: Read>(from: &mut F, to: &mut [u8]) -> usize
     done
 }
 
-// Whether there was a record, and how many bytes of it were read.
-#[derive(Clone, Copy)]
-pub struct Got {
-    pub some: bool,
-    pub len: usize,
-}
-
 fn read_body<F: Read>(from: &mut F, to: &mut [u8], n: u32) -> usize
     ensures { IsPrefixLen result to.new }
 {
@@ -62,22 +52,16 @@ fn read_body<F: Read>(from: &mut F, to: &mut [u8], n: u32) -> usize
     read_full(from, &mut to[..n])
 }
 
-// The next record of a container: its length, then as many bytes.
-pub fn read_record<F: Read>(from: &mut F, to: &mut [u8]) -> Got
-    ensures { IsPrefixLen result.len to.new }
+// The next record of a container: its length, then as many bytes. How many of them were read, if there was a record.
+pub fn read_record<F: Read>(from: &mut F, to: &mut [u8]) -> Option<usize>
+    ensures { IfSome result (λ n. IsPrefixLen n to.new) }
 {
     let mut length = [0u8; 4];
     if read_full(from, &mut length) < 4 {
-        return Got {
-            some: false,
-            len: 0,
-        };
+        return None;
     }
     let n = word(&length, 0);
-    Got {
-        some: true,
-        len: read_body(from, to, n),
-    }
+    Some(read_body(from, to, n))
 }
 
 // Numbers
@@ -93,7 +77,7 @@ pub fn word(s: &[u8], at: usize) -> u32
 pub fn place(at: usize, offset: usize) -> usize
     ensures { result ≡ (at + offset) % 18446744073709551616 }
 {
-    std::num::wrapping_add_u64(at as u64, offset as u64) as usize
+    at.wrapping_add(offset)
 }
 
 // The 64-bit number at `at`.
@@ -102,7 +86,7 @@ pub fn number(s: &[u8], at: usize) -> u64
 {
     let low = word(s, at);
     let high = word(s, place(at, 4));
-    (low as u64) + 4294967296 * (high as u64)
+    u64::from(low) + 4294967296 * u64::from(high)
 }
 
 pub fn low(n: usize) -> u32
@@ -120,13 +104,7 @@ pub const START: u32 = 2166136261;
 pub fn add(sum: u32, w: u32) -> u32
     ensures { result ≡ sum_with sum w }
 {
-    (((sum as u64) * 16777619 + (w as u64) + 1) % 4294967296) as u32
-}
-
-fn wide(b: u8) -> u32
-    ensures { result ≡ b }
-{
-    b as u32
+    ((u64::from(sum) * 16777619 + u64::from(w) + 1) % 4294967296) as u32
 }
 
 // With a word for each byte.
@@ -134,10 +112,8 @@ pub fn add_bytes(sum: u32, s: &[u8]) -> u32
     ensures { result ≡ sum_with_all sum s.now }
 {
     let mut now = sum;
-    let mut i: usize = 0;
-    while i < s.len() {
-        now = add(now, wide(s[i]));
-        i += 1;
+    for &b in s {
+        now = add(now, u32::from(b));
     }
     now
 }
@@ -145,14 +121,11 @@ pub fn add_bytes(sum: u32, s: &[u8]) -> u32
 fn hex_digit(d: u32) -> u8
     ensures { result ≡ sum_digit (d % 16) }
 {
-    let d = d % 16;
-    if d < 10 {
-        return (48 + d) as u8;
-    }
-    (55 + d) as u8
+    let d = (d % 16) as u8;
+    if d < 10 { b'0' + d } else { b'A' + (d - 10) }
 }
 
-// The printed line of a checksum.
+// The printed line of a checksum. (Digit by digit, as its definition says it: a loop is no plainer.)
 pub fn sum_line(sum: u32) -> [u8; 9]
     ensures { result ≡ sum_line sum }
 {

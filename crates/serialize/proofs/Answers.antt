@@ -12,7 +12,7 @@ use borrow.Author.Tests.{not-true, not-false, leb-true, le-leb, lt-leb}
 use Rattle.slices.proofs.Cases.{both_true}
 use Rattle.tables.specs.Table.{capacity_of}
 use Rattle.strings.specs.Strings.{text_capacity_of}
-use Rattle.tables.proofs.Room.{cap-most}
+use Rattle.tables.proofs.Room.{cap_most}
 use Rattle.strings.proofs.TextRoom.{text-room}
 use Rattle.memory.specs.Memory.{Memory, lent}
 use Rattle.memory.specs.Record.{fits_in_lem, usable_in, usable?}
@@ -50,8 +50,8 @@ counts c m g b e h =
     let p₅ : (k ≡ true) × (r ≡ true) = both_true k r p₄.1 in
     record {
       texts = le_trans (leb-true st.string_bytes (text_capacity_of (length m.text)) p₁.0) (text-room (length m.text)).fits;
-      calls = le_trans (leb-true st.call_locations (capacity_of (length m.calls)) p₅.0) (cap-most (length m.calls));
-      ranges = le_trans (leb-true st.ranges (capacity_of (length m.ranges)) p₅.1) (cap-most (length m.ranges));
+      calls = le_trans (leb-true st.call_locations (capacity_of (length m.calls)) p₅.0) (cap_most (length m.calls));
+      ranges = le_trans (leb-true st.ranges (capacity_of (length m.ranges)) p₅.1) (cap_most (length m.ranges));
     }
 
 -- the definition, over the test and the file

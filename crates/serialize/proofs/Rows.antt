@@ -10,6 +10,10 @@ use lib.Seq.{sets}
 use Rattle.model.specs.Basics.{Span}
 use Rattle.slices.specs.Bytes.{le, le_at, table_bytes}
 use Rattle.raw.specs.Head.{padding}
+use Rattle.raw.specs.Rows.{file_bytes_lem, function_bytes, location_bytes}
+use Rattle.raw.specs.declared.File.{File}
+use Rattle.raw.specs.declared.Function.{Function}
+use Rattle.raw.specs.declared.SourceLocation.{SourceLocation}
 use Rattle.slices.proofs.Bytes.{sets_join, length-table, length-words}
 use Rattle.raw.proofs.Rows.{length-file, length-function, length-location, length_range, all, next, stored}
 use Rattle.tables.specs.Table.{row_at, rows_of}
@@ -31,6 +35,19 @@ length-function_row r = length-function (function_of_row r)
 pub length-call_row : (r : Row) → length (call_row r) ≡ 16
 unfolding call_row
 length-call_row r = length-location (call_of_row r)
+
+-- a row made of a table's row is stored as that row's bytes
+pub file-stored : (r : Row) (x : File) → x ≡ file_of_row r → file_bytes_lem x ≡ file_row r
+unfolding file_row
+file-stored r x e = ap file_bytes_lem e
+
+pub function-stored : (r : Row) (x : Function) → x ≡ function_of_row r → function_bytes x ≡ function_row r
+unfolding function_row
+function-stored r x e = ap function_bytes e
+
+pub call-stored : (r : Row) (x : SourceLocation) → x ≡ call_of_row r → location_bytes x ≡ call_row r
+unfolding call_row
+call-stored r x e = ap location_bytes e
 
 pub length-entry-row : (p : Span) → length (entry_row p) ≡ 8
 unfolding entry_row

@@ -5,118 +5,70 @@ ghost use Rattle.std.specs.Prelude.{◌≡◌, ℕ, ◌+◌, ◌*◌, ◌≤◌,
 ghost use Rattle.std.proofs.lemmas.List.Edits.{sets};
 ghost use Rattle.slices.specs.Bytes.{table_bytes};
 ghost use Rattle.tables.specs.Table.{rows_of};
-ghost use Rattle.serialize.specs.Sections.{file_size, function_size, location_size, range_size, entry_size};
-ghost use Rattle.serialize.specs.Sections.{file_row, function_row, call_row, entries, entry_row, entries_at};
+ghost use Rattle.tables.specs.declared.Row.{Row};
+ghost use Rattle.serialize.specs.Sections.{location_size, range_size, entry_size, entries, entry_row, entries_at};
 ghost use Rattle.serialize.specs.Sections.{in_order, range_sections};
 ghost use Rattle.raw.specs.Rows.{version_info_bytes, header_bytes};
 ghost use Rattle.raw.specs.Head.{version_info, padding};
-ghost use Rattle.memory.specs.Memory.{memory};
-ghost use Rattle.serialize.specs.File.{header_of, layout_of, written_file, Ready, wrote, serialize_of};
+ghost use Rattle.errors.specs.Numbers.{code_of};
+ghost use Rattle.memory.specs.Memory.{memory_in};
+ghost use Rattle.serialize.specs.File.{header_of, layout_of, written_file, Ready, wrote, len_of, serialize_of};
 
-use memory::{Converter, State, is_usable, lent};
-use raw::{Header, Range, VersionInfo};
+use errors::Refusal;
+use memory::{Converter, Lent, State, is_usable};
+use raw::{File, Function, Header, Range, SourceLocation, Stored, VersionInfo};
 use slices::{copy, load_u32, store_u32};
-use tables::kinds::{call_of_row, file_of_row, function_of_row, location_of_row, start_of_row};
+use tables::Row;
+use tables::kinds::RangeRow;
 
-// Document 01's number for an output that is shorter than the file.
-const SYMCACHE_OUTPUT_TOO_SHORT: u32 = 18;
-
-// Magic, version and header; then the rows, of these sizes in bytes.
-const HEAD_SIZE: usize = 80;
-
-const FILE_SIZE: usize = 24;
-
-const FUNCTION_SIZE: usize = 16;
-
-const LOCATION_SIZE: usize = 16;
-
-const RANGE_SIZE: usize = 4;
+// Magic, version and header; then the rows.
+const HEAD_SIZE: usize = VersionInfo::SIZE + Header::SIZE;
 
 // An entry, while the ranges are sorted: a start and a row number.
 const ENTRY_SIZE: usize = 8;
 
-// What writing answers: document 01's number, 0 for success, and the file's length.
-#[derive(Clone, Copy)]
-pub struct Written {
-    pub code: u32,
-    pub len: usize,
-}
-
-// The file of what was converted: its length, and its bytes at the front of the output. The converter is as it was, and may write again.
-pub fn serialize(
-    converter: Converter,
-    string_bytes: &[u8],
-    strings: &[u32],
-    files: &[u32],
-    functions: &[u32],
-    call_locations: &[u32],
-    ranges: &[u32],
-    out: &mut [u8],
-) -> Written
-    ensures { let lent = memory string_bytes.now strings.now files.now
-        functions.now call_locations.now ranges.now in
-        wrote result.code result.len out.new ≡ serialize_of converter lent out.old }
+// The file of what was converted: it answers its length, and its bytes stand at the front of the output. The converter is as it was, and may write again.
+pub fn serialize(converter: Converter, lent: Lent, out: &mut [u8]) -> Result<usize, Refusal>
+    ensures { wrote (code_of result) (len_of result) out.new ≡ serialize_of converter (memory_in lent.entry) out.old }
 {
-    let state = converter.state;
-    let tables = lent(
-        string_bytes,
-        strings,
-        files,
-        functions,
-        call_locations,
-        ranges,
-    );
-    if !is_usable(converter, tables) {
-        return Written {
-            code: memory::SYMCACHE_CLOSED,
-            len: 0,
-        };
+    if !is_usable(converter, lent.lengths()) {
+        return Err(Refusal::Closed);
     }
-    let at = lay_out(state);
+    let at = lay_out(converter.state);
     let len = at.len;
     if out.len() < len {
-        return Written {
-            code: SYMCACHE_OUTPUT_TOO_SHORT,
-            len: 0,
-        };
+        return Err(Refusal::OutputTooShort);
     }
-    write_sections(
-        out,
-        converter,
-        string_bytes,
-        files,
-        functions,
-        call_locations,
-        ranges,
-    );
-    Written { code: 0, len }
+    write_sections(out, converter, lent);
+    Ok(len)
 }
 
 // The file, from the front of the output on.
-fn write_sections(
-    out: &mut [u8],
-    converter: Converter,
-    string_bytes: &[u8],
-    files: &[u32],
-    functions: &[u32],
-    call_locations: &[u32],
-    ranges: &[u32],
-)
-    requires { Ready converter (length string_bytes.now) (length out.old) }
-    ensures { (index : List ℕ) →
-        let lent = memory string_bytes.now index files.now
-        functions.now call_locations.now ranges.now in
-        out.new ≡ sets out.old 0 (written_file converter lent) }
+fn write_sections(out: &mut [u8], converter: Converter, lent: Lent)
+    requires { Ready converter (length lent.string_bytes.now) (length out.old) }
+    ensures { out.new ≡ sets out.old 0 (written_file converter (memory_in lent.entry)) }
 {
     let state = converter.state;
     let at = lay_out(state);
     write_head(out, converter);
-    write_files(out, HEAD_SIZE, files, state.files);
-    write_functions(out, at.functions, functions, state.functions);
-    write_call_locations(out, at.call_locations, call_locations, state.call_locations);
-    write_sorted(out, at.locations, ranges, state.ranges);
+    write_rows(out, HEAD_SIZE, lent.files, state.files, File::from);
+    write_rows(
+        out,
+        at.functions,
+        lent.functions,
+        state.functions,
+        Function::from,
+    );
+    write_rows(
+        out,
+        at.call_locations,
+        lent.call_locations,
+        state.call_locations,
+        SourceLocation::from,
+    );
+    write_sorted(out, at.locations, lent.ranges, state.ranges);
     write_padding(out, at.padding, state.ranges);
-    write_texts(out, at.texts, string_bytes, state.string_bytes);
+    write_texts(out, at.texts, lent.string_bytes, state.string_bytes);
 }
 
 // Where the sections begin, and the file's length. The files follow the head.
@@ -135,10 +87,10 @@ fn lay_out(state: State) -> Layout
     ensures { result ≡ layout_of state state.ranges }
 {
     let n = state.ranges as usize;
-    let functions = HEAD_SIZE + (state.files as usize) * FILE_SIZE;
-    let call_locations = functions + (state.functions as usize) * FUNCTION_SIZE;
-    let locations = call_locations + (state.call_locations as usize) * LOCATION_SIZE;
-    let padding = locations + n * LOCATION_SIZE + n * RANGE_SIZE;
+    let functions = HEAD_SIZE + (state.files as usize) * File::SIZE;
+    let call_locations = functions + (state.functions as usize) * Function::SIZE;
+    let locations = call_locations + (state.call_locations as usize) * SourceLocation::SIZE;
+    let padding = locations + n * SourceLocation::SIZE + n * Range::SIZE;
     let texts = padding + n % 2 * 4;
     let len = texts + (state.string_bytes as usize);
     Layout {
@@ -161,67 +113,42 @@ fn write_head(out: &mut [u8], converter: Converter)
     let num_source_locations = state.call_locations + state.ranges;
     let debug_id = converter.debug_id;
     let reserved = [0u8; 14];
-    raw::write_version_info(
-        out,
-        0,
-        VersionInfo {
-            magic: raw::SYMCACHE_MAGIC,
-            version: 9,
-        },
-    );
-    raw::write_header(
-        out,
-        8,
-        Header {
-            debug_id,
-            arch: converter.arch,
-            num_files: state.files,
-            num_functions: state.functions,
-            num_source_locations,
-            num_ranges: state.ranges,
-            string_bytes: state.string_bytes,
-            variable_header: 0,
-            reserved,
-        },
-    );
+    let version_info = VersionInfo {
+        magic: raw::SYMCACHE_MAGIC,
+        version: 9,
+    };
+    let header = Header {
+        debug_id,
+        arch: converter.arch,
+        num_files: state.files,
+        num_functions: state.functions,
+        num_source_locations,
+        num_ranges: state.ranges,
+        string_bytes: state.string_bytes,
+        variable_header: 0,
+        reserved,
+    };
+    version_info.write(out, 0);
+    header.write(out, VersionInfo::SIZE);
 }
 
-// `count` file rows from `at` on.
-fn write_files(out: &mut [u8], at: usize, files: &[u32], count: u32)
-    requires { at + count * file_size ≤ length out.old }
-    ensures { out.new ≡ sets out.old at (table_bytes file_row (rows_of files.now count)) }
+// The first `count` rows of a table from `at` on, each as `of` makes it.
+fn write_rows<T: Stored, F: Fn(Row) -> T>(
+    out: &mut [u8],
+    at: usize,
+    table: &[u32],
+    count: u32,
+    of: F,
+)
+    requires callable { F.IsAlwaysCallable of }
+    requires room { at + count * T.SIZE ≤ length out.old }
+    ensures { (bytes : Row → List ℕ) → ((r : Row) (x : T) → F.post of r x → T.bytes x ≡ bytes r)
+        → ((r : Row) → length (bytes r) ≡ T.SIZE)
+        → out.new ≡ sets out.old at (table_bytes bytes (rows_of table.now count)) }
 {
-    let mut i: u32 = 0;
-    while i < count {
-        let file = file_of_row(tables::row_at(files, i));
-        raw::write_file(out, at + (i as usize) * FILE_SIZE, file);
-        i += 1;
-    }
-}
-
-// `count` function rows from `at` on.
-fn write_functions(out: &mut [u8], at: usize, functions: &[u32], count: u32)
-    requires { at + count * function_size ≤ length out.old }
-    ensures { out.new ≡ sets out.old at (table_bytes function_row (rows_of functions.now count)) }
-{
-    let mut i: u32 = 0;
-    while i < count {
-        let function = function_of_row(tables::row_at(functions, i));
-        raw::write_function(out, at + (i as usize) * FUNCTION_SIZE, function);
-        i += 1;
-    }
-}
-
-// `count` call locations from `at` on.
-fn write_call_locations(out: &mut [u8], at: usize, call_locations: &[u32], count: u32)
-    requires { at + count * location_size ≤ length out.old }
-    ensures { out.new ≡ sets out.old at (table_bytes call_row (rows_of call_locations.now count)) }
-{
-    let mut i: u32 = 0;
-    while i < count {
-        let location = call_of_row(tables::row_at(call_locations, i));
-        raw::write_location(out, at + (i as usize) * LOCATION_SIZE, location);
-        i += 1;
+    for i in 0..count {
+        let row = of(tables::row_at(table, i));
+        row.write(out, at + (i as usize) * T::SIZE);
     }
 }
 
@@ -232,7 +159,7 @@ fn write_sorted(out: &mut [u8], at: usize, ranges: &[u32], count: u32)
         out.new ≡ sets out.old at (range_sections ranges.now ascending) }
 {
     let entries = at + (count as usize) * ENTRY_SIZE;
-    let starts = at + (count as usize) * LOCATION_SIZE;
+    let starts = at + (count as usize) * SourceLocation::SIZE;
     write_entries(out, entries, ranges, count);
     sorting::sort_entries(&mut out[entries..starts]);
     write_ranges(out, at, ranges, count);
@@ -244,7 +171,7 @@ fn write_entry(out: &mut [u8], at: usize, start: u32, row: u32)
     ensures { out.new ≡ sets out.old at (entry_row (record { from = start; to = row })) }
 {
     store_u32(out, at, start);
-    store_u32(out, at + RANGE_SIZE, row);
+    store_u32(out, at + Range::SIZE, row);
 }
 
 // The entries of the ranges from `at` on.
@@ -252,11 +179,9 @@ fn write_entries(out: &mut [u8], at: usize, ranges: &[u32], count: u32)
     requires { at + count * entry_size ≤ length out.old }
     ensures { out.new ≡ sets out.old at (table_bytes entry_row (entries 0 (rows_of ranges.now count))) }
 {
-    let mut i: u32 = 0;
-    while i < count {
-        let start = start_of_row(tables::row_at(ranges, i));
+    for i in 0..count {
+        let start = RangeRow::from(tables::row_at(ranges, i)).start;
         write_entry(out, at + (i as usize) * ENTRY_SIZE, start, i);
-        i += 1;
     }
 }
 
@@ -268,16 +193,13 @@ fn write_ranges(out: &mut [u8], at: usize, ranges: &[u32], count: u32)
         out.new ≡ sets out.old at (range_sections ranges.now read) }
 {
     let entries = at + (count as usize) * ENTRY_SIZE;
-    let starts = at + (count as usize) * LOCATION_SIZE;
-    let mut i: u32 = 0;
-    while i < count {
-        let k = i as usize;
+    let starts = at + (count as usize) * SourceLocation::SIZE;
+    for k in 0..count as usize {
         let start = load_u32(out, entries + k * ENTRY_SIZE);
-        let row = load_u32(out, entries + k * ENTRY_SIZE + RANGE_SIZE);
-        let l = location_of_row(tables::row_at(ranges, row));
-        raw::write_range(out, starts + k * RANGE_SIZE, Range(start));
-        raw::write_location(out, at + k * LOCATION_SIZE, l);
-        i += 1;
+        let row = load_u32(out, entries + k * ENTRY_SIZE + Range::SIZE);
+        let l = RangeRow::from(tables::row_at(ranges, row)).location;
+        Range(start).write(out, starts + k * Range::SIZE);
+        l.write(out, at + k * SourceLocation::SIZE);
     }
 }
 

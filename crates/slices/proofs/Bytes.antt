@@ -7,9 +7,10 @@ use native.Mathlib.Nat.{add-zero, mul-zero, mul-suc, pow-suc}
 use native.Mathlib.Omega.{arith}
 use native.Mathlib.Numerals.{add-one, towards_suc}
 use lib.Dec.{leb}
+use Rattle.std.specs.Int.{w32, from_le_bytes, to_le_bytes}
 use borrow.Author.Tests.{leb-true, leb-false, le-leb, lt-leb}
 use lib.ListN.{length, get_or, set, take, drop, length-append, take-append-drop}
-use lib.Seq.{sets, sets-eq, get_or-append_seam, length-take-le, take_at, drop-cons, take-suc, take-suc-set, take-length, set_out, length-sets}
+use lib.Seq.{sets, sets-eq, get_or-append_seam, length-take-le, take_at, take-suc-set, take-length, set_out, length-sets}
 use Rattle.slices.specs.Bytes.{le, le_at, bytes_at, word_bytes, Words32, Stands, table_bytes}
 
 -- lengths
@@ -129,11 +130,6 @@ pub le_at-four : (s : List ℕ) (at : ℕ) → le_at 4 s at ≡ get_or s at 0 + 
 unfolding le_at
 le_at-four s at = simp towards_suc (omega arith)
 
--- the same of four bytes read one by one
-pub four_loads : (s : List ℕ) (at : ℕ) {a b c d : ℕ} → a ≡ get_or s (at + 0) 0 → b ≡ get_or s (at + 1) 0 → c ≡ get_or s (at + 2) 0 → d ≡ get_or s (at + 3) 0
-    → a + 256 * (b + 256 * (c + 256 * d)) ≡ le_at 4 s at
-four_loads s at ea eb ec ed = rw (ea, eb, ec, ed, add-zero) (sym (le_at-four s at))
-
 -- Tests
 
 pub leb-shift : (a n l : ℕ) → n ≤ l → leb a (l - n) ≡ leb (a + n) l
@@ -143,12 +139,6 @@ leb-shift a n l h = go (leb a (l - n)) refl where
   go false e = sym (lt-leb (a + n) l (omega (arith, leb-false a (l - n) e)))
 
 -- Runs of stores
-
--- one turn: the element at i is stored, and the rest is to come
-pub sets-turn : (s b : List ℕ) (at i : ℕ) → i < length b → sets (set s (at + i) (get_or b i 0)) (at + (i + 1)) (drop (i + 1) b) ≡ sets s (at + i) (drop i b)
-sets-turn s b at i h =
-    let e : at + suc i ≡ suc (at + i) = omega arith in
-    rw (add-one i, e, drop-cons b i 0 h)
 
 -- two runs, the second where the first ends
 pub sets_join : (vs ws s : List ℕ) (at n : ℕ) → n ≡ at + length vs → sets (sets s at vs) n ws ≡ sets s at (vs ++ ws)
@@ -170,8 +160,14 @@ sets-fitting vs s at n h l =
     sym (sets-beyond (drop n vs) (sets s at (take n vs)) (at + n) (rw (length-sets s at (take n vs)) h))
     ∙ (sets_join (take n vs) (drop n vs) s at (at + n) (rw (length-take-le n vs l)) ∙ ap (λ (l : List ℕ). sets s at l) (take-append-drop n vs))
 
--- one more of them
-pub copied_more : (s : List ℕ) (at : ℕ) (t u : List ℕ) (i : ℕ) → i < length t → u ≡ sets s at (take i t) → set u (at + i) (get_or t i 0) ≡ sets s at (take (i + 1) t)
-copied_more s at t u i h e =
-    rw (add-one i, take-suc t i 0 h, e)
-    (sets_join (take i t) (get_or t i 0 ∷ []) s at (at + i) (rw (length-take-le i t (let k : i ≤ length t = omega arith in k))))
+-- The library's numbers from bytes and bytes of numbers
+
+pub from_bytes : (s : List ℕ) (at : ℕ) {n : ℕ} (a b c d : ℕ) → n ≡ from_le_bytes w32 (a ∷ b ∷ c ∷ d ∷ []) → a ≡ get_or s at 0 → b ≡ get_or s (at + 1) 0 → c ≡ get_or s (at + 2) 0 → d ≡ get_or s (at + 3) 0 → n ≡ le_at 4 s at
+from_bytes s at a b c d e ea eb ec ed = omega (arith, le_at-four s at)
+
+pub to_bytes : (v : ℕ) → to_le_bytes w32 v ≡ le 4 v
+unfolding le
+to_bytes v =
+    let e : v / 65536 ≡ v / 256 / 256 = omega arith in
+    let f : v / 16777216 ≡ v / 256 / 256 / 256 = omega arith in
+    rw (e, f)

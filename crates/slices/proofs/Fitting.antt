@@ -1,33 +1,20 @@
--- What `fitting` says.
-use Prim.Native.Nat.{ℕ, ◌+◌, ◌-◌, ◌≤◌}
-use mathlib.Core.Path.{◌≡◌, refl, ap, ◌∙◌}
-use mathlib.Core.List.{List}
-use mathlib.Core.Bool.{Bool, true, false}
-use mathlib.Core.Logic.{◌⊎◌, inl, inr}
+-- What a copy to the part of a slice that has room leaves.
+use Prim.Native.Nat.{ℕ, ◌-◌, ◌<◌, ◌≤◌, min}
+use mathlib.Core.Path.{◌≡◌, sym}
+use mathlib.Core.List.{List, append_assoc}
+use mathlib.Core.Logic.{⊎_elim}
 use native.Mathlib.Omega.{arith}
-use lib.Dec.{leb}
+use borrow.Rule.Slice.PartMut.{put_mid}
 use lib.ListN.{length, take}
-use lib.Seq.{sets, take_all}
-use borrow.Author.Tests.{leb-true, leb-false}
-use Rattle.slices.specs.Slices.{fitting}
+use lib.Seq.{sets, sets-eq, take_all, length-take-le}
+use Rattle.std.proofs.Common.{drop-drop}
+use Rattle.slices.proofs.Cases.{lt-or_ge}
 use Rattle.slices.proofs.Bytes.{sets-fitting}
 
--- r of n bytes have room from `at` on, and no more
-pub record Fits (len at n r : ℕ) : Type 0 where
-  pub few : r ≤ n
-  pub room : r ≤ len - at
-  pub all : (r ≡ n) ⊎ (len ≤ at + r)
-
-pub fits : (len at n r : ℕ) → r ≡ fitting len at n → Fits len at n r
-fits len at n r e = go (leb len at) refl (leb n (len - at)) refl where
-  go : (a : Bool) → leb len at ≡ a → (b : Bool) → leb n (len - at) ≡ b → Fits len at n r
-  go true h b k = let g = leb-true len at h in let f : r ≡ 0 = e ∙ rw h in record { few = omega arith; room = omega arith; all = inr (omega arith) }
-  go false h true k = let g = leb-false len at h in let g' = leb-true n (len - at) k in let f : r ≡ n = e ∙ rw (h, k) in record { few = omega arith; room = omega arith; all = inl f }
-  go false h false k = let g = leb-false len at h in let g' = leb-false n (len - at) k in let f : r ≡ len - at = e ∙ rw (h, k) in record { few = omega arith; room = omega arith; all = inr (omega arith) }
-
--- as many bytes as have room are all that can be stored
-pub copied_all : (s : List ℕ) (at : ℕ) (t : List ℕ) (r : ℕ) → Fits (length s) at (length t) r → sets s at (take r t) ≡ sets s at t
-copied_all s at t r f = go f.all where
-  go : (r ≡ length t) ⊎ (length s ≤ at + r) → sets s at (take r t) ≡ sets s at t
-  go (inl e) = ap (λ (u : List ℕ). sets s at u) (take_all r t (omega arith))
-  go (inr e) = sets-fitting t s at r e f.few
+-- n bytes of t have room in s from `at` on, and no more; they are stored there
+pub copied-part : (s t u : List ℕ) (at n k : ℕ) → n ≡ min (length t) (length s - at) → k ≡ n → at < length s → u ≡ take n t → put_mid at k s u ≡ sets s at t
+copied-part s t u at n k e f h g =
+    let few : n ≤ length t = omega arith in
+    let l : length (take n t) ≡ n = length-take-le n t few in
+    let stored : sets s at t ≡ sets s at (take n t) = ⊎_elim (λ short. sym (sets-fitting t s at n (omega arith) few)) (λ all. rw (take_all n t all)) (lt-or_ge n (length t)) in
+    rw (stored, sets-eq (take n t) s at (omega arith), l, g, f) (simp (append_assoc, drop-drop))

@@ -1,5 +1,5 @@
 -- Words of lent slices: what is 0 throughout, and what a word says as a flag.
-use Rattle.std.specs.Prelude.{ℕ, ◌-◌, Bool, cond, not, List, eqb, leb, length, replicate}
+use Rattle.std.specs.Prelude.{ℕ, Bool, cond, not, List, eqb, length, replicate}
 
 -- as many zeros
 abbrev pub zeros : List ℕ → List ℕ
@@ -11,7 +11,3 @@ yes v = not (eqb v 0)
 
 abbrev pub flag_of : Bool → ℕ
 flag_of b = cond b 1 0
-
--- what a private function's contract cites: how many of n bytes from `at` on have room among len
-abbrev pub fitting : ℕ → ℕ → ℕ → ℕ
-fitting len at n = cond (leb len at) 0 (cond (leb n (len - at)) n (len - at))

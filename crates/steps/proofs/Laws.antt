@@ -1,4 +1,4 @@
--- One law for each step: with what its callee left (`e`) the words are those of the definition, whatever the tables have that it doesn't touch.
+-- One law for each step: with what its callee left (`e`) the words are those of the definition.
 use mathlib.Core.Path.{◌≡◌, ◌∙◌, ap}
 use mathlib.Core.List.{List}
 use Prim.Native.Nat.{ℕ}
@@ -12,40 +12,36 @@ use Rattle.tables.specs.declared.Row.{Row}
 use Rattle.tables.specs.declared.Inserted.{Inserted}
 use Rattle.tables.specs.declared.ranges.Change.{Change}
 use Rattle.strings.specs.declared.Stored.{Stored}
-use Rattle.memory.specs.declared.State.{State}
-use Rattle.memory.specs.Memory.{Words, words}
+use Rattle.memory.specs.Memory.{Words}
+use Rattle.memory.specs.Record.{texts_become, files_become, functions_become, calls_become, ranges_become}
 use Rattle.steps.specs.Steps.{gave, store, add_function, function_row_lem, add_file_row, add_call, location_row_lem, put_range, begin_named, store_six, store_row, locate_six, location}
-use Rattle.memory.specs.Record.{with_strings, with_functions, with_files, with_calls, with_ranges}
 
 -- ── One table ──────────────────────────────────────────────────────────────────────────────────────────────────────────
 
-module _ (s : State) where
-  pub store_law : (t x i : List ℕ) {x1 i1 : List ℕ} {got : Stored} → strings_left got x1 i1 ≡ insert_text_of x i s.string_bytes s.strings t
-      → (f g c n : List ℕ) → gave got.offset (words (with_strings s got.bytes got.count) x1 i1 f g c n) ≡ store t (words s x i f g c n)
+module _ (w : Words) where
+  pub store_law : (t : List ℕ) {x i : List ℕ} {got : Stored} → strings_left got x i ≡ insert_text_of w.mm.text w.mm.strings w.st.string_bytes w.st.strings t
+      → gave got.offset (texts_become w got.bytes got.count x i) ≡ store t w
   unfolding store
-  store_law t x i e f g c n =
-      ap (λ (r : StringsLeft). gave r.got.offset (words (with_strings s r.got.bytes r.got.count) r.text r.strings f g c n)) e
+  store_law t e = ap (λ (r : StringsLeft). gave r.got.offset (texts_become w r.got.bytes r.got.count r.text r.strings)) e
 
-  pub function_law : (name entry lang : ℕ) (g : List ℕ) {g1 : List ℕ} {got : Inserted} → left got g1 ≡ insert_of 6 g s.functions (function_row_lem name entry lang)
-      → (x i f c n : List ℕ) → gave got.index (words (with_functions s got.count) x i f g1 c n) ≡ add_function name entry lang (words s x i f g c n)
+  pub function_law : (name entry lang : ℕ) {g : List ℕ} {got : Inserted} → left got g ≡ insert_of 6 w.mm.functions w.st.functions (function_row_lem name entry lang)
+      → gave got.index (functions_become w got.count g) ≡ add_function name entry lang w
   unfolding add_function
-  function_law name entry lang g e x i f c n =
-      ap (λ (r : Left Inserted). gave r.got.index (words (with_functions s r.got.count) x i f r.table c n)) e
+  function_law name entry lang e = ap (λ (r : Left Inserted). gave r.got.index (functions_become w r.got.count r.table)) e
 
-  pub file_law : (row : Row) (f : List ℕ) {f1 : List ℕ} {got : Inserted} → left got f1 ≡ insert_of 6 f s.files row
-      → (x i g c n : List ℕ) → gave got.index (words (with_files s got.count) x i f1 g c n) ≡ add_file_row row (words s x i f g c n)
+  pub file_law : (row : Row) {f : List ℕ} {got : Inserted} → left got f ≡ insert_of 6 w.mm.files w.st.files row → gave got.index (files_become w got.count f) ≡ add_file_row row w
   unfolding add_file_row
-  file_law row f e x i g c n = ap (λ (r : Left Inserted). gave r.got.index (words (with_files s r.got.count) x i r.table g c n)) e
+  file_law row e = ap (λ (r : Left Inserted). gave r.got.index (files_become w r.got.count r.table)) e
 
-  pub call_law : (l : SourceLocation) (c : List ℕ) {c1 : List ℕ} {got : Inserted} → left got c1 ≡ insert_of 6 c s.call_locations (location_row_lem l)
-      → (x i f g n : List ℕ) → gave got.index (words (with_calls s got.count) x i f g c1 n) ≡ add_call l (words s x i f g c n)
+  pub call_law : (l : SourceLocation) {c : List ℕ} {got : Inserted} → left got c ≡ insert_of 6 w.mm.calls w.st.call_locations (location_row_lem l)
+      → gave got.index (calls_become w got.count c) ≡ add_call l w
   unfolding add_call
-  call_law l c e x i f g n = ap (λ (r : Left Inserted). gave r.got.index (words (with_calls s r.got.count) x i f g r.table n)) e
+  call_law l e = ap (λ (r : Left Inserted). gave r.got.index (calls_become w r.got.count r.table)) e
 
-  pub range_law : (k : ℕ) (l : SourceLocation) (n : List ℕ) {n1 : List ℕ} {got : Change} → left got n1 ≡ put_of n s.ranges (range_row_lem k l)
-      → (x i f g c : List ℕ) → words (with_ranges s got.count) x i f g c n1 ≡ put_range k l (words s x i f g c n)
+  pub range_law : (k : ℕ) (l : SourceLocation) {n : List ℕ} {got : Change} → left got n ≡ put_of w.mm.ranges w.st.ranges (range_row_lem k l)
+      → ranges_become w got.count n ≡ put_range k l w
   unfolding put_range
-  range_law k l n e x i f g c = ap (λ (r : Left Change). words (with_ranges s r.got.count) x i f g c r.table) e
+  range_law k l e = ap (λ (r : Left Change). ranges_become w r.got.count r.table) e
 
 -- ── Several tables ─────────────────────────────────────────────────────────────────────────────────────────────────────
 
@@ -60,12 +56,12 @@ unfolding begin_named
 begin_law name entry lang s h e d = d ∙ ap (λ (p : ℕ × Words). add_function p.0 entry lang p.1) (store_same s e h)
 
 -- the six texts of a line, one after the other
-pub six_law : (x : Six Text) (s a b c d e f : Words) (na nb nc nd ne nf : ℕ)
+pub six_law : (x : Six Text) (s : Words) {a b c d e f : Words} {na nb nc nd ne nf : ℕ}
     → gave na a ≡ store x.name s → gave nb b ≡ store x.directory a → gave nc c ≡ store x.comp_dir b
     → gave nd d ≡ store x.srcsrv_name c → gave ne e ≡ store x.srcsrv_dir d → gave nf f ≡ store x.revision e
     → gave (record { a = nc; b = nb; c = na; d = nd; e = ne; f = nf }) f ≡ store_row x s
 unfolding store_six
-six_law x s a b c d e f na nb nc nd ne nf e1 e2 e3 e4 e5 e6 = rw (← e1, ← e2, ← e3, ← e4, ← e5, ← e6)
+six_law x s e1 e2 e3 e4 e5 e6 = rw (← e1, ← e2, ← e3, ← e4, ← e5, ← e6)
 
 -- they, and the file
 pub locate_law : (x : Six Text) (number function into : ℕ) (s : Words) {row : Row} {t : Words} {i : ℕ} {u : Words} → gave row t ≡ store_row x s → gave i u ≡ add_file_row row t

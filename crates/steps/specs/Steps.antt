@@ -16,8 +16,7 @@ use Rattle.tables.specs.Ranges.{range_row_lem, get_of, put_of}
 use Rattle.strings.specs.Strings.{insert_text_of}
 use Rattle.tables.specs.Kinds.{row_of_file, row_of_function, row_of_call}
 use Rattle.tables.specs.declared.Row.{Row}
-use Rattle.tables.specs.declared.ranges.Found.{Found}
-use Rattle.tables.specs.declared.ranges.Found.TheVariants.{Absent, At}
+use Rattle.std.specs.Prelude.{Option as Found, Some, None}
 use Rattle.memory.specs.Memory.{Words}
 use Rattle.memory.specs.Record.{texts_become, files_become, functions_become, calls_become, ranges_become}
 
@@ -73,9 +72,9 @@ put_range k l s =
     let r = put_of s.mm.ranges s.st.ranges (range_row_lem k l) in
     ranges_become s r.got.count r.table
 
-abbrev pub held : Found → Option SourceLocation
-held Absent = none
-held (At l) = some l
+abbrev pub held : Found SourceLocation → Option SourceLocation
+held None = none
+held (Some l) = some l
 
 abbrev pub get_range : Words → ℕ → Option SourceLocation
 get_range s k = held (get_of s.mm.ranges s.st.ranges k)
@@ -127,14 +126,14 @@ unfoldable pub begin_named : Text → ℕ → ℕ → Words → ℕ × Words
 begin_named name entry lang s = let t = store name s in add_function t.0 entry lang t.1
 
 -- what a start holds: nothing
-abbrev pub vacant : Found → Bool
-vacant Absent = true
-vacant (At l) = false
+abbrev pub vacant : Found SourceLocation → Bool
+vacant None = true
+vacant (Some l) = false
 
 -- nothing, or the empty mapping
-abbrev pub free : Found → Bool
-free Absent = true
-free (At l) = is_no_source_location l
+abbrev pub free : Found SourceLocation → Bool
+free None = true
+free (Some l) = is_no_source_location l
 
 -- ── The machine ────────────────────────────────────────────────────────────────────────────────────────────────────────
 

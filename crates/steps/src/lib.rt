@@ -1,177 +1,128 @@
-// The steps of the converter (writer.rs, `SymCacheConverter`) on the lent tables. What is in use of each goes in and comes back by value.
-// A step's contract gives the tables that it does not touch any content: they stay as they are.
+// The steps of the converter (writer.rs, `SymCacheConverter`) on the lent tables and what is in use of them.
 #![tactic(auto)]
 
-ghost use Rattle.std.specs.Prelude.{◌≡◌, cond, List, ℕ};
+ghost use Rattle.std.specs.Prelude.{◌≡◌, cond};
 ghost use Rattle.names.specs.Names.{undecorated};
 ghost use Rattle.text.specs.Utf8.{utf8};
 ghost use Rattle.tables.specs.Ranges.{get_of};
 ghost use Rattle.rows.specs.Columns.{text_of};
 ghost use Rattle.model.specs.Machine.{unless_held, put_end};
 ghost use Rattle.model.specs.Converter.{Setup, input};
-ghost use Rattle.memory.specs.Memory.{words};
+ghost use Rattle.memory.specs.Memory.{SameTables, words_of};
 ghost use Rattle.steps.specs.Steps.{gave, store, add_function, add_file_row, add_call, put_range, vacant, free};
 ghost use Rattle.steps.specs.Steps.{begin_named, no_part, or_no_part, six_of, store_row, locate_six, over_words};
 
-use memory::State;
+use memory::Tables;
 use raw::{File, Function, SourceLocation};
 use rows::{LineRow, OptionalPart, TextPart};
 use tables::Row;
-use tables::kinds::{row_of_call, row_of_file, row_of_function};
-use tables::ranges::Found;
 
 pub mod symbols;
 
-// What a step answers, and the state after it.
-#[derive(Clone, Copy)]
-pub struct Indexed {
-    pub index: u32,
-    pub state: State,
-}
-
 // A text into the string table: its offset.
-pub fn insert_string(
-    mut state: State,
-    string_bytes: &mut [u8],
-    strings: &mut [u32],
-    t: &[u8],
-) -> Indexed
-    ensures { (f g c n : List ℕ) →
-        let before = words state string_bytes.old strings.old f g c n in
-        let after = words result.state string_bytes.new strings.new f g c n in
-        gave result.index after ≡ store t.now before }
+pub fn insert_string(tables: &mut Tables, t: &[u8]) -> u32
+    ensures same { SameTables tables.old tables.new }
+    ensures stored { gave result (words_of tables.new) ≡ store t.now (words_of tables.old) }
 {
-    let got = strings::insert(string_bytes, strings, state.string_bytes, state.strings, t);
-    state.string_bytes = got.bytes;
-    state.strings = got.count;
-    Indexed {
-        index: got.offset,
-        state,
-    }
+    let got = strings::insert(
+        tables.string_bytes,
+        tables.strings,
+        tables.state.string_bytes,
+        tables.state.strings,
+        t,
+    );
+    tables.state.string_bytes = got.bytes;
+    tables.state.strings = got.count;
+    got.offset
 }
 
 // A function into its index set.
-pub fn insert_function(
-    mut state: State,
-    functions: &mut [u32],
-    name_offset: u32,
-    entry_pc: u32,
-    lang: u32,
-) -> Indexed
-    ensures { (x i f c n : List ℕ) →
-        let before = words state x i f functions.old c n in
-        let after = words result.state x i f functions.new c n in
-        gave result.index after ≡ add_function name_offset entry_pc lang before }
+pub fn insert_function(tables: &mut Tables, name_offset: u32, entry_pc: u32, lang: u32) -> u32
+    ensures same { SameTables tables.old tables.new }
+    ensures added { gave result (words_of tables.new) ≡ add_function name_offset entry_pc lang (words_of tables.old) }
 {
-    let row = row_of_function(Function {
+    let row = Row::from(Function {
         name_offset,
         comp_dir_offset: u32::MAX,
         entry_pc,
         lang,
     });
-    let got = tables::index_set::insert_full(functions, state.functions, row);
-    state.functions = got.count;
-    Indexed {
-        index: got.index,
-        state,
-    }
+    let got = tables::index_set::insert_full(tables.functions, tables.state.functions, row);
+    tables.state.functions = got.count;
+    got.index
 }
 
 // A file into its index set: the words of a file row, in its order.
-pub fn insert_file(mut state: State, files: &mut [u32], row: Row) -> Indexed
-    ensures { (x i g c n : List ℕ) →
-        let before = words state x i files.old g c n in
-        let after = words result.state x i files.new g c n in
-        gave result.index after ≡ add_file_row row before }
+pub fn insert_file(tables: &mut Tables, row: Row) -> u32
+    ensures same { SameTables tables.old tables.new }
+    ensures added { gave result (words_of tables.new) ≡ add_file_row row (words_of tables.old) }
 {
-    let got = tables::index_set::insert_full(files, state.files, row);
-    state.files = got.count;
-    Indexed {
-        index: got.index,
-        state,
-    }
+    let got = tables::index_set::insert_full(tables.files, tables.state.files, row);
+    tables.state.files = got.count;
+    got.index
 }
 
 // A call location into its index set.
-pub fn insert_call_location(
-    mut state: State,
-    call_locations: &mut [u32],
-    l: SourceLocation,
-) -> Indexed
-    ensures { (x i f g n : List ℕ) →
-        let before = words state x i f g call_locations.old n in
-        let after = words result.state x i f g call_locations.new n in
-        gave result.index after ≡ add_call l before }
+pub fn insert_call_location(tables: &mut Tables, l: SourceLocation) -> u32
+    ensures same { SameTables tables.old tables.new }
+    ensures added { gave result (words_of tables.new) ≡ add_call l (words_of tables.old) }
 {
-    let row = row_of_call(l);
-    let got = tables::index_set::insert_full(call_locations, state.call_locations, row);
-    state.call_locations = got.count;
-    Indexed {
-        index: got.index,
-        state,
-    }
+    let row = Row::from(l);
+    let got = tables::index_set::insert_full(
+        tables.call_locations,
+        tables.state.call_locations,
+        row,
+    );
+    tables.state.call_locations = got.count;
+    got.index
 }
 
 // The range that starts at `start` has the location l. Every change of a range is made here.
-pub fn insert_range(mut state: State, ranges: &mut [u32], start: u32, l: SourceLocation) -> State
-    ensures { (x i f g c : List ℕ) → words result x i f g c ranges.new ≡ put_range start l (words state x i f g c ranges.old) }
+pub fn insert_range(tables: &mut Tables, start: u32, l: SourceLocation)
+    ensures same { SameTables tables.old tables.new }
+    ensures put { words_of tables.new ≡ put_range start l (words_of tables.old) }
 {
-    let got = tables::ranges::put(ranges, state.ranges, start, l);
-    state.ranges = got.count;
-    state
+    let got = tables::ranges::put(tables.ranges, tables.state.ranges, start, l);
+    tables.state.ranges = got.count;
 }
 
 // Whether a start is vacant or holds the empty mapping.
-pub fn is_free(ranges: &[u32], count: u32, start: u32) -> bool
-    ensures { result ≡ free (get_of ranges.now count start) }
+pub fn is_free(tables: &Tables, start: u32) -> bool
+    ensures { result ≡ free (get_of tables.now.ranges.now tables.now.state.ranges start) }
 {
-    let found = tables::ranges::get(ranges, count, start);
-    match found {
-        Found::Absent => true,
-        Found::At(l) => l.is_no_source_location(),
+    match tables::ranges::get(tables.ranges, tables.state.ranges, start) {
+        Some(l) => l.is_no_source_location(),
+        None => true,
     }
 }
 
 // A location at a start that is vacant or holds the empty mapping: `insert_source_location`.
-pub fn insert_source_location(
-    state: State,
-    ranges: &mut [u32],
-    start: u32,
-    l: SourceLocation,
-) -> State
-    ensures { (X : Setup) (x i f g c : List ℕ) →
-        let before = words state x i f g c ranges.old in
-        let after = words result x i f g c ranges.new in
-        after ≡ unless_held input (over_words X) start (put_range start l before) before }
+pub fn insert_source_location(tables: &mut Tables, start: u32, l: SourceLocation)
+    ensures same { SameTables tables.old tables.new }
+    ensures put { (X : Setup) →
+        let before = words_of tables.old in
+        words_of tables.new ≡ unless_held input (over_words X) start (put_range start l before) before }
 {
-    if is_free(ranges, state.ranges, start) {
-        return insert_range(state, ranges, start, l);
+    if is_free(tables, start) {
+        insert_range(tables, start, l);
     }
-    state
 }
 
 // Whether a start holds nothing.
-fn is_vacant(ranges: &[u32], count: u32, start: u32) -> bool
-    ensures { result ≡ vacant (get_of ranges.now count start) }
+fn is_vacant(tables: &Tables, start: u32) -> bool
+    ensures { result ≡ vacant (get_of tables.now.ranges.now tables.now.state.ranges start) }
 {
-    let found = tables::ranges::get(ranges, count, start);
-    match found {
-        Found::Absent => true,
-        Found::At(_) => false,
-    }
+    tables::ranges::get(tables.ranges, tables.state.ranges, start).is_none()
 }
 
 // An explicit empty mapping at the end of a function or symbol, where the start is vacant.
-pub fn insert_end(state: State, ranges: &mut [u32], end: u32) -> State
-    ensures { (X : Setup) (x i f g c : List ℕ) →
-        let before = words state x i f g c ranges.old in
-        let after = words result x i f g c ranges.new in
-        after ≡ put_end input (over_words X) end before }
+pub fn insert_end(tables: &mut Tables, end: u32)
+    ensures same { SameTables tables.old tables.new }
+    ensures put { (X : Setup) → words_of tables.new ≡ put_end input (over_words X) end (words_of tables.old) }
 {
-    if is_vacant(ranges, state.ranges, end) {
-        return insert_range(state, ranges, end, SourceLocation::NO_SOURCE_LOCATION);
+    if is_vacant(tables, end) {
+        insert_range(tables, end, SourceLocation::NO_SOURCE_LOCATION);
     }
-    state
 }
 
 // A name as it is stored: undecorated where that is on.
@@ -186,40 +137,26 @@ pub fn shown_name<'a>(name: &'a [u8], undecorate: bool) -> &'a [u8]
 
 // A function's name, and the function.
 pub fn begin_function(
-    state: State,
-    string_bytes: &mut [u8],
-    strings: &mut [u32],
-    functions: &mut [u32],
+    tables: &mut Tables,
     name: &[u8],
     undecorate: bool,
     entry_pc: u32,
     lang: u32,
-) -> Indexed
-    ensures { (f c n : List ℕ) →
-        let before = words state string_bytes.old strings.old f functions.old c n in
-        let after = words result.state string_bytes.new strings.new f functions.new c n in
-        gave result.index after ≡ begin_named (cond undecorate (undecorated name.now) name.now) entry_pc lang before }
+) -> u32
+    ensures same { SameTables tables.old tables.new }
+    ensures begun { gave result (words_of tables.new)
+        ≡ begin_named (cond undecorate (undecorated name.now) name.now) entry_pc lang (words_of tables.old) }
 {
-    let shown = shown_name(name, undecorate);
-    let text = insert_string(state, string_bytes, strings, shown);
-    insert_function(text.state, functions, text.index, entry_pc, lang)
+    let name_offset = insert_string(tables, shown_name(name, undecorate));
+    insert_function(tables, name_offset, entry_pc, lang)
 }
 
 // A part of the lent text into the string table.
-fn insert_part(
-    state: State,
-    string_bytes: &mut [u8],
-    strings: &mut [u32],
-    text: &[u8],
-    p: TextPart,
-) -> Indexed
-    ensures { (f g c n : List ℕ) →
-        let before = words state string_bytes.old strings.old f g c n in
-        let after = words result.state string_bytes.new strings.new f g c n in
-        gave result.index after ≡ store (text_of text.now p) before }
+fn insert_part(tables: &mut Tables, text: &[u8], p: TextPart) -> u32
+    ensures same { SameTables tables.old tables.new }
+    ensures stored { gave result (words_of tables.new) ≡ store (text_of text.now p) (words_of tables.old) }
 {
-    let t = rows::part(text, p);
-    insert_string(state, string_bytes, strings, t)
+    insert_string(tables, rows::part(text, p))
 }
 
 // The part that an optional text has, empty where it is absent.
@@ -233,19 +170,11 @@ fn or_empty(p: OptionalPart) -> TextPart
 }
 
 // The same of a text that may be absent.
-fn insert_optional(
-    state: State,
-    string_bytes: &mut [u8],
-    strings: &mut [u32],
-    text: &[u8],
-    p: OptionalPart,
-) -> Indexed
-    ensures { (f g c n : List ℕ) →
-        let before = words state string_bytes.old strings.old f g c n in
-        let after = words result.state string_bytes.new strings.new f g c n in
-        gave result.index after ≡ store (text_of text.now (or_no_part p)) before }
+fn insert_optional(tables: &mut Tables, text: &[u8], p: OptionalPart) -> u32
+    ensures same { SameTables tables.old tables.new }
+    ensures stored { gave result (words_of tables.new) ≡ store (text_of text.now (or_no_part p)) (words_of tables.old) }
 {
-    insert_part(state, string_bytes, strings, text, or_empty(p))
+    insert_part(tables, text, or_empty(p))
 }
 
 // A compilation directory that isn't UTF-8 is absent.
@@ -259,83 +188,47 @@ pub fn comp_dir_part(text: &[u8], p: TextPart) -> TextPart
     TextPart { start: 0, len: 0 }
 }
 
-// The offsets of a line's texts, in the order of a file row.
-#[derive(Clone, Copy)]
-pub struct Six {
-    pub row: Row,
-    pub state: State,
-}
-
 // A line's texts into the string table: name, directory, compilation directory, srcsrv name, srcsrv directory, revision.
-pub fn insert_texts(
-    state: State,
-    string_bytes: &mut [u8],
-    strings: &mut [u32],
-    text: &[u8],
-    comp_dir: TextPart,
-    line: LineRow,
-) -> Six
-    ensures { (f g c n : List ℕ) →
-        let before = words state string_bytes.old strings.old f g c n in
-        let after = words result.state string_bytes.new strings.new f g c n in
-        gave result.row after ≡ store_row (six_of text.now comp_dir line) before }
+// The answer is their offsets, in the order of a file row.
+pub fn insert_texts(tables: &mut Tables, text: &[u8], comp_dir: TextPart, line: LineRow) -> Row
+    ensures same { SameTables tables.old tables.new }
+    ensures stored { gave result (words_of tables.new) ≡ store_row (six_of text.now comp_dir line) (words_of tables.old) }
 {
-    let name = insert_part(state, string_bytes, strings, text, line.name);
-    let directory = insert_part(name.state, string_bytes, strings, text, line.directory);
-    let dir = insert_part(directory.state, string_bytes, strings, text, comp_dir);
-    let srcsrv_name = insert_optional(dir.state, string_bytes, strings, text, line.srcsrv_name);
-    let srcsrv_dir = insert_optional(
-        srcsrv_name.state,
-        string_bytes,
-        strings,
-        text,
-        line.srcsrv_dir,
-    );
-    let revision = insert_optional(srcsrv_dir.state, string_bytes, strings, text, line.revision);
-    let row = row_of_file(File {
-        comp_dir_offset: dir.index,
-        directory_offset: directory.index,
-        name_offset: name.index,
-        srcsrv_name_offset: srcsrv_name.index,
-        srcsrv_dir_offset: srcsrv_dir.index,
-        srcsrv_revision_offset: revision.index,
-    });
-    let state = revision.state;
-    Six { row, state }
-}
-
-// A line's location, and the state after it.
-#[derive(Clone, Copy)]
-pub struct Located {
-    pub location: SourceLocation,
-    pub state: State,
+    let name = insert_part(tables, text, line.name);
+    let directory = insert_part(tables, text, line.directory);
+    let dir = insert_part(tables, text, comp_dir);
+    let srcsrv_name = insert_optional(tables, text, line.srcsrv_name);
+    let srcsrv_dir = insert_optional(tables, text, line.srcsrv_dir);
+    let revision = insert_optional(tables, text, line.revision);
+    Row::from(File {
+        comp_dir_offset: dir,
+        directory_offset: directory,
+        name_offset: name,
+        srcsrv_name_offset: srcsrv_name,
+        srcsrv_dir_offset: srcsrv_dir,
+        srcsrv_revision_offset: revision,
+    })
 }
 
 // A line's texts, its file and its location. Line numbers are cut to 32 bits.
 pub fn locate_line(
-    state: State,
-    string_bytes: &mut [u8],
-    strings: &mut [u32],
-    files: &mut [u32],
+    tables: &mut Tables,
     text: &[u8],
     comp_dir: TextPart,
     line: LineRow,
     function_idx: u32,
     inlined_into_idx: u32,
-) -> Located
-    ensures { (g c n : List ℕ) →
-        let before = words state string_bytes.old strings.old files.old g c n in
-        let after = words result.state string_bytes.new strings.new files.new g c n in
-        gave result.location after ≡ locate_six (six_of text.now comp_dir line) line.number function_idx inlined_into_idx before }
+) -> SourceLocation
+    ensures same { SameTables tables.old tables.new }
+    ensures located { gave result (words_of tables.new)
+        ≡ locate_six (six_of text.now comp_dir line) line.number function_idx inlined_into_idx (words_of tables.old) }
 {
-    let texts = insert_texts(state, string_bytes, strings, text, comp_dir, line);
-    let file = insert_file(texts.state, files, texts.row);
-    let location = SourceLocation {
-        file_idx: file.index,
+    let texts = insert_texts(tables, text, comp_dir, line);
+    let file_idx = insert_file(tables, texts);
+    SourceLocation {
+        file_idx,
         line: (line.number % 4294967296) as u32,
         function_idx,
         inlined_into_idx,
-    };
-    let state = file.state;
-    Located { location, state }
+    }
 }

@@ -1,6 +1,6 @@
 -- The string table (document 01, "Texts"): the bytes of the string section, and an index of its texts, for any content and any counts. The Rust's `StringTable`
 -- keeps a hash map; here the index is one more table, with a row for each text.
-use Rattle.std.specs.Prelude.{ℕ, ◌+◌, ◌*◌, ◌/◌, ◌%◌, ◌<◌, ◌≡◌, List, [], ◌∷◌, ◌++◌, Bool, cond, ◌&&◌, ltb, leb, eqb, length, get_or, take, drop}
+use Rattle.std.specs.Prelude.{ℕ, ◌+◌, ◌*◌, ◌/◌, ◌%◌, List, [], ◌∷◌, ◌++◌, Bool, cond, ◌&&◌, ltb, leb, eqb, length, take, drop}
 use Rattle.std.proofs.lemmas.List.Edits.{sets}
 use Rattle.text.specs.Leb128.{encoded}
 use Rattle.tables.specs.Table.{row_at, link_at, head_at, append_of, over_of, capacity_of, bucket_of, same_words, walk}
@@ -30,16 +30,6 @@ mixed x w = (x % 4294967296 + w) * 1791398085 + x / 4294967296
 
 abbrev pub four : ℕ → ℕ → ℕ → ℕ → ℕ
 four a b c d = a + b * 256 + c * 65536 + d * 16777216
-
--- w is the number of the four bytes of t from i on, and each of them is a byte
-abbrev pub four_at : List ℕ → ℕ → ℕ → Type 0
-four_at t i w =
-    (w ≡ four (get_or t i 0) (get_or t (i + 1) 0) (get_or t (i + 2) 0) (get_or t (i + 3) 0))
-    × (w < 4294967296)
-    × (get_or t i 0 < 256)
-    × (get_or t (i + 1) 0 < 256)
-    × (get_or t (i + 2) 0 < 256)
-    × (get_or t (i + 3) 0 < 256)
 
 -- every byte counts; four at a time, and what is left at the end one by one
 unfoldable pub hash_from : ℕ → List ℕ → ℕ

@@ -5,7 +5,7 @@ ghost use Rattle.std.specs.Prelude.{◌≡◌, ◌+◌, ◌-◌, ◌≤◌, ◌<
 ghost use Rattle.symcache.specs.Answers.{refusal_of, parse_answer};
 ghost use Rattle.symcache.specs.Reader.{aligned, layout_of, tested, Low, parsed, opened};
 
-use raw::Header;
+use raw::{Header, Stored, VersionInfo};
 
 // Why a file is refused.
 #[derive(Debug, Clone, Copy, PartialEq, Eq)]
@@ -147,7 +147,7 @@ pub fn parse(s: &[u8]) -> Result<SymCache, ErrorKind>
     if s.len() < 8 {
         return Err(ErrorKind::TooShort);
     }
-    let version = raw::version_info_at(s, 0);
+    let version = VersionInfo::read(s, 0);
     if version.magic == raw::SYMCACHE_MAGIC_FLIPPED {
         return Err(ErrorKind::WrongEndianness);
     }
@@ -160,7 +160,7 @@ pub fn parse(s: &[u8]) -> Result<SymCache, ErrorKind>
     if s.len() < 80 {
         return Err(ErrorKind::InvalidHeader);
     }
-    let header = raw::header_at(s, 8);
+    let header = Header::read(s, 8);
     let cache = layout(header);
     parse_tables(s.len(), cache, header.variable_header)
 }

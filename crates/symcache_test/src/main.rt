@@ -100,7 +100,7 @@ fn add_location(sum: u32, l: SourceLocation) -> u32 {
 fn add_location_rows(sum: u32, s: &[u8], at: usize, n: u32) -> u32 {
     let mut now = sum;
     for i in 0..n {
-        now = add_location(now, raw::location_at(s, place(at, 16 * (i as usize))));
+        now = add_location(now, SourceLocation::read(s, place(at, 16 * (i as usize))));
     }
     now
 }
@@ -134,7 +134,7 @@ fn add_counts(sum: u32, c: SymCache) -> u32 {
 fn add_cache(sum: u32, s: &[u8], c: SymCache) -> u32 {
     let sum = add(sum, 0);
     let sum = add_counts(sum, c);
-    let sum = add_header(sum, raw::header_at(s, 8));
+    let sum = add_header(sum, Header::read(s, 8));
     add_rows(sum, s, c)
 }
 
@@ -328,12 +328,11 @@ fn replay_case(rt: &impl Print, record: &[u8]) {
 // Replays the next record, and answers whether there was one.
 fn replay_next<F: Read>(rt: &impl Print, from: &mut F) -> bool {
     let mut record = [0u8; 16384];
-    let got = replay::read_record(from, &mut record);
-    let n = got.len;
-    if got.some {
-        replay_case(rt, &record[..n]);
-    }
-    got.some
+    let Some(n) = replay::read_record(from, &mut record) else {
+        return false;
+    };
+    replay_case(rt, &record[..n]);
+    true
 }
 
 // Nothing says that the container ends, so the records are counted.

@@ -15,8 +15,8 @@ use Rattle.tables.specs.Table.{row_at, rows_of, hit_at, key_of, same_row, hash_o
 use Rattle.tables.specs.Ranges.{get_of, put_of, put_at, replace_of, change, start_row_lem, location_of_lem}
 use Rattle.table_laws.specs.Plain.{key_hash, put_rows, was_in, put_all, put_all_rows, last_put_lem, Pair, pair_row, Holds}
 use Rattle.tables.specs.declared.Row.{Row}
-use Rattle.tables.specs.declared.ranges.Found.{Found}
-use Rattle.tables.specs.declared.ranges.Found.TheVariants.{Absent, At}
+use Rattle.std.specs.Prelude.{Option, Some, None}
+use Rattle.raw.specs.declared.SourceLocation.{SourceLocation}
 use Rattle.tables.specs.declared.ranges.Was.TheVariants.{Vacant, Same, Changed}
 use Rattle.tables.specs.declared.ranges.Change.{Change}
 use Rattle.tables.proofs.Room.{room-is}
@@ -56,27 +56,27 @@ put-length (x ∷ xs) q = go (eqb x.a q.a) (put-length xs q)
     go false h = omega arith
 
 -- the first location at a start
-unfoldable pub loc_in : List Row → ℕ → Found
-loc_in [] s = Absent
-loc_in (x ∷ xs) s = cond (eqb x.a s) (At (location_of_lem x)) (loc_in xs s)
+unfoldable pub loc_in : List Row → ℕ → Option SourceLocation
+loc_in [] s = None
+loc_in (x ∷ xs) s = cond (eqb x.a s) (Some (location_of_lem x)) (loc_in xs s)
 
-loc-none : (rows : List Row) (s : ℕ) (d : Row) → ((i : ℕ) → i < length rows → eqb (get_or rows i d).a s ≡ false) → loc_in rows s ≡ Absent
+loc-none : (rows : List Row) (s : ℕ) (d : Row) → ((i : ℕ) → i < length rows → eqb (get_or rows i d).a s ≡ false) → loc_in rows s ≡ None
 unfolding loc_in
-loc-none rows s d = by_none (λ (x : Row). eqb x.a s) d (λ (l : List Row). loc_in l s ≡ Absent) refl (λ x xs e ih. rw e ih) rows
+loc-none rows s d = by_none (λ (x : Row). eqb x.a s) d (λ (l : List Row). loc_in l s ≡ None) refl (λ x xs e ih. rw e ih) rows
 
 loc-found : (rows : List Row) (s : ℕ) (d : Row) (i : ℕ) → i < length rows → eqb (get_or rows i d).a s ≡ true → ((j : ℕ) → j < i → eqb (get_or rows j d).a s ≡ false)
-    → loc_in rows s ≡ At (location_of_lem (get_or rows i d))
+    → loc_in rows s ≡ Some (location_of_lem (get_or rows i d))
 unfolding loc_in
-loc-found rows s d = by_found (λ (x : Row). eqb x.a s) d (λ (l : List Row) (k : ℕ). loc_in l s ≡ At (location_of_lem (get_or l k d))) (λ x xs f. rw f) (λ x xs k f ih. rw f ih) rows
+loc-found rows s d = by_found (λ (x : Row). eqb x.a s) d (λ (l : List Row) (k : ℕ). loc_in l s ≡ Some (location_of_lem (get_or l k d))) (λ x xs f. rw f) (λ x xs k f ih. rw f ih) rows
 
-loc-put : (rows : List Row) (q : Row) (s : ℕ) → loc_in (put_rows rows q) s ≡ cond (eqb q.a s) (At (location_of_lem q)) (loc_in rows s)
+loc-put : (rows : List Row) (q : Row) (s : ℕ) → loc_in (put_rows rows q) s ≡ cond (eqb q.a s) (Some (location_of_lem q)) (loc_in rows s)
 unfolding loc_in put_rows
 loc-put [] q s = refl
 loc-put (x ∷ xs) q s = go (eqb x.a q.a) refl (eqb q.a s) refl (eqb x.a s) refl (loc-put xs q s)
   where
     go : (b : Bool) → eqb x.a q.a ≡ b → (d : Bool) → eqb q.a s ≡ d → (e : Bool) → eqb x.a s ≡ e
-        → loc_in (put_rows xs q) s ≡ cond (eqb q.a s) (At (location_of_lem q)) (loc_in xs s)
-        → loc_in (cond b (q ∷ xs) (x ∷ put_rows xs q)) s ≡ cond (eqb q.a s) (At (location_of_lem q)) (cond (eqb x.a s) (At (location_of_lem x)) (loc_in xs s))
+        → loc_in (put_rows xs q) s ≡ cond (eqb q.a s) (Some (location_of_lem q)) (loc_in xs s)
+        → loc_in (cond b (q ∷ xs) (x ∷ put_rows xs q)) s ≡ cond (eqb q.a s) (Some (location_of_lem q)) (cond (eqb x.a s) (Some (location_of_lem x)) (loc_in xs s))
     go true f true g e h ih = rw g
     go true f false g true h ih = absurd (eqb-false q.a s g (sym (eqb-true x.a q.a f) ∙ eqb-true x.a s h))
     go true f false g false h ih = rw (g, h)
@@ -185,7 +185,7 @@ pub get-is : (t : List ℕ) (n : ℕ) (rows : List Row) (s : ℕ) → Holds 1 t 
 unfolding get_of
 get-is t n rows s H = go (lookup_of 1 t n (start_row_lem s)) (looked 1 t n rows (start_row_lem s) H)
   where
-    go : (i : ℕ) → Look (hit_at t 1 (key_of 1 (start_row_lem s))) n i → cond (ltb i n) (At (location_of_lem (row_at t i))) Absent ≡ loc_in rows s
+    go : (i : ℕ) → Look (hit_at t 1 (key_of 1 (start_row_lem s))) n i → cond (ltb i n) (Some (location_of_lem (row_at t i))) None ≡ loc_in rows s
     go i (found p e) =
         rw (lt-ltb i n p, ← row_is 1 t n rows (start_row_lem s) H i p)
         (sym (loc-found rows s (start_row_lem s) i (rw (length-is 1 t n rows (start_row_lem s) H) p) (start_is t n rows (start_row_lem s) H i p ∙ e) (no_earlier t n rows (start_row_lem s) H i p e)))
@@ -229,7 +229,7 @@ beyond (p ∷ ps) t n rows H r =
 loc-last : (ps : List Pair) (rows : List Row) (s : ℕ) → loc_in (put_all_rows rows ps) s ≡ last_put_lem (loc_in rows s) ps s
 unfolding put_all_rows last_put_lem
 loc-last [] rows s = refl
-loc-last (p ∷ ps) rows s = loc-last ps (put_rows rows (pair_row p)) s ∙ ap (λ (f : Found). last_put_lem f ps s) (loc-put rows (pair_row p) s)
+loc-last (p ∷ ps) rows s = loc-last ps (put_rows rows (pair_row p)) s ∙ ap (λ (f : Option SourceLocation). last_put_lem f ps s) (loc-put rows (pair_row p) s)
 
 -- ---- from zeroed memory, for any list of puts
 module _ (ps : List Pair) (words : ℕ) where
@@ -242,7 +242,7 @@ module _ (ps : List Pair) (words : ℕ) where
   map-holds : length plain ≤ capacity_of words → Holds 1 after.table after.got.count plain
   map-holds r = within ps (replicate words 0) 0 [] (begun 1 words) (rw (length-replicate {A = ℕ} words 0) r)
 
-  pub get-last : length plain ≤ capacity_of words → (s : ℕ) → get_of after.table after.got.count s ≡ last_put_lem Absent ps s
+  pub get-last : length plain ≤ capacity_of words → (s : ℕ) → get_of after.table after.got.count s ≡ last_put_lem None ps s
   unfolding loc_in
   get-last r s = get-is after.table after.got.count plain s (map-holds r) ∙ loc-last ps [] s
 

@@ -1,12 +1,10 @@
 -- The same over plain lists: an index set of any items, and a map from starts to locations; and when a table is the plain list.
-use Rattle.std.specs.Prelude.{ℕ, zero, suc, ◌<◌, ◌≤◌, ◌≡◌, List, [], ◌∷◌, Bool, false, cond, eqb, length}
+use Rattle.std.specs.Prelude.{ℕ, zero, suc, ◌<◌, ◌≤◌, ◌≡◌, List, [], ◌∷◌, Bool, false, cond, eqb, length, Option, Some}
 use Rattle.tables.specs.Table.{row_at, rows_of, link_at, head_at, key_of, same_row, hash_of, bucket_of, capacity_of, Left, left, inserted, insert_of}
 use Rattle.tables.specs.Ranges.{put_of, change, range_row_lem}
 use Rattle.tables.specs.declared.Row.{Row}
 use Rattle.tables.specs.declared.Inserted.{Inserted}
 use Rattle.raw.specs.declared.SourceLocation.{SourceLocation}
-use Rattle.tables.specs.declared.ranges.Found.{Found}
-use Rattle.tables.specs.declared.ranges.Found.TheVariants.{At}
 use Rattle.tables.specs.declared.ranges.Was.{Was}
 use Rattle.tables.specs.declared.ranges.Was.TheVariants.{Vacant, Same, Changed}
 use Rattle.tables.specs.declared.ranges.Change.{Change}
@@ -75,9 +73,9 @@ put_all_rows rows [] = rows
 put_all_rows rows (p ∷ ps) = put_all_rows (put_rows rows (pair_row p)) ps
 
 -- the last location put at a start
-unfoldable pub last_put_lem : Found → List Pair → ℕ → Found
+unfoldable pub last_put_lem : Option SourceLocation → List Pair → ℕ → Option SourceLocation
 last_put_lem f [] s = f
-last_put_lem f (p ∷ ps) s = last_put_lem (cond (eqb p.start s) (At p.loc) f) ps s
+last_put_lem f (p ∷ ps) s = last_put_lem (cond (eqb p.start s) (Some p.loc) f) ps s
 
 -- ── When a table is the plain list ─────────────────────────────────────────────────────────────────────────────────────
 

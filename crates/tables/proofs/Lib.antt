@@ -1,3 +1,5 @@
+pub mod Found
 pub mod Room
+pub mod Rows
 pub mod Walk
 pub mod Words

@@ -19,5 +19,5 @@ room-is words = go (ltb (words / 8) max_rows) refl
     go true e = let h : words / 8 < max_rows = ltb-true _ _ e in record { most = omega arith; fits = omega arith }
     go false e = let h : max_rows ≤ words / 8 = ltb-false _ _ e in record { most = omega arith; fits = omega arith }
 
-pub cap-most : (words : ℕ) → capacity_of words ≤ max_rows
-cap-most words = (room-is words).most
+pub cap_most : (words : ℕ) → capacity_of words ≤ max_rows
+cap_most words = (room-is words).most

@@ -1,11 +1,13 @@
 -- Laws of `walk`: where it ends, and what one turn of the loop does.
 use Prim.Native.Nat.{ℕ, zero, suc, ◌-◌, ◌<◌, ◌≤◌}
 use mathlib.Core.Path.{◌≡◌, refl, sym, ◌∙◌}
+use mathlib.Core.List.{List}
 use mathlib.Core.Bool.{Bool, true, false, cond}
 use native.Mathlib.Omega.{arith}
 use lib.Dec.{eqb}
 use borrow.Author.Tests.{eq-eqb, ne_eqb, eqb-true, eqb-false}
-use Rattle.tables.specs.Table.{walk}
+use Rattle.tables.specs.Table.{walk, link_at, hit_at, key_of, newest_of, lookup_of}
+use Rattle.tables.specs.declared.Row.{Row}
 
 le_step : {l i : ℕ} → (l ≡ suc i → ⊥) → l ≤ suc i → l ≤ i
 le_step n h = omega arith
@@ -38,6 +40,17 @@ module _ (link : ℕ → ℕ) (hit : ℕ → Bool) (d : ℕ) where
       go true e ih = rw (eqb-true l (suc i) e)
       go false e ih = walk_pass i l (eqb-false l (suc i) e) ∙ ih (le_step (eqb-false l (suc i) e) h)
 
+  -- the answer is a row's number below the bound, or d
+  pub walk_most : (b l : ℕ) → b ≤ d → walk link hit d b l ≤ d
+  unfolding walk
+  walk_most zero l h = let p : d ≤ d = omega arith in p
+  walk_most (suc i) l h = go (eqb l (suc i)) (hit i) (walk_most i (link i) (omega arith)) (walk_most i l (omega arith))
+    where
+      go : (x y : Bool) → walk link hit d i (link i) ≤ d → walk link hit d i l ≤ d → cond x (cond y i (walk link hit d i (link i))) (walk link hit d i l) ≤ d
+      go true true p q = omega arith
+      go true false p q = p
+      go false y p q = q
+
   pub walk_at : (i : ℕ) → walk link hit d (suc i) (suc i) ≡ cond (hit i) i (walk link hit d i (link i))
   unfolding walk
   walk_at i = simp (eq-eqb (suc i) (suc i) refl)
@@ -54,3 +67,7 @@ module _ (link : ℕ → ℕ) (hit : ℕ → Bool) (d : ℕ) where
   walk-next b (suc i) inv p h e f g =
       let e' : hit i ≡ false = rw back at (sym e ∙ f) in
       rw g (inv ∙ rw (walk_down b (suc i) h, walk_at i, e', back i))
+
+pub lookup_most : (w : ℕ) (t : List ℕ) (n : ℕ) (q : Row) → lookup_of w t n q ≤ n
+unfolding lookup_of
+lookup_most w t n q = walk_most (link_at t) (hit_at t w (key_of w q)) n n (newest_of w t q) (let p : n ≤ n = omega arith in p)

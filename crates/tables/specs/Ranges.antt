@@ -1,18 +1,17 @@
 -- A table as the Rust's `BTreeMap<u32, SourceLocation>`, used by exact key alone: a row's first word, its start, is its key.
-use Rattle.std.specs.Prelude.{ℕ, List, cond, ltb, length}
+use Rattle.std.specs.Prelude.{ℕ, List, cond, ltb, length, Option, Some, None}
+use Rattle.raw.specs.declared.SourceLocation.{SourceLocation}
 use Rattle.tables.specs.Table.{row_at, set_row, same_row, capacity_of, lookup_of, insert_of, Left, left}
 pub use Rattle.tables.specs.Kinds.{range_row_lem, location_of_lem, start_row_lem}
 use Rattle.tables.specs.declared.Row.{Row}
 use Rattle.tables.specs.declared.Inserted.{Inserted}
-use Rattle.tables.specs.declared.ranges.Found.{Found}
-use Rattle.tables.specs.declared.ranges.Found.TheVariants.{Absent, At}
 use Rattle.tables.specs.declared.ranges.Was.{Was}
 use Rattle.tables.specs.declared.ranges.Was.TheVariants.{Vacant, Same, Changed}
 use Rattle.tables.specs.declared.ranges.Change.{Change}
 
 -- `BTreeMap::get`
-unfoldable pub get_of : List ℕ → ℕ → ℕ → Found
-get_of t n s = cond (ltb (lookup_of 1 t n (start_row_lem s)) n) (At (location_of_lem (row_at t (lookup_of 1 t n (start_row_lem s))))) Absent
+unfoldable pub get_of : List ℕ → ℕ → ℕ → Option SourceLocation
+get_of t n s = cond (ltb (lookup_of 1 t n (start_row_lem s)) n) (Some (location_of_lem (row_at t (lookup_of 1 t n (start_row_lem s))))) None
 
 -- row i becomes q
 unfoldable pub replace_of : List ℕ → ℕ → Row → Left Was

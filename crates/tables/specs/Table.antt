@@ -2,8 +2,11 @@
 -- "Forms that Rattle cannot carry"): eight words for each row that there is room for. Row i has six words at 7 i and its link at 7 i + 6; after the last row
 -- stand the heads of the buckets, as many as rows. A head, and a link, is a row number + 1, or 0 for none.
 use Rattle.std.specs.Prelude.{ℕ, zero, suc, ◌+◌, ◌*◌, ◌/◌, ◌%◌, List, [], ◌∷◌, Bool, true, false, cond, ◌&&◌, ltb, eqb, length, get_or, set}
+use Rattle.std.specs.Prelude.{Option, Some, None}
 use Rattle.std.proofs.lemmas.List.Edits.{sets}
 use Rattle.tables.specs.declared.Row.{Row}
+use Rattle.tables.specs.declared.Key.{Key}
+use Rattle.tables.specs.declared.Key.TheVariants.{First, Whole}
 use Rattle.tables.specs.declared.Inserted.{Inserted}
 
 -- ── Rows ───────────────────────────────────────────────────────────────────────────────────────────────────────────────
@@ -75,6 +78,11 @@ walk link hit d (suc i) l = cond (eqb l (suc i)) (cond (hit i) i (walk link hit 
 
 -- ── Rows found by their words ──────────────────────────────────────────────────────────────────────────────────────────
 
+-- how many words of a row are compared
+abbrev pub width_of : Key → ℕ
+width_of First = 1
+width_of Whole = 6
+
 -- what of a row is compared: its first word alone where the width is 1 (ranges), else all of it (index sets)
 unfoldable pub key_of : ℕ → Row → Row
 key_of w r = cond (eqb w 1) (record { a = r.a; b = 0; c = 0; d = 0; e = 0; f = 0 }) r
@@ -111,6 +119,10 @@ newest_of w t q = head_at (capacity_of (length t)) t (bucket_in w t q)
 -- the number of the row with q's key among the first n; n where there is none
 unfoldable pub lookup_of : ℕ → List ℕ → ℕ → Row → ℕ
 lookup_of w t n q = walk (link_at t) (hit_at t w (key_of w q)) n n (newest_of w t q)
+
+-- such a number as an answer: none where it is n
+abbrev pub found_of : ℕ → ℕ → Option ℕ
+found_of n i = cond (ltb i n) (Some i) None
 
 -- ── Inserting ──────────────────────────────────────────────────────────────────────────────────────────────────────────
 

@@ -6,10 +6,10 @@
 // The caller keeps the count of rows. Any content and any count is taken. A row that there is no room for makes the count capacity + 1, and there it stays.
 #![tactic(auto)]
 
-ghost use Rattle.std.specs.Prelude.{◌≡◌, ◌<◌, length};
+ghost use Rattle.std.specs.Prelude.{◌≡◌, ◌<◌, ℕ, Bool, List, length};
 ghost use Rattle.std.proofs.lemmas.List.Edits.{sets};
-ghost use Rattle.tables.specs.Table.{max_rows, capacity_of, words_at, row_words, row_of, row_at, set_row, link_at, head_at, head_of, append_of, over_of, push_of};
-ghost use Rattle.tables.specs.Table.{bucket_of, walk, key_of, same_row, hash_of, hit_at, newest_of, lookup_of, insert_of, left};
+ghost use Rattle.tables.specs.Table.{max_rows, capacity_of, words_at, row_words, row_of, row_at, set_row, link_at, head_at, head_of, append_of};
+ghost use Rattle.tables.specs.Table.{over_of, push_of, bucket_of, walk, width_of, key_of, hash_of, hit_at, found_of, newest_of, lookup_of, insert_of, left};
 
 use slices::{put, word};
 
@@ -28,12 +28,14 @@ pub const ROW: usize = 7;
 pub const LINK: usize = 6;
 
 // What of a row is compared: its first word alone, or all of it.
-pub const FIRST: u32 = 1;
-
-const WHOLE: u32 = 6;
+#[derive(Clone, Copy, PartialEq, Eq)]
+pub enum Key {
+    First,
+    Whole,
+}
 
 // The six words of a row.
-#[derive(Clone, Copy)]
+#[derive(Clone, Copy, Default, PartialEq, Eq)]
 pub struct Row {
     pub a: u32,
     pub b: u32,
@@ -41,17 +43,6 @@ pub struct Row {
     pub d: u32,
     pub e: u32,
     pub f: u32,
-}
-
-impl Row {
-    pub const ZERO: Row = Row {
-        a: 0,
-        b: 0,
-        c: 0,
-        d: 0,
-        e: 0,
-        f: 0,
-    };
 }
 
 // The number of an item, and how many items there are now.
@@ -62,17 +53,16 @@ pub struct Inserted {
 }
 
 // How many rows there is room for.
+#[tactic(auto, unfolding(crate::specs::Table::capacity_of))]
 pub fn capacity(t: &[u32]) -> u32
     ensures { result ≡ capacity_of (length t.now) }
 {
-    let n = t.len() / WORDS;
-    if n < MAX_ROWS as usize {
-        return n as u32;
-    }
-    MAX_ROWS
+    let rows = t.len() / WORDS;
+    rows.min(MAX_ROWS as usize) as u32
 }
 
 // Row i; words past the end are 0.
+#[tactic(auto, unfolding(crate::specs::Table::row_at))]
 pub fn row_at(t: &[u32], i: u32) -> Row
     ensures { result ≡ row_at t.now i }
 {
@@ -83,34 +73,22 @@ pub fn row_at(t: &[u32], i: u32) -> Row
 pub fn six(t: &[u32], k0: usize) -> Row
     ensures { result ≡ row_of (words_at t.now k0 6) }
 {
-    if t.len() <= k0 {
-        return Row::ZERO;
+    let words = t.get(k0..).unwrap_or_default();
+    match *words {
+        [a, b, c, d, e, f, ..] => Row { a, b, c, d, e, f },
+        _ => Row {
+            a: word(words, 0),
+            b: word(words, 1),
+            c: word(words, 2),
+            d: word(words, 3),
+            e: word(words, 4),
+            f: 0,
+        },
     }
-    let k1 = k0 + 1;
-    let k2 = k1 + 1;
-    let k3 = k2 + 1;
-    let k4 = k3 + 1;
-    let k5 = k4 + 1;
-    if k5 < t.len() {
-        return Row {
-            a: t[k0],
-            b: t[k1],
-            c: t[k2],
-            d: t[k3],
-            e: t[k4],
-            f: t[k5],
-        };
-    }
-    let a = word(t, k0);
-    let b = word(t, k1);
-    let c = word(t, k2);
-    let d = word(t, k3);
-    let e = word(t, k4);
-    let f = word(t, k5);
-    Row { a, b, c, d, e, f }
 }
 
 // Row i becomes r; words past the end are not stored.
+#[tactic(auto, unfolding(crate::specs::Table::set_row))]
 pub fn set_row(t: &mut [u32], i: u32, r: Row)
     ensures { t.new ≡ set_row t.old i r }
 {
@@ -121,32 +99,19 @@ pub fn set_row(t: &mut [u32], i: u32, r: Row)
 pub fn set_six(t: &mut [u32], k0: usize, r: Row)
     ensures { t.new ≡ sets t.old k0 (row_words r) }
 {
-    if t.len() <= k0 {
-        return;
+    let words = [r.a, r.b, r.c, r.d, r.e, r.f];
+    let room = t.len().saturating_sub(k0);
+    if words.len() <= room {
+        t[k0..k0 + words.len()].copy_from_slice(&words);
+    } else {
+        for i in 0..room {
+            t[k0 + i] = words[i];
+        }
     }
-    let k1 = k0 + 1;
-    let k2 = k1 + 1;
-    let k3 = k2 + 1;
-    let k4 = k3 + 1;
-    let k5 = k4 + 1;
-    if k5 < t.len() {
-        t[k0] = r.a;
-        t[k1] = r.b;
-        t[k2] = r.c;
-        t[k3] = r.d;
-        t[k4] = r.e;
-        t[k5] = r.f;
-        return;
-    }
-    put(t, k0, r.a);
-    put(t, k1, r.b);
-    put(t, k2, r.c);
-    put(t, k3, r.d);
-    put(t, k4, r.e);
-    put(t, k5, r.f);
 }
 
 // The link of row i.
+#[tactic(auto, unfolding(crate::specs::Table::link_at))]
 pub fn link_at(t: &[u32], i: u32) -> u32
     ensures { result ≡ link_at t.now i }
 {
@@ -154,6 +119,7 @@ pub fn link_at(t: &[u32], i: u32) -> u32
 }
 
 // The head of bucket h, in a table of cap rows.
+#[tactic(auto, unfolding(crate::specs::Table::head_at))]
 fn head_at(t: &[u32], cap: u32, h: u32) -> u32
     ensures { result ≡ head_at cap t.now h }
 {
@@ -167,8 +133,9 @@ pub fn bucket(hash: u32, cap: u32) -> u32
     if cap == 0 {
         return 0;
     }
-    let all = cap as u64;
-    let at = (hash as u64 / 512) * all / 8388608 + hash as u64 % 512;
+    let all = u64::from(cap);
+    let hash = u64::from(hash);
+    let at = hash / 512 * all / 8388608 + hash % 512;
     if at < all {
         return at as u32;
     }
@@ -176,6 +143,7 @@ pub fn bucket(hash: u32, cap: u32) -> u32
 }
 
 // Row n, with its link, at the head of bucket h.
+#[tactic(auto, unfolding(crate::specs::Table::append_of))]
 fn append(t: &mut [u32], cap: u32, n: u32, row: Row, link: u32, h: u32)
     requires { n < max_rows }
     ensures { t.new ≡ append_of cap t.old n row link h }
@@ -195,17 +163,16 @@ pub fn head_of(t: &[u32], hash: u32) -> u32
 }
 
 // The count of rows after one that there was no room for: capacity + 1, and above that as it was.
+#[tactic(auto, using(crate::proofs::Room::cap_most), unfolding(crate::specs::Table::over_of))]
 pub fn over(t: &[u32], n: u32) -> u32
     ensures { result ≡ over_of n (capacity_of (length t.now)) }
 {
     let cap = capacity(t);
-    if cap < n {
-        return n;
-    }
-    cap + 1
+    n.max(cap + 1)
 }
 
 // Row n, at the head of the bucket of its hash, where there is room. The answer is the count of rows after it.
+#[tactic(auto, using(crate::proofs::Room::cap_most), unfolding(crate::specs::Table::push_of))]
 pub fn push(t: &mut [u32], n: u32, row: Row, hash: u32) -> u32
     ensures { left result t.new ≡ push_of t.old n row hash }
 {
@@ -219,121 +186,116 @@ pub fn push(t: &mut [u32], n: u32, row: Row, hash: u32) -> u32
     over(t, n)
 }
 
-// What of a row is compared: its first word alone where the width is that, else all of it.
-pub fn key(row: Row, width: u32) -> Row
-    ensures { result ≡ key_of width row }
-{
-    if width == FIRST {
-        return Row {
-            a: row.a,
-            b: 0,
-            c: 0,
-            d: 0,
-            e: 0,
-            f: 0,
-        };
+impl Key {
+    // The words of a row that are compared, and 0 in place of the others.
+    #[tactic(auto, unfolding(crate::specs::Table::key_of))]
+    pub fn of(self, row: Row) -> Row
+        ensures { result ≡ key_of (width_of self) row }
+    {
+        match self {
+            Key::First => Row {
+                a: row.a,
+                ..Row::default()
+            },
+            Key::Whole => row,
+        }
     }
-    row
-}
-
-fn same(x: Row, y: Row) -> bool
-    ensures { result ≡ same_row x y }
-{
-    if x.a != y.a {
-        return false;
-    }
-    if x.b != y.b {
-        return false;
-    }
-    if x.c != y.c {
-        return false;
-    }
-    if x.d != y.d {
-        return false;
-    }
-    if x.e != y.e {
-        return false;
-    }
-    x.f == y.f
 }
 
 // The words by factors that no power of two divides, modulo a prime. Of the first word its block of 4,096 counts there, and its place in the block is added by
 // sixteens, so that starts that are near each other have buckets that are. Blocks go by the golden section: those that follow each other lie apart, and hardly
 // overlap.
+#[tactic(auto, unfolding(crate::specs::Table::hash_of))]
 pub fn hash(k: Row) -> u32
     ensures { result ≡ hash_of k }
 {
-    let s = (k.a as u64 / 4096) * 2654435443
-        + (k.b as u64) * 378551279
-        + (k.c as u64) * 511286833
-        + (k.d as u64) * 296414521
-        + (k.e as u64) * 347229887
-        + (k.f as u64) * 467201681;
+    let s = (u64::from(k.a) / 4096) * 2654435443
+        + u64::from(k.b) * 378551279
+        + u64::from(k.c) * 511286833
+        + u64::from(k.d) * 296414521
+        + u64::from(k.e) * 347229887
+        + u64::from(k.f) * 467201681;
     (s % 4294966769) as u32 / 512 * 512 + k.a % 4096 / 16
 }
 
-// Whether row i has the key k: its first word is looked at first.
-fn hit(t: &[u32], i: u32, k: Row, width: u32) -> bool
-    ensures { result ≡ hit_at t.now width k i }
-{
-    let a = word(t, (i as usize) * ROW);
-    if a == k.a {
-        return same(key(row_at(t, i), width), k);
-    }
-    false
+// What a row is looked for by, along a chain.
+pub trait Probe {
+    // Whether row i of a table is such a row.
+    ghost hits: { Self → List ℕ → ℕ → Bool };
+
+    fn hits(&self, t: &[u32], i: u32) -> bool
+        ensures { result ≡ hits self.now t.now i };
 }
 
-// The row below n with the key k, along the chain that starts at link l; n where there is none. Row numbers must fall on the way, so it ends on any content.
-fn find(t: &[u32], n: u32, l: u32, k: Row, width: u32) -> u32
-    ensures { result ≡ walk (link_at t.now) (hit_at t.now width k) n n l }
+// A row by the words of its key.
+#[derive(Clone, Copy)]
+struct Keyed {
+    key: Key,
+    words: Row,
+}
+
+impl Probe for Keyed {
+    ghost hits = { λ k t i. hit_at t (width_of k.key) k.words i };
+
+    // The first word is looked at first.
+    fn hits(&self, t: &[u32], i: u32) -> bool {
+        word(t, (i as usize) * ROW) == self.words.a && self.key.of(row_at(t, i)) == self.words
+    }
+}
+
+// The newest row below n that is looked for, along the chain that starts at link l. Row numbers must fall on the way, so it ends on any content.
+pub fn follow<P: Probe>(t: &[u32], n: u32, l: u32, probe: &P) -> Option<u32>
+    ensures { result ≡ found_of n (walk (link_at t.now) (P.hits probe.now t.now) n n l) }
 {
     let mut bound = n;
     let mut at = l;
+    // No `for`: a chain of links is followed, which counts nothing.
     while 0 < at && at <= bound {
         let i = at - 1;
-        if hit(t, i, k, width) {
-            return i;
+        if probe.hits(t, i) {
+            return Some(i);
         }
         bound = i;
         at = link_at(t, i);
     }
-    n
+    None
 }
 
 // The number + 1 of the newest row in the bucket of the key of `row`, which may have it; 0 where there is none.
-fn newest(t: &[u32], row: Row, width: u32) -> u32
-    ensures { result ≡ newest_of width t.now row }
+#[tactic(auto, unfolding(crate::specs::Table::newest_of))]
+fn newest(t: &[u32], row: Row, key: Key) -> u32
+    ensures { result ≡ newest_of (width_of key) t.now row }
 {
-    head_of(t, hash(key(row, width)))
+    head_of(t, hash(key.of(row)))
 }
 
-// The number of the row with the key of `row` among the first n; n where there is none.
-pub fn lookup(t: &[u32], n: u32, row: Row, width: u32) -> u32
-    ensures { result ≡ lookup_of width t.now n row }
+// The number of the row with the key of `row` among the first n.
+#[tactic(auto, unfolding(crate::specs::Table::lookup_of))]
+pub fn lookup(t: &[u32], n: u32, row: Row, key: Key) -> Option<u32>
+    ensures { result ≡ found_of n (lookup_of (width_of key) t.now n row) }
 {
-    let l = newest(t, row, width);
-    find(t, n, l, key(row, width), width)
+    let words = key.of(row);
+    follow(t, n, newest(t, row, key), &Keyed { key, words })
 }
 
 // The number of the row with the key of `row`, which is appended where there is none. With no room nothing is written, and the count is capacity + 1.
-fn insert(t: &mut [u32], n: u32, row: Row, width: u32) -> Inserted
-    ensures { left result t.new ≡ insert_of width t.old n row }
+fn insert(t: &mut [u32], n: u32, row: Row, key: Key) -> Inserted
+    ensures { left result t.new ≡ insert_of (width_of key) t.old n row }
 {
     let cap = capacity(t);
-    let k = key(row, width);
-    let h = bucket(hash(k), cap);
+    let words = key.of(row);
+    let h = bucket(hash(words), cap);
     let l = head_at(t, cap, h);
-    let i = find(t, n, l, k, width);
-    if i < n {
-        return Inserted { index: i, count: n };
+    if let Some(index) = follow(t, n, l, &Keyed { key, words }) {
+        return Inserted { index, count: n };
     }
     if n < cap {
         append(t, cap, n, row, l, h);
         return Inserted {
-            index: i,
+            index: n,
             count: n + 1,
         };
     }
     let count = over(t, n);
-    Inserted { index: i, count }
+    Inserted { index: n, count }
 }

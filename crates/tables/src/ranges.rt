@@ -3,19 +3,12 @@ ghost use Rattle.std.specs.Prelude.{◌≡◌};
 ghost use Rattle.tables.specs.Table.{newest_of, left};
 ghost use Rattle.tables.specs.Ranges.{start_row_lem, get_of, put_of, replace_of, range_row_lem};
 
-use crate::Row;
-use crate::kinds::{location_of_row, row_of_range, row_of_start};
+use crate::kinds::{RangeRow, start_row};
+use crate::{Key, Row};
 use raw::SourceLocation;
 
-// What a start holds.
-#[derive(Clone, Copy)]
-pub enum Found {
-    Absent,
-    At(SourceLocation),
-}
-
 // What a start held before it was put.
-#[derive(Clone, Copy)]
+#[derive(Clone, Copy, PartialEq, Eq)]
 pub enum Was {
     Vacant,
     Same,
@@ -34,51 +27,51 @@ pub struct Change {
 pub fn newest(t: &[u32], start: u32) -> u32
     ensures { result ≡ newest_of 1 t.now (start_row_lem start) }
 {
-    crate::newest(t, row_of_start(start), crate::FIRST)
+    crate::newest(t, start_row(start), Key::First)
 }
 
 // The location at a start.
-pub fn get(t: &[u32], count: u32, start: u32) -> Found
+pub fn get(t: &[u32], count: u32, start: u32) -> Option<SourceLocation>
     ensures { result ≡ get_of t.now count start }
 {
-    let i = crate::lookup(t, count, row_of_start(start), crate::FIRST);
-    if i < count {
-        return Found::At(location_of_row(crate::row_at(t, i)));
-    }
-    Found::Absent
+    let i = crate::lookup(t, count, start_row(start), Key::First)?;
+    Some(RangeRow::from(crate::row_at(t, i)).location)
 }
 
 // The location at a start becomes loc. A count above the capacity changes nothing.
 pub fn put(t: &mut [u32], count: u32, start: u32, loc: SourceLocation) -> Change
     ensures { left result t.new ≡ put_of t.old count (range_row_lem start loc) }
 {
-    let cap = crate::capacity(t);
-    if cap < count {
+    if crate::capacity(t) < count {
         return Change {
             index: count,
             count,
             was: Was::Vacant,
         };
     }
-    let row = row_of_range(start, loc);
-    let got = crate::insert(t, count, row, crate::FIRST);
-    let index = got.index;
-    if index < count {
-        let was = replace(t, index, row);
-        return Change { index, count, was };
-    }
+    let row = Row::from(RangeRow {
+        start,
+        location: loc,
+    });
+    let got = crate::insert(t, count, row, Key::First);
+    let was = if got.index < count {
+        replace(t, got.index, row)
+    } else {
+        Was::Vacant
+    };
     Change {
-        index,
+        index: got.index,
         count: got.count,
-        was: Was::Vacant,
+        was,
     }
 }
 
 // Row i becomes row.
+#[tactic(auto, using(crate::proofs::Rows::equal_same), unfolding(crate::specs::Ranges::replace_of))]
 fn replace(t: &mut [u32], i: u32, row: Row) -> Was
     ensures { left result t.new ≡ replace_of t.old i row }
 {
-    if crate::same(crate::row_at(t, i), row) {
+    if crate::row_at(t, i) == row {
         return Was::Same;
     }
     crate::set_row(t, i, row);

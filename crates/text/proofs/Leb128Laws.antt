@@ -14,8 +14,10 @@ use lib.Pow.{are_bytes}
 use lib.Seq.{drop_at, sets}
 use borrow.Author.Tests.{ltb-true, leb-true, lt-ltb, le-ltb, le-leb, lt-leb}
 use Rattle.slices.proofs.Cases.{lt-or_ge, and_left, and_right}
-use Rattle.text.specs.Leb128.{leb_value, well_formed, encoded_in, encoded, leb_prefix, leb_number, decoded, Accepted, written, wrote_leb}
-use Rattle.text.specs.declared.leb128.Leb.TheVariants.{Absent, Number}
+use Rattle.text.specs.Leb128.{leb_value, well_formed, encoded_in, encoded, leb_prefix, leb_number, number, decoded, Accepted, written, wrote_leb}
+use Rattle.std.specs.Prelude.{Some, None}
+use Rattle.std.proofs.lemmas.Option.{same_Some}
+use Rattle.text.specs.declared.leb128.Leb.{Leb}
 
 -- ---- the encoding
 
@@ -123,11 +125,11 @@ put_last s i v h = rw (encoded-last v h)
 pub put-more : (s : List ℕ) (i v : ℕ) → 128 ≤ v → sets (set s i (v % 128 + 128)) (i + 1) (encoded (v / 128)) ≡ sets s i (encoded v)
 put-more s i v h = rw (encoded-more v h, add-one i)
 
-pub wrote-all : (s t : List ℕ) (at v n : ℕ) → n ≡ length (encoded v) → t ≡ sets s at (encoded v) → at + n ≤ length s → written n t ≡ wrote_leb s at v
+pub wrote-all : (s t : List ℕ) (at v n : ℕ) → n ≡ length (encoded v) → t ≡ sets s at (encoded v) → at + n ≤ length s → written (Some n) t ≡ wrote_leb s at v
 unfolding wrote_leb
 wrote-all s t at v n e f h = rw (e, f, le-leb (at + length (encoded v)) (length s) (omega arith))
 
-pub wrote_none : (s : List ℕ) (at v n : ℕ) → n ≡ length (encoded v) → length s < at + n → written 0 s ≡ wrote_leb s at v
+pub wrote_none : (s : List ℕ) (at v n : ℕ) → n ≡ length (encoded v) → length s < at + n → written None s ≡ wrote_leb s at v
 unfolding wrote_leb
 wrote_none s at v n e h = rw (lt-leb (at + length (encoded v)) (length s) (omega arith))
 
@@ -156,22 +158,23 @@ prefix_suffix (b ∷ s) = go (ltb b 128) (prefix_suffix s)
     go true r = refl
     go false r = ap (λ t. b ∷ t) r
 
-pub decoded_accepts : (s : List ℕ) (at v n : ℕ) → Accepted s at v n → decoded s at ≡ Number v n
+pub decoded_accepts : (s : List ℕ) (at v n : ℕ) → Accepted s at v n → decoded s at ≡ number v n
 unfolding decoded leb_number
 decoded_accepts s at v n a =
     rw (a.stands, prefix_formed a.form a.rest a.formed, a.formed, a.size, a.value, le-leb n 10 a.short, lt-ltb v (2 ^ 64) a.small)
 
-pub decoded-only : (s : List ℕ) (at v n : ℕ) → decoded s at ≡ Number v n → Accepted s at v n
+pub decoded-only : (s : List ℕ) (at v n : ℕ) → decoded s at ≡ number v n → Accepted s at v n
 unfolding decoded leb_number
 decoded-only s at v n e = go (well_formed p) (leb (length p) 10) (ltb (leb_value p) (2 ^ 64)) refl refl refl e
   where
     p : List ℕ
     p = leb_prefix (drop at s)
 
-    go : (x y z : Bool) → well_formed p ≡ x → leb (length p) 10 ≡ y → ltb (leb_value p) (2 ^ 64) ≡ z → cond (x && (y && z)) (Number (leb_value p) (length p)) Absent ≡ Number v n → Accepted s at v n
+    go : (x y z : Bool) → well_formed p ≡ x → leb (length p) 10 ≡ y → ltb (leb_value p) (2 ^ 64) ≡ z → cond (x && (y && z)) (number (leb_value p) (length p)) None ≡ number v n → Accepted s at v n
     go true true true ex ey ez f =
-        let ev : leb_value p ≡ v = cc in
-        let en : length p ≡ n = cc in
+        let same = same_Some _ _ f in
+        let ev : leb_value p ≡ v = ap (λ (x : Leb). x.value) same in
+        let en : length p ≡ n = ap (λ (x : Leb). x.len) same in
         record {
           form = p;
           rest = suffix (drop at s);
@@ -187,11 +190,11 @@ decoded-only s at v n e = go (well_formed p) (leb (length p) 10) (ltb (leb_value
     go false y z ex ey ez f = absurd (let z : ◌≡◌ {A = ℕ} 0 1 = cc in omega arith)
 
 -- decoding accepts exactly what the standard does within ten bytes and 64 bits
-pub decoded_exactly : (s : List ℕ) (at v n : ℕ) → (decoded s at ≡ Number v n) ↔ Accepted s at v n
+pub decoded_exactly : (s : List ℕ) (at v n : ℕ) → (decoded s at ≡ number v n) ↔ Accepted s at v n
 decoded_exactly s at v n = (decoded-only s at v n, decoded_accepts s at v n)
 
 -- decoding an encoding gives the number and its length, whatever stands before and after
-pub decoded-encoded : (p q : List ℕ) (v : ℕ) → v < 2 ^ 64 → decoded (p ++ (encoded v ++ q)) (length p) ≡ Number v (length (encoded v))
+pub decoded-encoded : (p q : List ℕ) (v : ℕ) → v < 2 ^ 64 → decoded (p ++ (encoded v ++ q)) (length p) ≡ number v (length (encoded v))
 decoded-encoded p q v h =
     decoded_accepts (p ++ (encoded v ++ q)) (length p) v (length (encoded v))
     record {
@@ -206,6 +209,6 @@ decoded-encoded p q v h =
     }
 
 -- an offset past the bytes
-pub decoded-past : (s : List ℕ) (at : ℕ) → length s ≤ at → Absent ≡ decoded s at
+pub decoded-past : (s : List ℕ) (at : ℕ) → length s ≤ at → None ≡ decoded s at
 unfolding decoded leb_number leb_prefix well_formed
 decoded-past s at h = rw (drop_of_length-le s h)

@@ -8,12 +8,13 @@ use lib.Dec.{leb}
 use lib.ListN.{length, take, drop, length-append, length-drop}
 use lib.Seq.{take_at, drop_at}
 use borrow.Author.Tests.{leb-true, le-leb, lt-leb}
-use Rattle.text.specs.Leb128.{well_formed, encoded, decoded, Accepted}
+use Rattle.text.specs.Leb128.{well_formed, encoded, number, decoded, Accepted}
 use Rattle.text.specs.Utf8.{utf8}
-use Rattle.text.specs.Texts.{text_after, read_text, bytes_of, text_part}
+use Rattle.text.specs.Texts.{part, text_after, read_text, bytes_of, text_part}
 use Rattle.text.specs.declared.leb128.Leb.{Leb}
-use Rattle.text.specs.declared.leb128.Leb.TheVariants as prefix
-use Rattle.text.specs.declared.strings.Text.TheVariants.{Absent, At}
+use Rattle.std.specs.Prelude.{Option, Some, None}
+use Rattle.std.proofs.lemmas.Option.{same_Some}
+use Rattle.text.specs.declared.strings.Text.{Text}
 use Rattle.text.proofs.Leb128Laws.{decoded-only, decoded-encoded}
 
 -- a well-formed sequence is not empty
@@ -23,7 +24,7 @@ formed-length [] w = absurd (false≢true w)
 formed-length (b ∷ p) w = omega arith
 
 -- a prefix lies inside the section
-pub prefix_within : (s : List ℕ) (at v n : ℕ) → decoded s at ≡ prefix.Number v n → at + n ≤ length s
+pub prefix_within : (s : List ℕ) (at v n : ℕ) → decoded s at ≡ number v n → at + n ≤ length s
 prefix_within s at v n e =
     let a : Accepted s at v n = decoded-only s at v n e in
     let l : length s - at ≡ length a.form + length a.rest = sym (length-drop at s) ∙ ap length a.stands ∙ length-append a.form a.rest in
@@ -32,12 +33,12 @@ prefix_within s at v n e =
 
 -- ---- the answers of `read_text`
 
-pub absent_prefix : (s : List ℕ) (at : ℕ) → prefix.Absent ≡ decoded s at → Absent ≡ read_text s at
+pub absent_prefix : (s : List ℕ) (at : ℕ) → None ≡ decoded s at → None ≡ read_text s at
 unfolding read_text text_after
 absent_prefix s at e = rw (← e)
 
-module _ (s : List ℕ) (at v n : ℕ) (e : prefix.Number v n ≡ decoded s at) where
-  pub absent-cut : length s - (at + n) < v → Absent ≡ read_text s at
+module _ (s : List ℕ) (at v n : ℕ) (e : number v n ≡ decoded s at) where
+  pub absent-cut : length s - (at + n) < v → None ≡ read_text s at
   unfolding read_text text_after
   absent-cut h = rw (← e, lt-leb v (length s - (at + n)) h)
 
@@ -46,47 +47,49 @@ module _ (s : List ℕ) (at v n : ℕ) (e : prefix.Number v n ≡ decoded s at) 
   span = omega arith
 
   -- b is what `is_utf8` answers for them
-  pub absent-bytes : {b : Bool} → v ≤ length s - (at + n) → b ≡ utf8 (take (at + n + v - (at + n)) (drop (at + n) s)) → b ≡ false → Absent ≡ read_text s at
+  pub absent-bytes : {b : Bool} → v ≤ length s - (at + n) → b ≡ utf8 (take (at + n + v - (at + n)) (drop (at + n) s)) → b ≡ false → None ≡ read_text s at
   unfolding read_text text_after
   absent-bytes h u eb = let w : utf8 (take v (drop (at + n) s)) ≡ false = rw span at (sym u ∙ eb) in rw (← e, le-leb v (length s - (at + n)) h, w)
 
-  pub present : {b : Bool} → v ≤ length s - (at + n) → b ≡ utf8 (take (at + n + v - (at + n)) (drop (at + n) s)) → b ≡ true → At (at + n) v ≡ read_text s at
+  pub present : {b : Bool} → v ≤ length s - (at + n) → b ≡ utf8 (take (at + n + v - (at + n)) (drop (at + n) s)) → b ≡ true → part (at + n) v ≡ read_text s at
   unfolding read_text text_after
   present h u eb = let w : utf8 (take v (drop (at + n) s)) ≡ true = rw span at (sym u ∙ eb) in rw (← e, le-leb v (length s - (at + n)) h, w)
 
 -- a text that was read lies inside the section
-pub text-within : (s : List ℕ) (at start len : ℕ) → read_text s at ≡ At start len → start + len ≤ length s
+pub text-within : (s : List ℕ) (at start len : ℕ) → read_text s at ≡ part start len → start + len ≤ length s
 unfolding read_text text_after
 text-within s at start len e = go (decoded s at) refl e
   where
-    inside : (v n : ℕ) (t u : Bool) → leb v (length s - (at + n)) ≡ t → at + n ≤ length s → cond (t && u) (At (at + n) v) Absent ≡ At start len → start + len ≤ length s
+    inside : (v n : ℕ) (t u : Bool) → leb v (length s - (at + n)) ≡ t → at + n ≤ length s → cond (t && u) (part (at + n) v) None ≡ part start len → start + len ≤ length s
     inside v n true true h w f =
-        let es : at + n ≡ start = cc in
-        let el : v ≡ len = cc in
+        let same = same_Some _ _ f in
+        let es : at + n ≡ start = ap (λ (x : Text). x.start) same in
+        let el : v ≡ len = ap (λ (x : Text). x.len) same in
         omega (arith, leb-true v (length s - (at + n)) h)
     inside v n true false h w f = absurd (let z : ◌≡◌ {A = ℕ} 0 1 = cc in omega arith)
     inside v n false u h w f = absurd (let z : ◌≡◌ {A = ℕ} 0 1 = cc in omega arith)
 
-    go : (d : Leb) → decoded s at ≡ d → text_after s at d ≡ At start len → start + len ≤ length s
-    go prefix.Absent ed f = absurd (let z : ◌≡◌ {A = ℕ} 0 1 = cc in omega arith)
-    go (prefix.Number v n) ed f = inside v n (leb v (length s - (at + n))) (utf8 (take v (drop (at + n) s))) refl (prefix_within s at v n ed) f
+    go : (d : Option Leb) → decoded s at ≡ d → text_after s at d ≡ part start len → start + len ≤ length s
+    go None ed f = absurd (let z : ◌≡◌ {A = ℕ} 0 1 = cc in omega arith)
+    go (Some p) ed f = inside p.value p.len (leb p.value (length s - (at + p.len))) (utf8 (take p.value (drop (at + p.len) s))) refl (prefix_within s at p.value p.len ed) f
 
 -- and it is UTF-8
-pub text-utf8 : (s : List ℕ) (at start len : ℕ) → read_text s at ≡ At start len → utf8 (take len (drop start s)) ≡ true
+pub text-utf8 : (s : List ℕ) (at start len : ℕ) → read_text s at ≡ part start len → utf8 (take len (drop start s)) ≡ true
 unfolding read_text text_after
 text-utf8 s at start len e = go (decoded s at) e
   where
-    valid : (v n : ℕ) (t u : Bool) → utf8 (take v (drop (at + n) s)) ≡ u → cond (t && u) (At (at + n) v) Absent ≡ At start len → utf8 (take len (drop start s)) ≡ true
+    valid : (v n : ℕ) (t u : Bool) → utf8 (take v (drop (at + n) s)) ≡ u → cond (t && u) (part (at + n) v) None ≡ part start len → utf8 (take len (drop start s)) ≡ true
     valid v n true true h f =
-        let es : at + n ≡ start = cc in
-        let el : v ≡ len = cc in
+        let same = same_Some _ _ f in
+        let es : at + n ≡ start = ap (λ (x : Text). x.start) same in
+        let el : v ≡ len = ap (λ (x : Text). x.len) same in
         rw (es, el) at h
     valid v n true false h f = absurd (let z : ◌≡◌ {A = ℕ} 0 1 = cc in omega arith)
     valid v n false u h f = absurd (let z : ◌≡◌ {A = ℕ} 0 1 = cc in omega arith)
 
-    go : (d : Leb) → text_after s at d ≡ At start len → utf8 (take len (drop start s)) ≡ true
-    go prefix.Absent f = absurd (let z : ◌≡◌ {A = ℕ} 0 1 = cc in omega arith)
-    go (prefix.Number v n) f = valid v n (leb v (length s - (at + n))) (utf8 (take v (drop (at + n) s))) refl f
+    go : (d : Option Leb) → text_after s at d ≡ part start len → utf8 (take len (drop start s)) ≡ true
+    go None f = absurd (let z : ◌≡◌ {A = ℕ} 0 1 = cc in omega arith)
+    go (Some p) f = valid p.value p.len (leb p.value (length s - (at + p.len))) (utf8 (take p.value (drop (at + p.len) s))) refl f
 
 -- ---- what is stored reads back
 
@@ -98,7 +101,7 @@ stored_bytes p t q =
     ∙ take_at t q (length t) refl
 
 -- a text stored after its length, at the end of p, reads as exactly that text, whatever stands before and after
-pub read-stored : (p t q : List ℕ) → length t < 2 ^ 64 → utf8 t ≡ true → read_text (p ++ (encoded (length t) ++ (t ++ q))) (length p) ≡ At (length p + length (encoded (length t))) (length t)
+pub read-stored : (p t q : List ℕ) → length t < 2 ^ 64 → utf8 t ≡ true → read_text (p ++ (encoded (length t) ++ (t ++ q))) (length p) ≡ part (length p + length (encoded (length t))) (length t)
 unfolding read_text text_after
 read-stored p t q h u =
     rw
@@ -110,10 +113,10 @@ part-stored p t q h u = rw (read-stored p t q h u) (stored_bytes p t q)
 
 -- ---- the answers of `text_part`
 
-pub part-absent : (s : List ℕ) (at : ℕ) → Absent ≡ read_text s at → [] ≡ text_part s at
+pub part-absent : (s : List ℕ) (at : ℕ) → None ≡ read_text s at → [] ≡ text_part s at
 unfolding text_part bytes_of
 part-absent s at e = rw (← e)
 
-pub part-present : (s : List ℕ) (at start len : ℕ) → At start len ≡ read_text s at → take (start + len - start) (drop start s) ≡ text_part s at
+pub part-present : (s : List ℕ) (at start len : ℕ) → part start len ≡ read_text s at → take (start + len - start) (drop start s) ≡ text_part s at
 unfolding text_part bytes_of
 part-present s at start len e = let k : start + len - start ≡ len = omega arith in rw (← e, k)

@@ -13,7 +13,9 @@ use lib.Seq.{take_all, drop-append-le, drop-cons, split_at}
 use borrow.Author.Tests.{le-leb, lt-leb, leb-true, ltb-true}
 use Rattle.text.specs.Utf8.{Range, ◌to◌, Utf8Tail, Utf8Char, within, fits, char_len, utf8, scalar, encode, encode_all, all_scalar}
 use Rattle.slices.proofs.Cases.{lt-or_ge, and_left, and_right}
-use Rattle.text.proofs.Utf8Steps.{char_len-le, utf8_nil, utf8-none, utf8_char}
+use Rattle.std.specs.Prelude.{Option, Some, None}
+use Rattle.std.proofs.lemmas.Option.{same_Some, none-some}
+use Rattle.text.proofs.Utf8Steps.{char_within, utf8_nil, utf8-none, utf8_char}
 
 -- A cut at an ASCII octet b. In every alternative the ranges after the first lie above ASCII, so b is no part of a char that began before it.
 high : List Range → Bool
@@ -42,23 +44,23 @@ module _ (b : ℕ) (q : List ℕ) (ascii : b < 128) where
   char_len-cut ([] ∷ rows) h x p = absurd (false≢true h)
   char_len-cut ((r ∷ rs) ∷ rows) h x p = rw (fits_cut rs (and_left (high rs) (tails-high rows) h) p, char_len-cut rows (and_right (high rs) (tails-high rows) h) x p)
 
-  ascii_char : char_len Utf8Char (b ∷ q) ≡ 1
+  ascii_char : char_len Utf8Char (b ∷ q) ≡ Some 1
   unfolding char_len Utf8Char fits within
   ascii_char = rw (le-leb 0 b (omega arith), le-leb b 0x7F (omega arith))
 
   cut : (n : ℕ) (p : List ℕ) → length p ≤ n → utf8 (p ++ (b ∷ q)) ≡ (utf8 p && utf8 q)
   unfolding tails-high high Utf8Char
-  cut zero [] h = rw utf8_nil (utf8_char (b ∷ q) 0 ascii_char)
-  cut (suc n) [] h = rw utf8_nil (utf8_char (b ∷ q) 0 ascii_char)
+  cut zero [] h = rw utf8_nil (utf8_char (b ∷ q) 1 ascii_char)
+  cut (suc n) [] h = rw utf8_nil (utf8_char (b ∷ q) 1 ascii_char)
   cut zero (x ∷ p) h = absurd (omega arith)
-  cut (suc n) (x ∷ p) h = go (λ k. cut n (drop k p) (omega (arith, length-drop k p))) (char_len Utf8Char (x ∷ p)) refl
+  cut (suc n) (x ∷ p) h = go (λ k l. cut n (drop k (x ∷ p)) (omega (arith, length-drop k (x ∷ p)))) (char_len Utf8Char (x ∷ p)) refl
     where
-      go : ((k : ℕ) → utf8 (drop k p ++ (b ∷ q)) ≡ (utf8 (drop k p) && utf8 q)) → (k : ℕ) → char_len Utf8Char (x ∷ p) ≡ k → utf8 (x ∷ (p ++ (b ∷ q))) ≡ (utf8 (x ∷ p) && utf8 q)
-      go f zero e = rw (utf8-none (x ∷ p) (omega arith) e) (utf8-none (x ∷ (p ++ (b ∷ q))) (omega arith) (char_len-cut Utf8Char refl x p ∙ e))
-      go f (suc k) e =
-          let l : suc k ≤ length (x ∷ p) = omega (arith, char_len-le Utf8Char (x ∷ p)) in
+      go : ((k : ℕ) → 0 < k → utf8 (drop k (x ∷ p) ++ (b ∷ q)) ≡ (utf8 (drop k (x ∷ p)) && utf8 q)) → (o : Option ℕ) → char_len Utf8Char (x ∷ p) ≡ o → utf8 (x ∷ (p ++ (b ∷ q))) ≡ (utf8 (x ∷ p) && utf8 q)
+      go f None e = rw (utf8-none (x ∷ p) (omega arith) e) (utf8-none (x ∷ (p ++ (b ∷ q))) (omega arith) (char_len-cut Utf8Char refl x p ∙ e))
+      go f (Some k) e =
+          let w = char_within (x ∷ p) k e in
           rw (utf8_char (x ∷ p) k e)
-          (utf8_char (x ∷ (p ++ (b ∷ q))) k (char_len-cut Utf8Char refl x p ∙ e) ∙ rw (drop-append-le k p (b ∷ q) (omega arith)) (f k))
+          (utf8_char (x ∷ (p ++ (b ∷ q))) k (char_len-cut Utf8Char refl x p ∙ e) ∙ rw (drop-append-le k (x ∷ p) (b ∷ q) w.1) (f k w.0))
 
 pub ascii-cut : (p : List ℕ) (b : ℕ) (q : List ℕ) → b < 128 → utf8 (p ++ (b ∷ q)) ≡ (utf8 p && utf8 q)
 ascii-cut p b q h = cut b q h (length p) p (omega arith)
@@ -113,18 +115,18 @@ over : (r : Range) (a : ℕ) → r.hi < a → within r a ≡ false
 unfolding within
 over r a h = rw (lt-leb a r.hi h) (and-false (leb r.lo a))
 
-chosen : (lo a : ℕ) (s : List ℕ) → lo ≤ a → (rows : List (List Range)) (k : ℕ) → passed lo rows k ≡ true → fits (get_or rows k []) (a ∷ s) ≡ true → char_len rows (a ∷ s) ≡ length (get_or rows k [])
+chosen : (lo a : ℕ) (s : List ℕ) → lo ≤ a → (rows : List (List Range)) (k n : ℕ) → passed lo rows k ≡ true → length (get_or rows k []) ≡ suc n → fits (get_or rows k []) (a ∷ s) ≡ true → char_len rows (a ∷ s) ≡ Some (suc n)
 unfolding passed char_len fits
-chosen lo a s l [] k h f = refl
-chosen lo a s l (r ∷ rows) zero h f = rw f
-chosen lo a s l ([] ∷ rows) (suc k) h f = absurd (false≢true h)
-chosen lo a s l ((r ∷ rs) ∷ rows) (suc k) h f =
-    let e : within r a ≡ false = over r a (omega (arith, ltb-true r.hi lo (and_left (ltb r.hi lo) (passed lo rows k) h))) in
-    rw e (chosen lo a s l rows k (and_right (ltb r.hi lo) (passed lo rows k) h) f)
+chosen lo a s l [] k n h e f = absurd (omega arith)
+chosen lo a s l (r ∷ rows) zero n h e f = rw (f, e)
+chosen lo a s l ([] ∷ rows) (suc k) n h e f = absurd (false≢true h)
+chosen lo a s l ((r ∷ rs) ∷ rows) (suc k) n h e f =
+    let o : within r a ≡ false = over r a (omega (arith, ltb-true r.hi lo (and_left (ltb r.hi lo) (passed lo rows k) h))) in
+    rw o (chosen lo a s l rows k n (and_right (ltb r.hi lo) (passed lo rows k) h) e f)
 
 -- the list begins with a char by row k, whose first octet is lo or more
 by_row : (k lo a : ℕ) (s : List ℕ) (n : ℕ) → passed lo Utf8Char k ≡ true → length (get_or Utf8Char k []) ≡ suc n → lo ≤ a → Fits (get_or Utf8Char k []) (a ∷ s) → utf8 (a ∷ s) ≡ utf8 (drop n s)
-by_row k lo a s n p e l f = utf8_char (a ∷ s) n (chosen lo a s l Utf8Char k p (fits-from (get_or Utf8Char k []) (a ∷ s) f) ∙ e)
+by_row k lo a s n p e l f = utf8_char (a ∷ s) (suc n) (chosen lo a s l Utf8Char k n p e (fits-from (get_or Utf8Char k []) (a ∷ s) f))
 
 module _ (c : ℕ) where
   encode_1 : c ≤ 0x7F → encode c ≡ c ∷ []
@@ -317,13 +319,13 @@ all-good = (
   ),
 )
 
-head : (rows : List (List Range)) → AllGood rows → (s : List ℕ) (k : ℕ) → char_len rows s ≡ suc k → Head s (suc k)
+head : (rows : List (List Range)) → AllGood rows → (s : List ℕ) (k : ℕ) → char_len rows s ≡ Some (suc k) → Head s (suc k)
 unfolding char_len
-head [] g s k e = absurd (omega arith)
+head [] g s k e = absurd (none-some (suc k) e)
 head (r ∷ rows) g s k e = go (head rows g.1 s k) (fits r s) refl e
   where
-    go : (char_len rows s ≡ suc k → Head s (suc k)) → (t : Bool) → fits r s ≡ t → cond t (length r) (char_len rows s) ≡ suc k → Head s (suc k)
-    go f true t e = rw e at (g.0 s (fits-to r s t))
+    go : (char_len rows s ≡ Some (suc k) → Head s (suc k)) → (t : Bool) → fits r s ≡ t → cond t (Some (length r)) (char_len rows s) ≡ Some (suc k) → Head s (suc k)
+    go f true t e = rw (same_Some _ _ e) at (g.0 s (fits-to r s t))
     go f false t e = f e
 
 -- s is the encodings of character numbers, one after another
@@ -337,11 +339,12 @@ sound (suc n) [] h v = ([], refl, refl)
 sound zero (b ∷ s) h v = absurd (omega arith)
 sound (suc n) (b ∷ s) h v = go (λ k. sound n (drop k s) (omega (arith, length-drop k s))) (char_len Utf8Char (b ∷ s)) refl
   where
-    go : ((k : ℕ) → utf8 (drop k s) ≡ true → Encoded (drop k s)) → (k : ℕ) → char_len Utf8Char (b ∷ s) ≡ k → Encoded (b ∷ s)
-    go f zero e = absurd (false≢true (sym (utf8-none (b ∷ s) (omega arith) e) ∙ v))
-    go f (suc k) e =
+    go : ((k : ℕ) → utf8 (drop k s) ≡ true → Encoded (drop k s)) → (o : Option ℕ) → char_len Utf8Char (b ∷ s) ≡ o → Encoded (b ∷ s)
+    go f None e = absurd (false≢true (sym (utf8-none (b ∷ s) (omega arith) e) ∙ v))
+    go f (Some zero) e = absurd (let w = char_within (b ∷ s) 0 e in omega arith)
+    go f (Some (suc k)) e =
         let c = head Utf8Char all-good (b ∷ s) k e in
-        let cs = f k (sym (utf8_char (b ∷ s) k e) ∙ v) in
+        let cs = f k (sym (utf8_char (b ∷ s) (suc k) e) ∙ v) in
         (c.0 ∷ cs.0, rw c.1 cs.1, c.2 ∙ ap (λ (l : List ℕ). encode c.0 ++ l) cs.2)
 
 pub utf8-sound : (s : List ℕ) → utf8 s ≡ true → (cs : List ℕ) × (all_scalar cs ≡ true) × (s ≡ encode_all cs)

@@ -1,8 +1,7 @@
 -- Unsigned LEB128 numbers, after DWARF 5, section 7.6. A byte is a natural number; its high bit is set where it is 128 or more. Assumes nothing.
-use Rattle.std.specs.Prelude.{ℕ, zero, suc, ◌+◌, ◌*◌, ◌/◌, ◌%◌, ◌^◌, ◌≤◌, ◌<◌, ◌≡◌, List, [], ◌∷◌, ◌++◌, Bool, true, false, cond, ◌&&◌, length, drop, ltb, leb}
+use Rattle.std.specs.Prelude.{Option, Some, None, ℕ, zero, suc, ◌+◌, ◌*◌, ◌/◌, ◌%◌, ◌^◌, ◌≤◌, ◌<◌, ◌≡◌, List, [], ◌∷◌, ◌++◌, Bool, true, false, cond, ◌&&◌, length, drop, ltb, leb}
 use Rattle.std.proofs.lemmas.List.Edits.{sets}
 use Rattle.text.specs.declared.leb128.Leb.{Leb}
-use Rattle.text.specs.declared.leb128.Leb.TheVariants.{Absent, Number}
 
 -- DWARF 5, section 7.6, in our words: the number is cut into groups of seven bits, which are the low bits of one byte each, the least significant group first
 unfoldable pub leb_value : List ℕ → ℕ
@@ -30,12 +29,16 @@ unfoldable pub leb_prefix : List ℕ → List ℕ
 leb_prefix [] = []
 leb_prefix (b ∷ s) = cond (ltb b 128) (b ∷ []) (b ∷ leb_prefix s)
 
+-- v, of n bytes
+abbrev pub number : ℕ → ℕ → Option Leb
+number v n = Some (record { value = v; len = n })
+
 -- the number that these bytes are, unless they are cut, more than ten, or above 64 bits (document 01, "Texts")
-unfoldable pub leb_number : List ℕ → Leb
-leb_number p = cond (well_formed p && (leb (length p) 10 && ltb (leb_value p) (2 ^ 64))) (Number (leb_value p) (length p)) Absent
+unfoldable pub leb_number : List ℕ → Option Leb
+leb_number p = cond (well_formed p && (leb (length p) 10 && ltb (leb_value p) (2 ^ 64))) (number (leb_value p) (length p)) None
 
 -- the number at an offset
-unfoldable pub decoded : List ℕ → ℕ → Leb
+unfoldable pub decoded : List ℕ → ℕ → Option Leb
 decoded s at = leb_number (leb_prefix (drop at s))
 
 -- what the standard and document 01 accept: n bytes at the offset are a number v, of at most ten bytes and 64 bits; longer forms than the shortest too
@@ -51,12 +54,12 @@ pub record Accepted (s : List ℕ) (at v n : ℕ) : Type 0 where
 
 -- what writing leaves: its answer, and the lent bytes
 pub record Written : Type 0 where
-  pub answer : ℕ
+  pub answer : Option ℕ
   pub bytes : List ℕ
 
-abbrev pub written : ℕ → List ℕ → Written
+abbrev pub written : Option ℕ → List ℕ → Written
 written n s = record { answer = n; bytes = s }
 
--- the shortest form of v from at on, with its number of bytes; 0, and nothing changed, where it does not fit
+-- the shortest form of v from at on, with its number of bytes; none, and nothing changed, where it does not fit
 unfoldable pub wrote_leb : List ℕ → ℕ → ℕ → Written
-wrote_leb s at v = cond (leb (at + length (encoded v)) (length s)) (written (length (encoded v)) (sets s at (encoded v))) (written 0 s)
+wrote_leb s at v = cond (leb (at + length (encoded v)) (length s)) (written (Some (length (encoded v))) (sets s at (encoded v))) (written None s)

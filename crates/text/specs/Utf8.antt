@@ -1,5 +1,5 @@
 -- UTF-8 as RFC 3629 has it: which lists of octets are UTF-8 (section 4), and how a number is encoded (section 3).
-use Rattle.std.specs.Prelude.{ℕ, zero, suc, ◌+◌, ◌/◌, ◌%◌, Bool, true, false, cond, ◌&&◌, ◌||◌, List, [], ◌∷◌, ◌++◌, leb, eqb, length, drop}
+use Rattle.std.specs.Prelude.{Option, Some, None, ℕ, zero, suc, ◌+◌, ◌/◌, ◌%◌, Bool, true, false, cond, ◌&&◌, ◌||◌, List, [], ◌∷◌, ◌++◌, leb, length, drop}
 
 -- Section 4. A range of octets, as %xC2-DF.
 pub record Range : Type 0 where
@@ -42,17 +42,17 @@ fits [] s = true
 fits (r ∷ rs) [] = false
 fits (r ∷ rs) (b ∷ s) = within r b && fits rs s
 
--- the length of the first alternative that fits the list; 0 where none does
-unfoldable pub char_len : List (List Range) → List ℕ → ℕ
-char_len [] s = 0
-char_len (r ∷ rs) s = cond (fits r s) (length r) (char_len rs s)
+-- the length of the first alternative that fits the list; none where none does
+unfoldable pub char_len : List (List Range) → List ℕ → Option ℕ
+char_len [] s = None
+char_len (r ∷ rs) s = cond (fits r s) (Some (length r)) (char_len rs s)
 
 -- UTF8-octets = *( UTF8-char ), of n chars at most
 unfoldable pub chars : ℕ → List ℕ → Bool
 chars zero [] = true
 chars zero (b ∷ s) = false
 chars (suc n) [] = true
-chars (suc n) (b ∷ s) = cond (eqb (char_len Utf8Char (b ∷ s)) 0) false (chars n (drop (char_len Utf8Char (b ∷ s)) (b ∷ s)))
+chars (suc n) (b ∷ s) = elim (char_len Utf8Char (b ∷ s)) [ None ↦ false | Some k ↦ chars n (drop k (b ∷ s)) ]
 
 -- the list is UTF-8; it has no more chars than octets
 unfoldable pub utf8 : List ℕ → Bool

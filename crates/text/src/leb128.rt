@@ -3,11 +3,11 @@ ghost use Rattle.std.specs.Prelude.{◌≡◌, ◌+◌, ◌≤◌, length};
 ghost use Rattle.std.proofs.lemmas.List.Edits.{sets};
 ghost use Rattle.text.specs.Leb128.{encoded, decoded, wrote_leb, written};
 
-// What reading a number at an offset finds.
-#[derive(Clone, Copy)]
-pub enum Leb {
-    Absent,
-    Number { value: u64, len: usize },
+// A number that was read, and how many bytes it takes.
+#[derive(Debug, Clone, Copy, PartialEq, Eq)]
+pub struct Leb {
+    pub value: u64,
+    pub len: usize,
 }
 
 // The number of bytes of the shortest form of v.
@@ -17,7 +17,7 @@ pub fn leb128_len(v: u64) -> usize
     let mut rest = v;
     let mut n = 1;
     while 128 <= rest {
-        rest = rest / 128;
+        rest /= 128;
         n += 1;
     }
     n
@@ -30,74 +30,53 @@ fn put_leb128(out: &mut [u8], at: usize, v: u64)
 {
     let mut rest = v;
     let mut i = at;
+    // how many bytes there are only the division shows: a `for` over them would count twice
     while rest >= 128 {
         out[i] = (rest % 128 + 128) as u8;
-        rest = rest / 128;
+        rest /= 128;
         i += 1;
     }
     out[i] = rest as u8;
 }
 
-// Writes the shortest form of v from at on and answers its number of bytes; 0, and nothing changed, where it doesn't fit.
-pub fn write_leb128(out: &mut [u8], at: usize, v: u64) -> usize
+// Writes the shortest form of v from at on and answers its number of bytes; where it doesn't fit nothing is changed.
+pub fn write_leb128(out: &mut [u8], at: usize, v: u64) -> Option<usize>
     ensures { written result out.new ≡ wrote_leb out.old at v }
 {
     let n = leb128_len(v);
-    if out.len() < n {
-        return 0;
-    }
-    if out.len() - n < at {
-        return 0;
+    if out.len() < at.checked_add(n)? {
+        return None;
     }
     put_leb128(out, at, v);
-    n
+    Some(n)
 }
 
-fn wide(b: u8) -> u64
-    ensures { result ≡ b }
-{
-    b as u64
-}
-
-// The number at an offset: absent where it is cut, or has more than ten bytes or 64 bits.
-pub fn read_leb128(s: &[u8], at: usize) -> Leb
+// The number at an offset: none where it is cut, or has more than ten bytes or 64 bits.
+pub fn read_leb128(s: &[u8], at: usize) -> Option<Leb>
     ensures { result ≡ decoded s.now at }
 {
-    if s.len() < at {
-        return Leb::Absent;
-    }
-    let left = s.len() - at;
+    let rest = s.get(at..)?;
     let mut value = 0u64;
     // 128 to the power of i
     let mut unit = 1u64;
-    let mut i = 0;
-    while i < 9 {
-        if left <= i {
-            return Leb::Absent;
-        }
-        let byte = wide(s[at + i]);
+    for i in 0..9 {
+        let byte = u64::from(*rest.get(i)?);
         if byte < 128 {
-            let last = unit * byte;
-            let whole = value + last;
-            let len = i + 1;
-            return Leb::Number { value: whole, len };
+            return Some(Leb {
+                value: value + unit * byte,
+                len: i + 1,
+            });
         }
-        value = value + unit * (byte - 128);
-        unit = unit * 128;
-        i += 1;
+        value += unit * (byte - 128);
+        unit *= 128;
     }
     // a tenth byte has room for one bit
-    if left <= 9 {
-        return Leb::Absent;
-    }
-    let tenth = wide(s[at + 9]);
+    let tenth = u64::from(*rest.get(9)?);
     if 1 < tenth {
-        return Leb::Absent;
+        return None;
     }
-    let high = unit * tenth;
-    let sum = value + high;
-    Leb::Number {
-        value: sum,
+    Some(Leb {
+        value: value + unit * tenth,
         len: 10,
-    }
+    })
 }

@@ -1,146 +1,94 @@
 // UTF-8 as RFC 3629, section 4, has it.
-ghost use Rattle.std.specs.Prelude.{◌≡◌, cond, ◌≤◌, [], ◌∷◌, drop};
-ghost use Rattle.text.specs.Utf8.{◌to◌, Utf8Char, within, fits, char_len, utf8};
+ghost use Rattle.std.specs.Prelude.{◌≡◌, map};
+ghost use Rattle.text.specs.Utf8.{◌to◌, Utf8Char, fits, char_len, utf8};
 ghost use Rattle.text.specs.Utf8Runs.{eights, run_len};
 
-// The octet at k is there and lies in the range.
-fn octet(s: &[u8], k: usize, lo: u8, hi: u8) -> bool
-    ensures { result ≡ fits (lo to hi ∷ []) (drop k s.now) }
+// UTF8-tail = %x80-BF
+const TAIL: (u8, u8) = (0x80, 0xBF);
+
+// s begins with an octet in each of the ranges, in order.
+fn fits<const N: usize>(s: &[u8], ranges: [(u8, u8); N]) -> bool
+    ensures { result ≡ fits (map (λ r. r.0 to r.1) ranges.entry) s.now }
 {
-    if k < s.len() {
-        let b = s[k];
-        if lo <= b {
-            return b <= hi;
-        }
-    }
-    false
+    s.len() >= N
+        && s.iter()
+            .zip(&ranges)
+            .all(|(b, (lo, hi))| lo <= b && b <= hi)
 }
 
-// s begins with an octet in each of two ranges.
-fn two(s: &[u8], lo: u8, hi: u8, lo2: u8, hi2: u8) -> bool
-    ensures { result ≡ fits (lo to hi ∷ lo2 to hi2 ∷ []) s.now }
-{
-    if octet(s, 0, lo, hi) {
-        return octet(s, 1, lo2, hi2);
-    }
-    false
-}
-
-// The same with three.
-fn three(s: &[u8], lo: u8, hi: u8, lo2: u8, hi2: u8, lo3: u8, hi3: u8) -> bool
-    ensures { result ≡ fits (lo to hi ∷ lo2 to hi2 ∷ lo3 to hi3 ∷ []) s.now }
-{
-    if two(s, lo, hi, lo2, hi2) {
-        return octet(s, 2, lo3, hi3);
-    }
-    false
-}
-
-// The same with four.
-fn four(s: &[u8], lo: u8, hi: u8, lo2: u8, hi2: u8, lo3: u8, hi3: u8, lo4: u8, hi4: u8) -> bool
-    ensures { result ≡ fits (lo to hi ∷ lo2 to hi2 ∷ lo3 to hi3 ∷ lo4 to hi4 ∷ []) s.now }
-{
-    if three(s, lo, hi, lo2, hi2, lo3, hi3) {
-        return octet(s, 3, lo4, hi4);
-    }
-    false
-}
-
-// The length of the UTF8-char that s begins with, by the nine alternatives; 0 where none fits.
-// Each case has the lowest and the highest octet of every place; UTF8-tail = %x80-BF.
-fn char_len(s: &[u8]) -> usize
+// The length of the UTF8-char that s begins with, by the nine alternatives; none where none fits.
+// Nine tests and not a loop over a table of them, which was tried: short names took longer than with the tests by hand.
+#[tactic(auto, unfolding(crate::specs::Utf8::char_len, crate::specs::Utf8::Utf8Char))]
+fn char_len(s: &[u8]) -> Option<usize>
     ensures { result ≡ char_len Utf8Char s.now }
 {
     // UTF8-1 = %x00-7F
-    if octet(s, 0, 0x00, 0x7F) {
-        return 1;
+    if fits(s, [(0x00, 0x7F)]) {
+        return Some(1);
     }
     // UTF8-2 = %xC2-DF UTF8-tail
-    if two(s, 0xC2, 0xDF, 0x80, 0xBF) {
-        return 2;
+    if fits(s, [(0xC2, 0xDF), TAIL]) {
+        return Some(2);
     }
     // UTF8-3 = %xE0 %xA0-BF UTF8-tail /
-    if three(s, 0xE0, 0xE0, 0xA0, 0xBF, 0x80, 0xBF) {
-        return 3;
+    if fits(s, [(0xE0, 0xE0), (0xA0, 0xBF), TAIL]) {
+        return Some(3);
     }
     //          %xE1-EC 2( UTF8-tail ) /
-    if three(s, 0xE1, 0xEC, 0x80, 0xBF, 0x80, 0xBF) {
-        return 3;
+    if fits(s, [(0xE1, 0xEC), TAIL, TAIL]) {
+        return Some(3);
     }
     //          %xED %x80-9F UTF8-tail /
-    if three(s, 0xED, 0xED, 0x80, 0x9F, 0x80, 0xBF) {
-        return 3;
+    if fits(s, [(0xED, 0xED), (0x80, 0x9F), TAIL]) {
+        return Some(3);
     }
     //          %xEE-EF 2( UTF8-tail )
-    if three(s, 0xEE, 0xEF, 0x80, 0xBF, 0x80, 0xBF) {
-        return 3;
+    if fits(s, [(0xEE, 0xEF), TAIL, TAIL]) {
+        return Some(3);
     }
     // UTF8-4 = %xF0 %x90-BF 2( UTF8-tail ) /
-    if four(s, 0xF0, 0xF0, 0x90, 0xBF, 0x80, 0xBF, 0x80, 0xBF) {
-        return 4;
+    if fits(s, [(0xF0, 0xF0), (0x90, 0xBF), TAIL, TAIL]) {
+        return Some(4);
     }
     //          %xF1-F3 3( UTF8-tail ) /
-    if four(s, 0xF1, 0xF3, 0x80, 0xBF, 0x80, 0xBF, 0x80, 0xBF) {
-        return 4;
+    if fits(s, [(0xF1, 0xF3), TAIL, TAIL, TAIL]) {
+        return Some(4);
     }
     //          %xF4 %x80-8F 2( UTF8-tail )
-    if four(s, 0xF4, 0xF4, 0x80, 0x8F, 0x80, 0xBF, 0x80, 0xBF) {
-        return 4;
+    if fits(s, [(0xF4, 0xF4), (0x80, 0x8F), TAIL, TAIL]) {
+        return Some(4);
     }
-    0
+    None
 }
 
-// 0 where b lies in the range, else 1.
-fn outside(b: u8, lo: u8, hi: u8) -> u8
-    ensures { (result ≡ cond (within (lo to hi) b) 0 1) × (result ≤ 1) }
-{
-    if lo <= b {
-        if b <= hi {
-            return 0;
-        }
-    }
-    1
-}
-
-// One case more, for names and long texts: 8( UTF8-1 ), with UTF8-1 = %x00-7F at each of its eight places.
+// One case more, for names and long texts: 8( UTF8-1 ). All eight octets are below %x80 where their `|` is, which takes no jump.
 fn eight(s: &[u8]) -> bool
     ensures { result ≡ fits eights s.now }
 {
-    if s.len() < 8 {
-        return false;
+    match s.first_chunk::<8>() {
+        Some(octets) => octets.iter().fold(0, |all, b| all | b) < 0x80,
+        None => false,
     }
-    let n = outside(s[0], 0x00, 0x7F)
-        + outside(s[1], 0x00, 0x7F)
-        + outside(s[2], 0x00, 0x7F)
-        + outside(s[3], 0x00, 0x7F)
-        + outside(s[4], 0x00, 0x7F)
-        + outside(s[5], 0x00, 0x7F)
-        + outside(s[6], 0x00, 0x7F)
-        + outside(s[7], 0x00, 0x7F);
-    n == 0
 }
 
-// The length of the chars that s begins with: eight times UTF8-1 at once, or one char; 0 where none fits.
-fn run_len(s: &[u8]) -> usize
+// The length of the chars that s begins with: eight times UTF8-1 at once, or one char; none where none fits.
+#[tactic(auto, unfolding(crate::specs::Utf8Runs::run_len))]
+fn run_len(s: &[u8]) -> Option<usize>
     ensures { result ≡ run_len s.now }
 {
-    if eight(s) {
-        return 8;
-    }
-    char_len(s)
+    if eight(s) { Some(8) } else { char_len(s) }
 }
 
 // UTF8-octets = *( UTF8-char )
 pub fn is_utf8(s: &[u8]) -> bool
     ensures { result ≡ utf8 s.now }
 {
-    let mut i = 0;
-    while i < s.len() {
-        let n = run_len(&s[i..]);
-        if n == 0 {
+    let mut rest = s;
+    while !rest.is_empty() {
+        let Some(n) = run_len(rest) else {
             return false;
-        }
-        i += n;
+        };
+        rest = &rest[n..];
     }
     true
 }

@@ -2,31 +2,32 @@
 // them, so that what one has to wait for is fetched from memory while the others are. What is read goes to scratch memory, four words
 // a function, and nothing of it is used.
 use crate::tree::entry_pc;
+use memory::Tables;
+use rows::{FunctionRow, FunctionRows};
 use slices::{put, word};
 use tables::Row;
 
 // The newest row in the bucket of a function's name, as a link.
 fn name_link(
+    tables: &Tables,
     undecorate: bool,
-    strings: &[u32],
     s: &mut [u32],
-    functions64: &[u64],
-    functions32: &[u32],
+    q: FunctionRow,
     text: &[u8],
     i: u32,
 ) {
-    let k = (i as usize) * 4;
-    let q = rows::function_row(functions64, functions32, i as usize);
     let name = steps::shown_name(rows::part(text, q.name), undecorate);
-    put(s, k, strings::newest(strings, name));
+    put(s, i as usize * 4, strings::newest(tables.strings, name));
 }
 
 // The same for the range that starts at its address.
-fn range_link(ranges: &[u32], s: &mut [u32], functions64: &[u64], functions32: &[u32], i: u32) {
-    let k = (i as usize) * 4 + 1;
-    let q = rows::function_row(functions64, functions32, i as usize);
+fn range_link(tables: &Tables, s: &mut [u32], q: FunctionRow, i: u32) {
     let address = (q.address % 4294967296) as u32;
-    put(s, k, tables::ranges::newest(ranges, address));
+    put(
+        s,
+        i as usize * 4 + 1,
+        tables::ranges::newest(tables.ranges, address),
+    );
 }
 
 // The row that a link names; row 0 where it names none.
@@ -38,94 +39,76 @@ fn linked(t: &[u32], link: u32) -> Row {
 }
 
 // The offset of the name, and where its bytes begin.
-fn name_row(strings: &[u32], s: &mut [u32], i: u32) {
-    let k = (i as usize) * 4;
-    let row = linked(strings, word(s, k));
+fn name_row(tables: &Tables, s: &mut [u32], i: u32) {
+    let k = i as usize * 4;
+    let row = linked(tables.strings, word(s, k));
     put(s, k, row.a);
     put(s, k + 2, row.b);
-}
-
-fn wide(b: u8) -> u32 {
-    b as u32
 }
 
 // A byte of the texts, 0 past their end.
 fn byte(string_bytes: &[u8], at: usize) -> u32 {
     if at < string_bytes.len() {
-        return wide(string_bytes[at]);
+        return string_bytes[at] as u32;
     }
     0
 }
 
 // The first byte of the name, and one that lies 60 bytes on.
-fn name_bytes(string_bytes: &[u8], s: &mut [u32], i: u32) {
-    let k = (i as usize) * 4 + 2;
+fn name_bytes(tables: &Tables, s: &mut [u32], i: u32) {
+    let k = i as usize * 4 + 2;
     let at = word(s, k) as usize;
-    put(s, k, byte(string_bytes, at) ^ byte(string_bytes, at + 60));
+    put(
+        s,
+        k,
+        byte(tables.string_bytes, at) ^ byte(tables.string_bytes, at + 60),
+    );
 }
 
 // The newest row in the bucket of the function, as a link.
-fn function_link(
-    functions: &[u32],
-    s: &mut [u32],
-    functions64: &[u64],
-    functions32: &[u32],
-    i: u32,
-) {
-    let k = (i as usize) * 4;
-    let q = rows::function_row(functions64, functions32, i as usize);
-    let row = tables::kinds::row_of_function(raw::Function {
+fn function_link(tables: &Tables, s: &mut [u32], q: FunctionRow, i: u32) {
+    let k = i as usize * 4;
+    let row = Row::from(raw::Function {
         name_offset: word(s, k),
         comp_dir_offset: u32::MAX,
         entry_pc: entry_pc(q),
         lang: q.language,
     });
-    put(s, k, tables::index_set::newest(functions, row));
+    put(s, k, tables::index_set::newest(tables.functions, row));
 }
 
 // A word of the function's row.
-fn function_word(functions: &[u32], s: &mut [u32], i: u32) {
-    let k = (i as usize) * 4;
-    let row = linked(functions, word(s, k));
+fn function_word(tables: &Tables, s: &mut [u32], i: u32) {
+    let k = i as usize * 4;
+    let row = linked(tables.functions, word(s, k));
     put(s, k, row.a);
 }
 
-// At most eight functions are read ahead.
-fn few(n: usize) -> u32 {
-    if n < 8 {
-        return n as u32;
-    }
-    8
-}
-
-// Six steps, each for all of these functions. Later steps go on from what earlier ones left in scratch memory.
+// At most eight functions are read ahead. Six steps, each for all of these; later steps go on from what earlier ones left in scratch memory.
 pub(crate) fn read_ahead(
+    tables: &Tables,
     undecorate: bool,
-    string_bytes: &[u8],
-    strings: &[u32],
-    functions: &[u32],
-    ranges: &[u32],
     s: &mut [u32],
-    functions64: &[u64],
-    functions32: &[u32],
+    functions: FunctionRows,
     text: &[u8],
 ) {
-    let n = few(functions64.len() / 2);
-    let mut step: u32 = 0;
-    while step < 6 {
-        let mut next: u32 = 0;
-        while next < n {
-            let i = next;
-            next += 1;
-            match step {
-                0 => name_link(undecorate, strings, s, functions64, functions32, text, i),
-                1 => range_link(ranges, s, functions64, functions32, i),
-                2 => name_row(strings, s, i),
-                3 => name_bytes(string_bytes, s, i),
-                4 => function_link(functions, s, functions64, functions32, i),
-                _ => function_word(functions, s, i),
-            }
-        }
-        step += 1;
+    let n = functions.len().min(8) as u32;
+    for i in 0..n {
+        name_link(tables, undecorate, s, functions.row(i as usize), text, i);
+    }
+    for i in 0..n {
+        range_link(tables, s, functions.row(i as usize), i);
+    }
+    for i in 0..n {
+        name_row(tables, s, i);
+    }
+    for i in 0..n {
+        name_bytes(tables, s, i);
+    }
+    for i in 0..n {
+        function_link(tables, s, functions.row(i as usize), i);
+    }
+    for i in 0..n {
+        function_word(tables, s, i);
     }
 }

@@ -3,14 +3,14 @@ ghost use Rattle.std.specs.Prelude.{◌≡◌, cond, List, ℕ, ◌+◌, ◌*◌
 ghost use Rattle.model.specs.Machine.{advance_m};
 ghost use Rattle.model.specs.Converter.{Setup};
 ghost use Rattle.rows.specs.Columns.{columns, function_in_columns};
-ghost use Rattle.memory.specs.Memory.{words};
+ghost use Rattle.memory.specs.Memory.{SameTables, words_of};
 ghost use Rattle.steps.specs.Steps.{put_range};
 ghost use Rattle.writer.specs.Walk.{refs_from, cursor_at, LinesReady, LinesLeft};
 
 use crate::stack::Pairs;
-use memory::State;
+use memory::Tables;
 use raw::SourceLocation;
-use rows::FunctionRow;
+use rows::{FunctionRow, LineRows};
 use slices::{put, word};
 use steps::{comp_dir_part, insert_call_location, insert_range, locate_line};
 
@@ -63,58 +63,38 @@ fn find_call_location(
 
 // "insert_range", if the address is not covered by the next inlinee range, which starts at `inline_start`.
 fn insert_self_range(
-    state: State,
-    ranges: &mut [u32],
+    tables: &mut Tables,
     current_address: u32,
     inline_start: u32,
     source_location: SourceLocation,
-) -> State
-    ensures { (x i f g c : List ℕ) →
-        let before = words state x i f g c ranges.old in
-        let after = words result x i f g c ranges.new in
-        after ≡ cond (ltb current_address inline_start) (put_range current_address source_location before) before }
+)
+    ensures same { SameTables tables.old tables.new }
+    ensures put { let before = words_of tables.old in
+        words_of tables.new ≡ cond (ltb current_address inline_start) (put_range current_address source_location before) before }
 {
     if current_address < inline_start {
-        return insert_range(state, ranges, current_address, source_location);
+        insert_range(tables, current_address, source_location);
     }
-    state
-}
-
-// What the loop over the lines leaves: the first `callee_call_locations` of the inlinee ranges became call locations for the inlinees.
-#[derive(Clone, Copy)]
-pub(crate) struct Lines {
-    pub state: State,
-    pub callee_call_locations: usize,
 }
 
 // The lines of a function, whose first line row is `first_line`. Its inlinee ranges are pairs of start and end, sorted by start;
-// each that a line covers becomes a pair of start and call location.
+// each that a line covers becomes a pair of start and call location. The answer is how many became call locations for the inlinees.
 pub(crate) fn process_lines(
-    state: State,
-    string_bytes: &mut [u8],
-    strings: &mut [u32],
-    files: &mut [u32],
-    call_locations: &mut [u32],
-    ranges: &mut [u32],
+    tables: &mut Tables,
     s: &mut [u32],
-    lines64: &[u64],
-    lines32: &[u32],
+    line_rows: LineRows,
     text: &[u8],
     function: FunctionRow,
     first_line: usize,
     function_idx: u32,
     own: CallLocations,
     inlinee_ranges: Pairs,
-) -> Lines
-    requires { LinesReady function first_line own inlinee_ranges (length lines64.now / 3) (length s.old) }
-    ensures { (X : Setup) (f64 f32 g : List ℕ) (i : ℕ) → function ≡ function_in_columns f64 f32 i →
-        let k = columns f64 f32 lines64.now lines32.now text.now in
-        let before = words state string_bytes.old strings.old files.old g
-        call_locations.old ranges.old in
-        let after = words result.state string_bytes.new strings.new files.new g
-        call_locations.new ranges.new in
-        let made = result.callee_call_locations in
-        LinesLeft X k i first_line function_idx own inlinee_ranges s.old s.new before after made }
+) -> usize
+    requires { LinesReady function first_line own inlinee_ranges (length line_rows.columns64.now / 3) (length s.old) }
+    ensures same { SameTables tables.old tables.new }
+    ensures left { (X : Setup) (f64 f32 : List ℕ) (i : ℕ) → function ≡ function_in_columns f64 f32 i →
+        let k = columns f64 f32 line_rows.entry.columns64.now line_rows.entry.columns32.now text.now in
+        LinesLeft X k i first_line function_idx own inlinee_ranges s.old s.new (words_of tables.old) (words_of tables.new) result }
 {
     let comp_dir = comp_dir_part(text, function.comp_dir);
     let lines = function.lines;
@@ -123,20 +103,17 @@ pub(crate) fn process_lines(
     let inline_len = inlinee_ranges.len;
 
     // Walk three iterators. All of these are already sorted by address.
-    let mut next_line: u32 = 0;
     let mut call_location_iter = CallLocationIter {
         current_call_location: own.first,
         next_call_location: 0,
     };
     let mut next_inline: usize = 0;
 
-    let mut now = state;
     let mut current_address: u32 = 0;
 
     // Iterate over the line records.
-    while next_line < lines {
-        let line = rows::line_row(lines64, lines32, first_line + next_line as usize);
-        next_line += 1;
+    for next_line in 0..lines {
+        let line = line_rows.row(first_line + next_line as usize);
         let line_range = rows::line_boundaries(line.address, line.has_size, line.size);
         let line_range_start = line_range.start;
         let line_range_end = line_range.end;
@@ -153,19 +130,14 @@ pub(crate) fn process_lines(
 
         // Find the call location for this line.
         call_location_iter = find_call_location(s, others, call_location_iter, line_range_start);
-        let located = locate_line(
-            now,
-            string_bytes,
-            strings,
-            files,
+        let source_location = locate_line(
+            tables,
             text,
             comp_dir,
             line,
             function_idx,
             call_location_iter.current_call_location,
         );
-        now = located.state;
-        let source_location = located.location;
 
         // The current line can be a "self line", or a "call line", or even a mixture.
         //
@@ -221,14 +193,14 @@ pub(crate) fn process_lines(
 
             if inline_len <= next_inline {
                 // "insert_range"
-                now = insert_range(now, ranges, current_address, source_location);
+                insert_range(tables, current_address, source_location);
                 break line_range_end;
             }
 
             // Emit our source location at current_address if current_address is not covered by an inlinee.
             let k = inline_at + next_inline * 2;
             let inline_start = word(s, k);
-            now = insert_self_range(now, ranges, current_address, inline_start, source_location);
+            insert_self_range(tables, current_address, inline_start, source_location);
 
             // No further inlinee ranges are overlapping with this line record. Advance to the
             // end of the line record.
@@ -240,17 +212,12 @@ pub(crate) fn process_lines(
             // call's "call line". Make a call location for it and store it in the range's place.
             // "make_call_location"
             let inline_end = word(s, k + 1);
-            let call_location = insert_call_location(now, call_locations, source_location);
-            now = call_location.state;
-            put(s, k + 1, call_location.index);
+            put(s, k + 1, insert_call_location(tables, source_location));
 
             // Advance current_address to the end of this inlinee range.
             current_address = inline_end;
             next_inline += 1;
         };
     }
-    Lines {
-        state: now,
-        callee_call_locations: next_inline,
-    }
+    next_inline
 }

@@ -5,10 +5,11 @@
 ghost use Rattle.std.specs.Prelude.{◌≡◌, List, [], ℕ, ◌+◌, ◌*◌, ◌/◌, ◌≤◌, length, set};
 ghost use Rattle.std.proofs.lemmas.List.Edits.{sets};
 ghost use Rattle.sorting.specs.Pairs.{pair_words};
-ghost use Rattle.rows.specs.Columns.{columns};
+ghost use Rattle.rows.specs.Columns.{columns, columns_of};
 ghost use Rattle.scratch.specs.Scratch.{calls_start, len_at, set_calls, line_spans, kid_spans};
 ghost use Rattle.writer.specs.Walk.{GatherReady};
 
+use rows::{FunctionRows, LineRows};
 use slices::{put, word};
 
 // Pairs of words: `len` of them, from word `at` on.
@@ -45,27 +46,24 @@ pub(crate) fn set_calls(s: &mut [u32], d: u32, start: usize, len: usize)
     ensures { s.new ≡ set_calls s.old d start len }
 {
     let k = (d as usize) * 4;
-    put(&mut *s, k, (start % 4294967296) as u32);
-    put(&mut *s, k + 1, (start / 4294967296) as u32);
-    put(&mut *s, k + 2, (len % 4294967296) as u32);
-    put(&mut *s, k + 3, (len / 4294967296) as u32);
+    put(s, k, (start % 4294967296) as u32);
+    put(s, k + 1, (start / 4294967296) as u32);
+    put(s, k + 2, (len % 4294967296) as u32);
+    put(s, k + 3, (len / 4294967296) as u32);
 }
 
 // The boundaries of `count` line rows from row `first` on, as pairs from word `at` on.
-fn push_lines(s: &mut [u32], at: usize, lines64: &[u64], lines32: &[u32], first: usize, count: u32)
-    requires { (at + count * 2 ≤ length s.old) × (first + count ≤ length lines64.now / 3) }
+fn push_lines(s: &mut [u32], at: usize, lines: LineRows, first: usize, count: u32)
+    requires { (at + count * 2 ≤ length s.old) × (first + count ≤ length lines.columns64.now / 3) }
     ensures { (f g t : List ℕ) →
-        let k = columns f g lines64.now lines32.now t in
+        let k = columns f g lines.entry.columns64.now lines.entry.columns32.now t in
         s.new ≡ sets s.old at (pair_words (line_spans k first count)) }
 {
-    let mut i: u32 = 0;
-    while i < count {
-        let k = i as usize;
-        let line = rows::line_row(lines64, lines32, first + k);
+    for i in 0..count as usize {
+        let line = lines.row(first + i);
         let b = rows::line_boundaries(line.address, line.has_size, line.size);
-        put(&mut *s, at + k * 2, b.start);
-        put(&mut *s, at + k * 2 + 1, b.end);
-        i += 1;
+        put(s, at + i * 2, b.start);
+        put(s, at + i * 2 + 1, b.end);
     }
 }
 
@@ -74,36 +72,29 @@ fn push_lines(s: &mut [u32], at: usize, lines64: &[u64], lines32: &[u32], first:
 pub(crate) fn gather(
     s: &mut [u32],
     at: usize,
-    functions64: &[u64],
-    functions32: &[u32],
-    lines64: &[u64],
-    lines32: &[u32],
+    functions: FunctionRows,
+    lines: LineRows,
     i: usize,
     first: usize,
     depth: u32,
 ) -> usize
-    requires { GatherReady (columns functions64.now functions32.now lines64.now lines32.now []) (length s.old) at i first depth }
-    ensures { let k = columns functions64.now functions32.now lines64.now lines32.now [] in
+    requires { GatherReady (columns_of functions lines []) (length s.old) at i first depth }
+    ensures { let k = columns_of functions.entry lines.entry [] in
         let spans = kid_spans k depth i first in
         (result ≡ length spans) × (s.new ≡ sets s.old at (pair_words spans)) }
 {
-    let rows = functions64.len() / 2;
-    let mut r = i;
     let mut line = first;
     let mut n: usize = 0;
-    while r < rows {
-        let q = rows::function_row(functions64, functions32, r);
-        let d = q.depth;
-        let lines = q.lines;
-        if d <= depth {
+    for r in i..functions.len() {
+        let q = functions.row(r);
+        if q.depth <= depth {
             return n;
         }
-        if d == depth + 1 {
-            push_lines(&mut *s, at + n * 2, lines64, lines32, line, lines);
-            n += lines as usize;
+        if q.depth == depth + 1 {
+            push_lines(s, at + n * 2, lines, line, q.lines);
+            n += q.lines as usize;
         }
-        line += lines as usize;
-        r += 1;
+        line += q.lines as usize;
     }
     n
 }

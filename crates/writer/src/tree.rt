@@ -1,13 +1,13 @@
 // A tree call: `process_symbolic_functions`.
-ghost use Rattle.std.specs.Prelude.{◌≡◌, Bool, true, cond, List, [], ℕ, ◌+◌, ◌*◌, ◌%◌, ◌≤◌, eqb, ltb, length};
+ghost use Rattle.std.specs.Prelude.{◌≡◌, Bool, true, cond, [], ℕ, ◌+◌, ◌*◌, ◌%◌, ◌≤◌, eqb, ltb, length};
 ghost use Rattle.names.specs.Names.{undecorated};
 ghost use Rattle.model.specs.Rows.{MAX};
 ghost use Rattle.model.specs.Rows.{FunctionRow as ModelRow};
 ghost use Rattle.model.specs.Machine.{entry_m, closing_m};
 ghost use Rattle.model.specs.Converter.{Setup, input};
-ghost use Rattle.rows.specs.Columns.{columns, text_of};
+ghost use Rattle.rows.specs.Columns.{columns_of, text_of};
 ghost use Rattle.refusals.specs.Refusals.{tree_refusal};
-ghost use Rattle.memory.specs.Memory.{words};
+ghost use Rattle.memory.specs.Memory.{SameTables, words_of};
 ghost use Rattle.steps.specs.Steps.{gave, begin_named, over_words};
 ghost use Rattle.scratch.specs.Scratch.{top_of, kid_spans};
 ghost use Rattle.writer.specs.Walk.{calls_of_lem, OwnCalls, GatherReady, Sorted, InProgress, VisitReady};
@@ -17,20 +17,17 @@ ghost use Rattle.steps.specs.Symbols.{switches};
 use crate::ahead::read_ahead;
 use crate::lines::{CallLocations, process_lines};
 use crate::stack::{Pairs, calls_at, gather, set_calls};
-use memory::State;
+use memory::Tables;
 use raw::SourceLocation;
-use rows::FunctionRow;
+use rows::{FunctionRow, FunctionRows, LineRows};
 use slices::word;
-use steps::{Indexed, begin_function, insert_end, insert_source_location};
+use steps::{begin_function, insert_end, insert_source_location};
 
 // Functions of size 0, and those whose address is too large for 32 bits, are skipped.
 fn is_skipped(q: FunctionRow) -> bool
     ensures { result ≡ cond (eqb q.size 0) true (ltb MAX q.address) }
 {
-    if q.size == 0 {
-        return true;
-    }
-    q.address > u32::MAX as u64
+    q.size == 0 || q.address > u32::MAX as u64
 }
 
 // The end address, cut to 32 bits.
@@ -45,53 +42,32 @@ pub(crate) fn entry_pc(q: FunctionRow) -> u32
     ensures { result ≡ cond q.inline MAX (q.address % 4294967296) }
 {
     if q.inline {
-        return u32::MAX;
+        u32::MAX
+    } else {
+        (q.address % 4294967296) as u32
     }
-    (q.address % 4294967296) as u32
 }
 
 // A function's name, and the function.
-fn begin_row(
-    undecorate: bool,
-    state: State,
-    string_bytes: &mut [u8],
-    strings: &mut [u32],
-    functions: &mut [u32],
-    text: &[u8],
-    q: FunctionRow,
-) -> Indexed
-    ensures { (f c n : List ℕ) →
-        let name = text_of text.now q.name in
-        let before = words state string_bytes.old strings.old f functions.old c n in
-        let after = words result.state string_bytes.new strings.new f functions.new c n in
-        gave result.index after
-        ≡ begin_named (cond undecorate (undecorated name) name) (cond q.inline MAX (q.address % 4294967296)) q.language before }
+fn begin_row(tables: &mut Tables, undecorate: bool, text: &[u8], q: FunctionRow) -> u32
+    ensures same { SameTables tables.old tables.new }
+    ensures begun { let name = text_of text.now q.name in
+        gave result (words_of tables.new)
+        ≡ begin_named (cond undecorate (undecorated name) name) (cond q.inline MAX (q.address % 4294967296)) q.language (words_of tables.old) }
 {
-    let part = q.name;
-    let name = rows::part(text, part);
-    let entry = entry_pc(q);
-    begin_function(
-        state,
-        string_bytes,
-        strings,
-        functions,
-        name,
-        undecorate,
-        entry,
-        q.language,
-    )
+    let name = rows::part(text, q.name);
+    begin_function(tables, name, undecorate, entry_pc(q), q.language)
 }
 
 // The bare minimum of information at a function's entry, if there isn't any.
-fn insert_entry(state: State, ranges: &mut [u32], q: FunctionRow, function_idx: u32) -> State
-    ensures { (X : Setup) (p : ModelRow) (x i f g c : List ℕ) →
-        let before = words state x i f g c ranges.old in
-        let after = words result x i f g c ranges.new in
+fn insert_entry(tables: &mut Tables, q: FunctionRow, function_idx: u32)
+    ensures same { SameTables tables.old tables.new }
+    ensures put { (X : Setup) (p : ModelRow) →
         p.address ≡ q.address → p.inline ≡ q.inline → q.address ≤ MAX
-        → after ≡ entry_m input (over_words X) p function_idx before }
+        → words_of tables.new ≡ entry_m input (over_words X) p function_idx (words_of tables.old) }
 {
     if q.inline {
-        return state;
+        return;
     }
     let bare = SourceLocation {
         file_idx: u32::MAX,
@@ -100,20 +76,18 @@ fn insert_entry(state: State, ranges: &mut [u32], q: FunctionRow, function_idx: 
         inlined_into_idx: u32::MAX,
     };
     let entry = (q.address % 4294967296) as u32;
-    insert_source_location(state, ranges, entry, bare)
+    insert_source_location(tables, entry, bare);
 }
 
 // After a function's own lines: its entry, and the empty mapping at its end.
-fn close_function(state: State, ranges: &mut [u32], q: FunctionRow, function_idx: u32) -> State
-    ensures { (X : Setup) (p : ModelRow) (x i f g c : List ℕ) →
-        let before = words state x i f g c ranges.old in
-        let after = words result x i f g c ranges.new in
+fn close_function(tables: &mut Tables, q: FunctionRow, function_idx: u32)
+    ensures same { SameTables tables.old tables.new }
+    ensures closed { (X : Setup) (p : ModelRow) →
         p.address ≡ q.address → p.size ≡ q.size → p.inline ≡ q.inline → q.address ≤ MAX
-        → after ≡ closing_m input (over_words X) p function_idx before }
+        → words_of tables.new ≡ closing_m input (over_words X) p function_idx (words_of tables.old) }
 {
-    let entered = insert_entry(state, ranges, q, function_idx);
-    let end = function_end(q);
-    insert_end(entered, ranges, end)
+    insert_entry(tables, q, function_idx);
+    insert_end(tables, function_end(q));
 }
 
 // The call locations of the functions at a depth.
@@ -173,29 +147,17 @@ fn own_calls(s: &[u32], base: usize, depth: u32) -> Own
 fn sorted_ranges(
     s: &mut [u32],
     at: usize,
-    functions64: &[u64],
-    functions32: &[u32],
-    lines64: &[u64],
-    lines32: &[u32],
+    functions: FunctionRows,
+    lines: LineRows,
     i: usize,
     first: usize,
     depth: u32,
 ) -> usize
-    requires { GatherReady (columns functions64.now functions32.now lines64.now lines32.now []) (length s.old) at i first depth }
-    ensures { let k = columns functions64.now functions32.now lines64.now lines32.now [] in
+    requires { GatherReady (columns_of functions lines []) (length s.old) at i first depth }
+    ensures { let k = columns_of functions.entry lines.entry [] in
         Sorted at (kid_spans k depth i first) result s.old s.new }
 {
-    let spans = gather(
-        s,
-        at,
-        functions64,
-        functions32,
-        lines64,
-        lines32,
-        i,
-        first,
-        depth,
-    );
+    let spans = gather(s, at, functions, lines, i, first, depth);
     let end = at + spans * 2;
     sorting::sort_pairs(&mut s[at..end]);
     spans
@@ -211,80 +173,49 @@ struct InProgressFunction {
 
 // A function row that is visited.
 fn visit_row(
+    tables: &mut Tables,
     undecorate: bool,
-    state: State,
-    string_bytes: &mut [u8],
-    strings: &mut [u32],
-    files: &mut [u32],
-    functions: &mut [u32],
-    call_locations: &mut [u32],
-    ranges: &mut [u32],
     s: &mut [u32],
-    functions64: &[u64],
-    functions32: &[u32],
-    lines64: &[u64],
-    lines32: &[u32],
+    functions: FunctionRows,
+    lines: LineRows,
     text: &[u8],
     base: usize,
     row: InProgressFunction,
     own: Own,
-) -> State
-    requires { VisitReady (columns functions64.now functions32.now lines64.now lines32.now text.now) (length s.old) base row own }
-    ensures { (Y : Bool) (a : ℕ) →
-        let k = columns functions64.now functions32.now lines64.now lines32.now text.now in
-        let before = words state string_bytes.old strings.old files.old
-        functions.old call_locations.old ranges.old in
-        let after = words result string_bytes.new strings.new files.new
-        functions.new call_locations.new ranges.new in
+)
+    requires { VisitReady (columns_of functions lines text.now) (length s.old) base row own }
+    ensures same { SameTables tables.old tables.new }
+    ensures left { (Y : Bool) (a : ℕ) →
+        let k = columns_of functions.entry lines.entry text.now in
         let calls = calls_of_lem s.old a own.call_locations in
-        RowLeft (switches undecorate Y) k base row.i row.first_line own.top calls s.old s.new before after }
+        RowLeft (switches undecorate Y) k base row.i row.first_line own.top calls s.old s.new (words_of tables.old) (words_of tables.new) }
 {
     let function = row.function;
     let at = base + own.top * 2;
     let len = sorted_ranges(
         s,
         at,
-        functions64,
-        functions32,
-        lines64,
-        lines32,
+        functions,
+        lines,
         row.i + 1,
         row.first_line + function.lines as usize,
         function.depth,
     );
     let inlinee_ranges = Pairs { at, len };
-    let begun = begin_row(
-        undecorate,
-        state,
-        string_bytes,
-        strings,
-        functions,
-        text,
-        function,
-    );
-    let begun_state = begun.state;
-    let own_call_locations = own.call_locations;
-    let lines = process_lines(
-        begun_state,
-        string_bytes,
-        strings,
-        files,
-        call_locations,
-        ranges,
+    let function_idx = begin_row(tables, undecorate, text, function);
+    let callee_call_locations = process_lines(
+        tables,
         s,
-        lines64,
-        lines32,
+        lines,
         text,
         function,
         row.first_line,
-        begun.index,
-        own_call_locations,
+        function_idx,
+        own.call_locations,
         inlinee_ranges,
     );
-    let walked = lines.state;
-    let closed = close_function(walked, ranges, function, begun.index);
-    set_calls(s, function.depth, own.top, lines.callee_call_locations);
-    closed
+    close_function(tables, function, function_idx);
+    set_calls(s, function.depth, own.top, callee_call_locations);
 }
 
 // Whether a row is passed over: it is skipped, or no call location was made for it.
@@ -299,129 +230,58 @@ fn is_passed_over(q: FunctionRow, some: bool) -> bool
 
 // A function row; `base` is the word at which the pairs begin.
 fn process_row(
+    tables: &mut Tables,
     undecorate: bool,
-    state: State,
-    string_bytes: &mut [u8],
-    strings: &mut [u32],
-    files: &mut [u32],
-    functions: &mut [u32],
-    call_locations: &mut [u32],
-    ranges: &mut [u32],
     s: &mut [u32],
-    functions64: &[u64],
-    functions32: &[u32],
-    lines64: &[u64],
-    lines32: &[u32],
+    functions: FunctionRows,
+    lines: LineRows,
     text: &[u8],
     base: usize,
     row: InProgressFunction,
-) -> State
-    requires { InProgress (columns functions64.now functions32.now lines64.now lines32.now text.now) s.old base row }
-    ensures { (Y : Bool) →
-        let k = columns functions64.now functions32.now lines64.now lines32.now text.now in
-        let before = words state string_bytes.old strings.old files.old
-        functions.old call_locations.old ranges.old in
-        let after = words result string_bytes.new strings.new files.new
-        functions.new call_locations.new ranges.new in
-        RowConverted (switches undecorate Y) k base row s.old s.new before after }
+)
+    requires { InProgress (columns_of functions lines text.now) s.old base row }
+    ensures same { SameTables tables.old tables.new }
+    ensures left { (Y : Bool) →
+        let k = columns_of functions.entry lines.entry text.now in
+        RowConverted (switches undecorate Y) k base row s.old s.new (words_of tables.old) (words_of tables.new) }
 {
     let function = row.function;
     let own = own_calls(s, base, function.depth);
     if is_passed_over(function, own.some) {
         set_calls(s, function.depth, own.top, 0);
-        return state;
+        return;
     }
     visit_row(
-        undecorate,
-        state,
-        string_bytes,
-        strings,
-        files,
-        functions,
-        call_locations,
-        ranges,
-        s,
-        functions64,
-        functions32,
-        lines64,
-        lines32,
-        text,
-        base,
-        row,
-        own,
-    )
+        tables, undecorate, s, functions, lines, text, base, row, own,
+    );
 }
 
 // All function rows, in preorder, after a look ahead.
 pub(crate) fn process_rows(
+    tables: &mut Tables,
     undecorate: bool,
-    state: State,
-    string_bytes: &mut [u8],
-    strings: &mut [u32],
-    files: &mut [u32],
-    functions: &mut [u32],
-    call_locations: &mut [u32],
-    ranges: &mut [u32],
     s: &mut [u32],
-    functions64: &[u64],
-    functions32: &[u32],
-    lines64: &[u64],
-    lines32: &[u32],
+    functions: FunctionRows,
+    lines: LineRows,
     text: &[u8],
-) -> State
-    requires { tree_refusal (columns functions64.now functions32.now lines64.now lines32.now text.now) (length s.old) ≡ 0 }
-    ensures { (Y : Bool) →
-        let k = columns functions64.now functions32.now lines64.now lines32.now text.now in
-        let before = words state string_bytes.old strings.old files.old
-        functions.old call_locations.old ranges.old in
-        let after = words result string_bytes.new strings.new files.new
-        functions.new call_locations.new ranges.new in
-        TreeConverted (switches undecorate Y) k before after }
+)
+    requires { tree_refusal (columns_of functions lines text.now) (length s.old) ≡ 0 }
+    ensures same { SameTables tables.old tables.new }
+    ensures converted { (Y : Bool) →
+        let k = columns_of functions.entry lines.entry text.now in
+        TreeConverted (switches undecorate Y) k (words_of tables.old) (words_of tables.new) }
 {
-    read_ahead(
-        undecorate,
-        string_bytes,
-        strings,
-        functions,
-        ranges,
-        s,
-        functions64,
-        functions32,
-        text,
-    );
-    let rows = functions64.len() / 2;
-    let base = rows * 4;
-    let mut now = state;
+    read_ahead(tables, undecorate, s, functions, text);
+    let base = functions.len() * 4;
     let mut first_line: usize = 0;
-    let mut i: usize = 0;
-    while i < rows {
-        let function = rows::function_row(functions64, functions32, i);
-        let lines = function.lines;
+    for i in 0..functions.len() {
+        let function = functions.row(i);
         let row = InProgressFunction {
             function,
             i,
             first_line,
         };
-        now = process_row(
-            undecorate,
-            now,
-            string_bytes,
-            strings,
-            files,
-            functions,
-            call_locations,
-            ranges,
-            s,
-            functions64,
-            functions32,
-            lines64,
-            lines32,
-            text,
-            base,
-            row,
-        );
-        first_line += lines as usize;
-        i += 1;
+        process_row(tables, undecorate, s, functions, lines, text, base, row);
+        first_line += function.lines as usize;
     }
-    now
 }

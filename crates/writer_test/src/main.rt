@@ -2,6 +2,7 @@
 #![tactic(auto)]
 
 use memory::Converter;
+use raw::{Header, Stored};
 use replay::{add, add_bytes, low, number, place, word};
 use rows::{OptionalPart, TextPart};
 use std::fs;
@@ -86,7 +87,7 @@ fn begin(
     ranges: &mut [u32],
     record: &[u8],
 ) -> Replay {
-    let header = raw::header_at(record, 4);
+    let header = Header::read(record, 4);
     let debug_id = header.debug_id;
     let arch = word(record, 36);
     let undecorate_functions = word(record, 40) != 0;
@@ -306,10 +307,9 @@ fn replay_all<F: Read>(
         record,
     );
     for _ in 0..u32::MAX {
-        let got = replay::read_record(from, record);
-        if !got.some {
+        let Some(n) = replay::read_record(from, record) else {
             break;
-        }
+        };
         now = step(
             rt,
             now,
@@ -319,7 +319,7 @@ fn replay_all<F: Read>(
             functions,
             call_locations,
             ranges,
-            first_bytes(record, got.len),
+            first_bytes(record, n),
         );
     }
 }

@@ -3,4 +3,4 @@ use Rattle.c_begin.proofs.BeginLaws.{id-bytes}
 use Rattle.c_begin.proofs.debug_id_of.Goals as goal
 
 pub returns : goal.returns
-returns c = id-bytes c.args.bytes.now c.header_at-header.result c.header_at-header.ensures
+returns c = id-bytes c.args.bytes.now c.read-header.result c.read-header.ensures

@@ -1,13 +1,13 @@
 -- `process_symbolic_function` meets its contract.
-use Rattle.rows.specs.Columns.{columns}
-use Rattle.memory.specs.Memory.{memory}
+use Rattle.rows.specs.Columns.{columns_of}
+use Rattle.errors.specs.Numbers.{code_of}
+use Rattle.memory.specs.Memory.{memory_of}
 use Rattle.c_trees.proofs.TreeLaws.{tree_law}
 use Rattle.c_trees.proofs.process_symbolic_function.Goals as goal
 
-pub returns : goal.returns
-returns c =
+pub returns-clause-left : goal.returns-clause-left
+returns-clause-left c =
     let a = c.args in
-    tree_law a.«record».now (memory a.string_bytes.now a.strings.now a.files.now a.functions.now a.call_locations.now a.ranges.now) a.scratch.now
-    (columns a.functions64.now a.functions32.now a.lines64.now a.lines32.now a.text.now) c.process_symbolic_function-answer.result.code c.process_symbolic_function-answer.result.converter
-    (memory c.process_symbolic_function-answer.new.string_bytes c.process_symbolic_function-answer.new.strings c.process_symbolic_function-answer.new.files c.process_symbolic_function-answer.new.functions c.process_symbolic_function-answer.new.call_locations c.process_symbolic_function-answer.new.ranges) c.process_symbolic_function-answer.new.scratch
-    c.load.ensures c.process_symbolic_function-answer.ensures c.store_answer.ensures
+    let call = c.process_symbolic_function-answer in
+    tree_law a.«record».now (memory_of a.tables.now) a.scratch.now (columns_of a.functions a.lines a.text.now) (code_of call.result) call.new.converter
+    (memory_of call.new.tables) call.new.scratch c.load-converter.ensures call.ensures.left c.store_answer.ensures

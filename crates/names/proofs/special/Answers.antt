@@ -1,16 +1,12 @@
--- `special` tests the three bytes one after the other.
-use borrow.Author.Tests.{eq-eqb, ne_eqb}
+-- `special` tests the three bytes.
+use Rattle.std.proofs.Common.{arith, tests}
 use Rattle.names.specs.Names.{special}
 use Rattle.names.proofs.special.Goals as goal
 
-pub returns-then-b-eq58 : goal.returns-then-b-eq58
+pub returns-in-58 : goal.returns-in-58
 unfolding special
-returns-then-b-eq58 c = simp (eq-eqb _ _ c.if-b-eq58.true)
+returns-in-58 c = let h = c.in-58.is in grind (arith, tests)
 
-pub returns-then-b-eq40 : goal.returns-then-b-eq40
+pub returns-in_default : goal.returns-in_default
 unfolding special
-returns-then-b-eq40 c = simp (ne_eqb _ _ c.if-b-eq58.false, eq-eqb _ _ c.if-b-eq40.true)
-
-pub returns : goal.returns
-unfolding special
-returns c = simp (ne_eqb _ _ c.if-b-eq58.false, ne_eqb _ _ c.if-b-eq40.false)
+returns-in_default c = grind (arith, tests)

@@ -21,4 +21,4 @@ shape_of-out c = c.put_hex.auto.out ∙ simp length-set
 pub returns : goal.returns
 returns c =
     let a = c.args in
-    spaced-law a.out.now a.at a.value c.put_hex.ensures
+    spaced-law a.out.now a.at a.value (rw c.from.ensures at c.put_hex.ensures)

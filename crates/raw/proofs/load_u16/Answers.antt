@@ -1,7 +1,6 @@
--- `load_u16` meets its contract.
+use Rattle.std.proofs.Common.{arith}
 use Rattle.slices.proofs.Bytes.{le_at-two}
-use native.Mathlib.Omega.{arith}
 use Rattle.raw.proofs.load_u16.Goals as goal
 
 pub returns : goal.returns
-returns c = omega (arith, le_at-two c.args.s.now c.args.at)
+returns c = omega (arith, le_at-two c.args.s.now c.args.at, c.from_le_bytes.ensures)

@@ -1,30 +1,20 @@
-use Prim.Native.Nat.{ℕ}
-use native.Mathlib.Omega.{arith}
-use mathlib.Core.Path.{◌≡◌, refl, ap, ◌∙◌}
-use mathlib.Core.List.{List}
-use lib.ListN.{length, take}
-use lib.Seq.{length-sets}
-use Rattle.slices.specs.Bytes.{word_bytes}
+use Rattle.std.proofs.Common.{◌∙◌, ◌+◌, ◌*◌, refl, sym, get_or, arith}
+use Rattle.slices.specs.Bytes.{le, word_bytes}
+use Rattle.slices.proofs.Bytes.{sets-beyond}
 use Rattle.raw.proofs.Rows.{word-stored}
-use borrow.Author.Rules.{rules}
 use Rattle.raw.proofs.store_words.Goals as goal
+use Rattle.raw.proofs.store_words.Goals.{in-Some, in_default}
 
 pub loop-i-init : goal.loop-i-init
 unfolding word_bytes
-loop-i-init c = (omega arith, refl)
+loop-i-init c = refl
 
 pub loop-i-preserved : goal.loop-i-preserved
 loop-i-preserved c =
     let a = c.args in
-    let l : length a.words ≡ 6 = search rules in
-    (omega arith, word-stored a.s.now a.words a.at c.loop-i.i (omega arith) c.loop-i.invariant.1 c.store.ensures)
-
-pub shape_of-s : goal.shape_of-s
-shape_of-s c =
-    let a = c.args in
-    ap (λ (z : List ℕ). length z) c.loop-i.invariant.1 ∙ length-sets a.s.now a.at (word_bytes (take c.loop-i.i a.words))
-
-pub returns : goal.returns
-returns c =
-    let e : c.loop-i.i ≡ c.args.count = omega arith in
-    c.loop-i.invariant.1 ∙ rw e
+    let i = c.loop-i.i in
+    word-stored a.s.now a.words.now a.at i (omega arith) c.loop-i.invariant
+    (elim c.match-checked_add.branch [
+      | in-Some w ↦ w.s-is ∙ rw w.in-Some.ensures.1 at w.store_u32.ensures
+      | in_default w ↦ w.s-is ∙ sym (sets-beyond (le 4 (get_or a.words.now i 0)) c.loop-i.s (a.at + 4 * i) (omega (arith, w.in_default.ensures)))
+    ])

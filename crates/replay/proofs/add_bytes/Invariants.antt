@@ -1,10 +1,7 @@
 -- The checksum of what is still to come, from the checksum so far, is that of all.
-use Rattle.std.proofs.Common.{◌≡◌, ◌-◌, ◌≤◌, length, drop}
+use Rattle.std.proofs.Common.{◌≡◌, drop}
 use Rattle.replay.specs.Sums.{sum_with_all}
 use Rattle.replay.proofs.add_bytes.Given as goal
 
-abbrev pub invariant-loop-i : goal.invariant-loop-i
-invariant-loop-i l = (l.i ≤ length l.s) × (sum_with_all l.now (drop l.i l.s) ≡ sum_with_all l.sum l.s)
-
-abbrev pub decreases-loop-i : goal.decreases-loop-i
-decreases-loop-i l = length l.s - l.i
+abbrev pub invariant-loop-b : goal.invariant-loop-b
+invariant-loop-b l = sum_with_all l.now (drop l.b-index l.s) ≡ sum_with_all l.sum l.s

@@ -1,9 +1,9 @@
 -- `read_full` ends, since each turn leaves less to fill.
-use Rattle.std.proofs.Common.{length, ◌-◌, ◌≡◌, ◌^◌, ◌≤◌, ◌<◌}
+use Rattle.std.proofs.Common.{length, ◌-◌, ◌^◌, ◌≤◌, ◌<◌}
 use Rattle.replay.proofs.read_full.Given as goal
 
 abbrev pub invariant-loop-done : goal.invariant-loop-done
-invariant-loop-done g l = (length l.to ≡ length l.initial.to) × (l.done ≤ length l.to) × (length l.to < 2 ^ 64)
+invariant-loop-done g l = (l.done ≤ length l.to) × (length l.to < 2 ^ 64)
 
 abbrev pub decreases-loop-done : goal.decreases-loop-done
 decreases-loop-done g l = length l.to - l.done

@@ -11,25 +11,25 @@ use Rattle.serialize.proofs.write_entries.Goals as goal
 
 pub loop-i-init : goal.loop-i-init
 unfolding table_bytes rows_from entries
-loop-i-init c = (omega arith, refl)
+loop-i-init c = refl
 
 pub write_entry-requires : goal.write_entry-requires
 write_entry-requires c =
     let a = c.args in
-    let e : length c.loop-i.out ≡ length a.out.now = ap length c.loop-i.invariant.1 ∙ simp length-sets in
+    let e : length c.loop-i.out ≡ length a.out.now = ap length c.loop-i.invariant ∙ simp length-sets in
     omega arith
 
 pub loop-i-preserved : goal.loop-i-preserved
 loop-i-preserved c =
     let a = c.args in
     let to = a.at + c.loop-i.i * 8 in
-    let stored = c.write_entry.ensures ∙ ap (λ (s : ℕ). sets c.loop-i.out to (entry_row (record { from = s; to = c.loop-i.i }))) c.start_of_row-start.ensures in
-    (omega arith, entries-turn a.out.now c.loop-i.out _ a.at to a.ranges.now c.loop-i.i c.row_at.result c.row_at.ensures (omega arith) c.loop-i.invariant.1 stored)
+    let stored = c.write_entry.ensures ∙ ap (λ (s : ℕ). sets c.loop-i.out to (entry_row (record { from = s; to = c.loop-i.i }))) (ap (λ r. r.start) c.from-start.ensures) in
+    entries-turn a.out.now c.loop-i.out _ a.at to a.ranges.now c.loop-i.i c.row_at.result c.row_at.ensures (omega arith) c.loop-i.invariant stored
 
 pub shape_of-out : goal.shape_of-out
-shape_of-out c = ap length c.loop-i.invariant.1 ∙ simp length-sets
+shape_of-out c = ap length c.loop-i.invariant ∙ simp length-sets
 
 pub returns : goal.returns
 returns c =
     let e : c.loop-i.i ≡ c.args.count = omega arith in
-    rw e at c.loop-i.invariant.1
+    rw e at c.loop-i.invariant

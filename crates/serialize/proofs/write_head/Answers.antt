@@ -5,4 +5,4 @@ use Rattle.serialize.proofs.write_head.Goals as goal
 pub returns : goal.returns
 returns c =
     let a = c.args in
-    head-stored a.converter a.converter.state.ranges a.out.now c.write_version_info.new.s c.write_header.new.s c.write_version_info.ensures c.write_header.ensures
+    head-stored a.converter a.converter.state.ranges a.out.now c.write.new.s c.write-2.new.s c.write.ensures c.write-2.ensures

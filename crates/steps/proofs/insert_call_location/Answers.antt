@@ -2,11 +2,11 @@
 use mathlib.Core.Path.{ap, ◌∙◌}
 use Rattle.tables.specs.Table.{insert_of}
 use Rattle.tables.specs.declared.Row.{Row}
+use Rattle.memory.specs.Memory.{words_of}
 use Rattle.steps.proofs.Laws.{call_law}
 use Rattle.steps.proofs.insert_call_location.Goals as goal
 
-pub returns : goal.returns
-returns c =
-    let a = c.args in
-    call_law a.state a.l a.call_locations.now {c1 = c.insert_full-got.new.t} {got = c.insert_full-got.result}
-    (c.insert_full-got.ensures ∙ ap (λ (row : Row). insert_of 6 a.call_locations.now a.state.call_locations row) c.row_of_call-row.ensures)
+pub returns-clause-added : goal.returns-clause-added
+returns-clause-added c =
+    let w = words_of c.args.tables.now in
+    call_law w c.args.l (c.insert_full-got.ensures ∙ ap (λ (row : Row). insert_of 6 w.mm.calls w.st.call_locations row) c.from-row.ensures)

@@ -1,10 +1,7 @@
 -- `insert_part` meets its contract: the text is the part.
-use Rattle.memory.specs.Memory.{words}
+use Rattle.memory.specs.Memory.{words_of}
 use Rattle.steps.proofs.Laws.{store_same}
 use Rattle.steps.proofs.insert_part.Goals as goal
 
-pub returns : goal.returns
-returns c =
-    let a = c.args in
-    λ f g m n.
-    store_same (words a.state a.string_bytes.now a.strings.now f g m n) (c.insert_string.ensures f g m n) c.part-t.ensures
+pub returns-clause-stored : goal.returns-clause-stored
+returns-clause-stored c = store_same (words_of c.args.tables.now) c.insert_string.ensures.stored c.part.ensures

@@ -1,8 +1,7 @@
 -- `insert_range` meets its contract: `range_law`.
+use Rattle.memory.specs.Memory.{words_of}
 use Rattle.steps.proofs.Laws.{range_law}
 use Rattle.steps.proofs.insert_range.Goals as goal
 
-pub returns : goal.returns
-returns c =
-    let a = c.args in
-    range_law a.state a.start a.l a.ranges.now {n1 = c.put-got.new.t} {got = c.put-got.result} c.put-got.ensures
+pub returns-clause-put : goal.returns-clause-put
+returns-clause-put c = range_law (words_of c.args.tables.now) c.args.start c.args.l c.put-got.ensures

@@ -3,8 +3,8 @@ use mathlib.Core.Path.{sym, ◌∙◌, ap}
 use Rattle.steps.specs.Steps.{free}
 use Rattle.steps.proofs.is_free.Goals as goal
 
-pub returns-in-Absent : goal.returns-in-Absent
-returns-in-Absent c = ap free (sym c.in-Absent.is ∙ c.get-found.ensures)
+pub returns-in-None : goal.returns-in-None
+returns-in-None c = ap free (sym c.in-None.is ∙ c.get.ensures)
 
-pub returns-in-At : goal.returns-in-At
-returns-in-At c = c.is_no_source_location.ensures ∙ ap free (sym c.in-At.is ∙ c.get-found.ensures)
+pub returns-in-Some : goal.returns-in-Some
+returns-in-Some c = c.is_no_source_location.ensures ∙ ap free (sym c.in-Some.is ∙ c.get.ensures)

@@ -1,43 +1,39 @@
-use Prim.Native.Nat.{ℕ, ◌+◌, ◌-◌, ◌<◌, ◌≤◌}
-use mathlib.Core.Path.{◌≡◌, refl, sym}
+use Prim.Native.Nat.{ℕ, ◌-◌}
+use mathlib.Core.Path.{◌≡◌, refl, sym, ◌∙◌, ap}
 use mathlib.Core.List.{List, [], ◌∷◌}
-use mathlib.Core.Bool.{Bool, false}
 use native.Mathlib.Omega.{arith}
-use lib.ListN.{length, take, drop, length-take, length-drop, drop_of_length-le}
-use lib.Seq.{length-take-le, take-nil}
+use denote.Ref.{Bor}
+use mathlib.Core.Bool.{Bool, true, false, ◌&&◌}
+use borrow.Author.Tests.{eq-eqb, ne_eqb, eqb-true, eqb-false}
 use lib.Dec.{eqb}
-use borrow.Author.Tests.{ne_eqb}
+use lib.ListN.{length, take, drop, length-drop, drop_of_length-le}
+use lib.Seq.{take_all}
+use Rattle.std.specs.Prelude.{Option, Some, None}
+use Rattle.std.specs.Option.{unwrap_or}
+use Rattle.std.specs.Slice.{IsGetRangeResult}
+use Rattle.std.specs.Cmp.Lexicographic.{pointwise}
 use Rattle.tables.specs.Table.{same_words}
-use Rattle.tables.proofs.Words.{words-short}
 use Rattle.strings.proofs.same_at.Goals as goal
 
-module _ (text : List ℕ) (start : ℕ) (t : List ℕ) where
-  past : length text < start → eqb (length t) 0 ≡ same_words (take (length t) (drop start text)) t
-  past h = rw (drop_of_length-le text (let k : length text ≤ start = omega arith in k), take-nil {A = ℕ} (length t)) (go t)
-    where
-      go : (t : List ℕ) → eqb (length t) 0 ≡ same_words [] t
-      go [] = refl
-      go (b ∷ t) = ne_eqb (length (b ∷ t)) 0 (λ e. omega arith)
+-- the bytes from start on, none where it lies past the end
+rest : (text : List ℕ) (start : ℕ) (o : Option (Bor (List ℕ))) (d r : Bor (List ℕ)) → d.now ≡ [] → IsGetRangeResult text start (length text) o → r ≡ unwrap_or o d → r.now ≡ drop start text
+rest text start None d r n l e = ap (λ (x : Bor (List ℕ)). x.now) e ∙ n ∙ sym (drop_of_length-le text (omega (arith, l.0)))
+rest text start (Some x) d r n l e = ap (λ (x : Bor (List ℕ)). x.now) e ∙ l.0.2 ∙ take_all (length text - start) (drop start text) (omega (arith, length-drop start text))
 
-  cut : length text - start < length t → false ≡ same_words (take (length t) (drop start text)) t
-  cut h = sym (words-short (take (length t) (drop start text)) t (simp (length-take, length-drop) (omega arith)))
+eqb_comm : (a b : ℕ) → eqb a b ≡ eqb b a
+eqb_comm a b = go (eqb a b) refl
+  where
+    go : (t : Bool) → eqb a b ≡ t → t ≡ eqb b a
+    go true e = sym (eq-eqb b a (sym (eqb-true a b e)))
+    go false e = sym (ne_eqb b a (λ f. eqb-false a b e (sym f)))
 
-  whole : start + length t ≤ length text → length (take (start + length t - start) (drop start text)) ≡ length t
-  whole h =
-      let e : start + length t - start ≡ length t = omega arith in
-      rw e (length-take-le (length t) (drop start text) (rw (length-drop start text) (omega arith)))
-
-  same-part : {r : Bool} → r ≡ same_words (take (start + length t - start) (drop start text)) t → r ≡ same_words (take (length t) (drop start text)) t
-  same-part e = let k : start + length t - start ≡ length t = omega arith in rw k at e
-
-pub returns-then-text-start : goal.returns-then-text-start
-returns-then-text-start c = let a = c.args in past a.text.now a.start a.t.now c.if-text-start.true
-
-pub returns-then-text-start-2 : goal.returns-then-text-start-2
-returns-then-text-start-2 c = let a = c.args in cut a.text.now a.start a.t.now c.if-text-start-2.true
-
-pub same-requires : goal.same-requires
-same-requires c = let a = c.args in whole a.text.now a.start a.t.now (omega arith)
+compared : (x y : List ℕ) → pointwise eqb x y ≡ same_words y x
+compared [] [] = refl
+compared [] (b ∷ y) = refl
+compared (a ∷ x) [] = refl
+compared (a ∷ x) (b ∷ y) = rw (eqb_comm a b) (ap (λ t. eqb b a && t) (compared x y))
 
 pub returns : goal.returns
-returns c = let a = c.args in same-part a.text.now a.start a.t.now c.same.ensures
+returns c =
+    let t = c.args.t.now in
+    c.starts_with.ensures.value ∙ compared t _ ∙ ap (λ (x : List ℕ). same_words (take (length t) x) t) (rest c.args.text.now c.args.start c.get.result _ _ refl c.get.ensures.lookup c.unwrap_or.ensures)

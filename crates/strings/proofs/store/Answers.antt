@@ -9,6 +9,7 @@ use lib.Seq.{sets}
 use borrow.Author.Tests.{leb-true, ltb-true, lt-ltb}
 use Rattle.slices.proofs.Cases.{both_true}
 use Rattle.text.specs.Leb128.{encoded}
+use Rattle.text.proofs.Leb128Laws.{encoded_ten}
 use Rattle.tables.specs.Table.{capacity_of, push_of, Left, left}
 use Rattle.tables.specs.Kinds.{row_of_text}
 use Rattle.strings.specs.Strings.{max_bytes, text_capacity_of, text_size_lem, stored_text, text_hash, text_row, index_of, full_of, store_of, strings_left, text_stored}
@@ -58,6 +59,9 @@ module _ (text strings : List ℕ) (bytes count : ℕ) (t : List ℕ) {cap limit
   unfolding store_of
   refused h g = rw (g, ← e2, ← e1, ← size_is, ← e4, h)
 
+pub overflow_add-size : goal.overflow_add-size
+overflow_add-size c = omega (arith, c.leb128_len-prefix.ensures, encoded_ten (length c.args.t.now) (omega arith))
+
 pub overflow_add-start : goal.overflow_add-start
 overflow_add-start c =
     let i = (let a = c.args in
@@ -98,7 +102,7 @@ returns-then-fits c =
     storing a.text.now a.strings.now a.bytes a.count a.t.now e1 e2 e3 c.fits.ensures c.if-fits.true
     c.requires refl c.write.ensures
     (indexed a.text.now a.strings.now a.bytes a.count a.t.now e1 e2 e3 c.fits.ensures c.if-fits.true
-    {y = left c.push-count.result c.push-count.new.t} c.row_of_text-row.ensures c.push-count.ensures)
+    {y = left c.push-count.result c.push-count.new.t} c.from-row.ensures c.push-count.ensures)
 
 pub full-requires : goal.full-requires
 full-requires c =

@@ -5,12 +5,13 @@ use native.Mathlib.Omega.{arith}
 use lib.ListN.{length}
 use lib.Seq.{sets}
 use borrow.Author.Tests.{le-leb}
+use Rattle.std.specs.Prelude.{Option}
 use Rattle.text.specs.Leb128.{encoded, wrote_leb, written, Written}
 use Rattle.slices.proofs.Bytes.{sets_join}
 use Rattle.strings.specs.Strings.{stored_text}
 use Rattle.strings.proofs.write.Goals as goal
 
-module _ (text : List ℕ) (at start : ℕ) (t : List ℕ) {n : ℕ} {text₁ : List ℕ} (p : (start ≡ at + length (encoded (length t))) × (start + length t ≤ length text)) (e : written n text₁ ≡ wrote_leb text at (length t)) where
+module _ (text : List ℕ) (at start : ℕ) (t : List ℕ) {n : Option ℕ} {text₁ : List ℕ} (p : (start ≡ at + length (encoded (length t))) × (start + length t ≤ length text)) (e : written n text₁ ≡ wrote_leb text at (length t)) where
   prefixed : text₁ ≡ sets text at (encoded (length t))
   unfolding wrote_leb
   prefixed =

@@ -1,28 +1,22 @@
 -- `process_symbolic_symbol` meets its contract: by its two tests.
 use mathlib.Core.List.{[]}
-use Rattle.memory.specs.Memory.{memory, words}
-use Rattle.symbol_call.specs.Calls.{called}
+use Rattle.memory.specs.Memory.{memory_of}
 use Rattle.symbol_call.proofs.CallLaws.{symbol-taken, symbol_unreadable, symbol-closed}
-use borrow.Author.Tests.{not-true, not-false}
 use Rattle.symbol_call.proofs.process_symbolic_symbol.Goals as goal
 
-pub returns-then-not-is_usable : goal.returns-then-not-is_usable
-returns-then-not-is_usable c =
+pub returns-then-not-is_usable-clause-left : goal.returns-then-not-is_usable-clause-left
+returns-then-not-is_usable-clause-left c =
     let a = c.args in
-    symbol-closed a.converter (memory a.string_bytes.now a.strings.now a.files.now a.functions.now a.call_locations.now a.ranges.now) a.text.now a.address a.size a.name
-    c.lent-tables.ensures c.is_usable.ensures (not-true _ c.if-not-is_usable.true-raw)
+    symbol-closed a.converter.now (memory_of a.tables.now) a.text.now a.address a.size a.name c.lengths.ensures c.is_usable.ensures c.if-not-is_usable.true
 
-pub returns-then-not-optional : goal.returns-then-not-optional
-returns-then-not-optional c =
+pub returns-then-not-optional-clause-left : goal.returns-then-not-optional-clause-left
+returns-then-not-optional-clause-left c =
     let a = c.args in
-    symbol_unreadable a.converter (memory a.string_bytes.now a.strings.now a.files.now a.functions.now a.call_locations.now a.ranges.now) a.text.now a.address a.size a.name
-    c.lent-tables.ensures c.is_usable.ensures (not-false _ c.if-not-is_usable.false-raw) c.optional.ensures (not-true _ c.if-not-optional.true-raw)
+    symbol_unreadable a.converter.now (memory_of a.tables.now) a.text.now a.address a.size a.name c.lengths.ensures c.is_usable.ensures
+    c.if-not-is_usable.false c.optional.ensures c.if-not-optional.true
 
-pub returns : goal.returns
-returns c =
+pub returns-clause-left : goal.returns-clause-left
+returns-clause-left c =
     let a = c.args in
-    symbol-taken a.converter (memory a.string_bytes.now a.strings.now a.files.now a.functions.now a.call_locations.now a.ranges.now) a.text.now a.address a.size a.name
-    c.lent-tables.ensures c.is_usable.ensures (not-false _ c.if-not-is_usable.false-raw) c.optional.ensures (not-false _ c.if-not-optional.false-raw)
-    {w = words c.process_symbol-state.result c.process_symbol-state.new.string_bytes c.process_symbol-state.new.strings a.files.now c.process_symbol-state.new.functions a.call_locations.now c.process_symbol-state.new.ranges}
-    {l = called c.finish.result.code c.finish.result.converter (memory c.finish.new.string_bytes c.finish.new.strings c.finish.new.files c.finish.new.functions c.finish.new.call_locations c.finish.new.ranges) []}
-    (c.process_symbol-state.ensures a.converter.undecorate_functions a.files.now a.call_locations.now) (c.finish.ensures [])
+    symbol-taken a.converter.now (memory_of a.tables.now) a.text.now a.address a.size a.name c.lengths.ensures c.is_usable.ensures
+    c.if-not-is_usable.false c.optional.ensures c.if-not-optional.false (c.process_symbol.ensures.converted a.converter.now.undecorate_functions) (c.finish.ensures.left [])

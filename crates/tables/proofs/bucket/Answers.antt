@@ -33,16 +33,24 @@ pub returns-then-cap-eq0 : goal.returns-then-cap-eq0
 returns-then-cap-eq0 c = none c.args.hash c.args.cap c.if-cap-eq0.true
 
 pub overflow_mul-at : goal.overflow_mul-at
-overflow_mul-at c = let p = product c.args.hash c.args.cap (omega arith) (omega arith) in omega (arith, p)
+overflow_mul-at c = let p = product c.from-hash.result c.from-all.result (omega arith) (omega arith) in omega (arith, p)
 
 pub overflow_add-at : goal.overflow_add-at
-overflow_add-at c = let p = product c.args.hash c.args.cap (omega arith) (omega arith) in omega (arith, p)
+overflow_add-at c = let p = product c.from-hash.result c.from-all.result (omega arith) (omega arith) in omega (arith, p)
 
 pub returns-then-at-all : goal.returns-then-at-all
-returns-then-at-all c = below c.args.hash c.args.cap c.if-cap-eq0.false c.if-at-all.true
+returns-then-at-all c =
+    let h : c.from-hash.result ≡ c.args.hash = c.from-hash.ensures in
+    let m : c.from-all.result ≡ c.args.cap = c.from-all.ensures in
+    rw (h, m) (below c.args.hash c.args.cap c.if-cap-eq0.false (rw (← h, ← m) c.if-at-all.true))
 
 pub overflow_cast-result-2 : goal.overflow_cast-result-2
-overflow_cast-result-2 c = let p = less c.args.hash c.args.cap c.if-cap-eq0.false in omega (arith, p)
+overflow_cast-result-2 c =
+    let p = less c.from-hash.result c.from-all.result (let n = c.if-cap-eq0.false in λ e. omega (arith, n)) in
+    omega (arith, p)
 
 pub returns : goal.returns
-returns c = some c.args.hash c.args.cap c.if-cap-eq0.false
+returns c =
+    let h : c.from-hash.result ≡ c.args.hash = c.from-hash.ensures in
+    let m : c.from-all.result ≡ c.args.cap = c.from-all.ensures in
+    rw (h, m) (some c.args.hash c.args.cap c.if-cap-eq0.false)

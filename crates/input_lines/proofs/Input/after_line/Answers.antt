@@ -3,4 +3,4 @@ use Rattle.input_lines.proofs.Input.after_line.Goals as goal
 
 pub returns : goal.returns
 unfolding after_line
-returns c = rw (c.start.ensures, c.wrapping_add_u32.ensures.value)
+returns c = rw c.start.ensures

@@ -1,28 +1,24 @@
--- The three fields, each as `feed_of` gives it; a line that is bad stays so.
-use Rattle.std.proofs.Common.{◌≡◌, ℕ, ◌+◌, ◌*◌, ◌%◌, Bool, true, false, cond, ltb, leb}
+-- The three fields, each as `feed_of` gives it.
+use Rattle.std.proofs.Common.{◌≡◌, ℕ, ◌+◌, ◌*◌, ◌%◌, Bool, ◌||◌, cond, ltb, leb, ◌∙◌}
 use Rattle.input_lines.specs.declared.LineState.{LineState}
 use Rattle.input_lines.specs.Line.{digit_of, feed_of}
+use Rattle.input_lines.proofs.Digits.{digit_read, digit-none, one_more}
 use Rattle.input_lines.proofs.LineState.feed.Goals as goal
 
-abbrev built : LineState → ℕ → ℕ → Bool → LineState
-built s n d t = record { digits = n; value = s.value % 1152921504606846976 * 16 + d % 16; bad = t }
-
-feed-bad : (s : LineState) (b : ℕ) {n d : ℕ} → n ≡ cond (ltb s.digits 17) (s.digits + 1) 17 → d ≡ digit_of b → s.bad ≡ true
-    → built s n d true ≡ feed_of s b
+fed-as : (s : LineState) (b n v : ℕ) (t : Bool) → n ≡ cond (ltb s.digits 17) (s.digits + 1) 17 → v ≡ digit_of b % 16 → t ≡ (s.bad || leb 16 (digit_of b))
+    → record { digits = n; value = s.value % 1152921504606846976 * 16 + v; bad = t } ≡ feed_of s b
 unfolding feed_of
-feed-bad s b e f g = rw (e, f, g)
-
-feed-good : (s : LineState) (b : ℕ) {n d : ℕ} → n ≡ cond (ltb s.digits 17) (s.digits + 1) 17 → d ≡ digit_of b → s.bad ≡ false
-    → built s n d (leb 16 d) ≡ feed_of s b
-unfolding feed_of
-feed-good s b e f g = rw (e, f, g)
+fed-as s b n v t e f g = rw (e, f, g)
 
 pub returns-then-self : goal.returns-then-self
 returns-then-self c =
     let a = c.args in
-    feed-bad a.self a.byte c.one_more-digits.ensures c.digit-d.ensures c.if-self.true
+    fed-as a.self a.byte c.min.result c.from-2.result _ (one_more a.self.digits _ _ c.saturating_add.ensures c.min.ensures)
+    (c.from-2.ensures ∙ c.unwrap_or.ensures ∙ digit_read a.byte c.to_digit-digit.result (rw c.from.ensures at c.to_digit-digit.ensures.value)) (rw c.if-self.true)
 
-pub returns : goal.returns
-returns c =
+pub returns-else-self : goal.returns-else-self
+returns-else-self c =
     let a = c.args in
-    feed-good a.self a.byte c.one_more-digits.ensures c.digit-d.ensures c.if-self.false
+    fed-as a.self a.byte c.min.result c.from-2.result _ (one_more a.self.digits _ _ c.saturating_add.ensures c.min.ensures)
+    (c.from-2.ensures ∙ c.unwrap_or.ensures ∙ digit_read a.byte c.to_digit-digit.result (rw c.from.ensures at c.to_digit-digit.ensures.value))
+    (rw c.if-self.false (digit-none a.byte _ _ (rw c.from.ensures at c.to_digit-digit.ensures.value) c.is_none.ensures))

@@ -1,7 +1,10 @@
 use Prim.Native.Nat.{ℕ}
-use mathlib.Core.Path.{◌≡◌}
+use mathlib.Core.Path.{◌≡◌, ap, ◌∙◌}
 use mathlib.Core.List.{List}
 use Rattle.tables.specs.Table.{row_at, lookup_of, Left, left}
+use Rattle.std.specs.Option.{unwrap_or}
+use Rattle.tables.proofs.Found.{or_found}
+use Rattle.tables.proofs.Walk.{lookup_most}
 use Rattle.tables.specs.Kinds.{range_row_lem}
 use Rattle.tables.specs.Ranges.{put_of}
 use Rattle.journal.specs.Undo.{note_was, entry_after, put_noted_of, journaled, noted}
@@ -19,4 +22,4 @@ pub returns : goal.returns
 returns c =
     let a = c.args in
     law a.t.now a.count a.journal.now a.entries (range_row_lem a.start a.loc) {x = left c.put-change.result c.put-change.new.t} {y = left c.note_was-noted.result c.note_was-noted.new.journal}
-    c.row_of_range-row.ensures c.lookup-i.ensures c.row_at-old.ensures c.put-change.ensures c.note_was-noted.ensures
+    c.from-row.ensures (c.unwrap_or-i.ensures ∙ ap (λ x. unwrap_or x a.count) c.lookup.ensures ∙ or_found a.count (lookup_of 1 a.t.now a.count c.from-row.result) (lookup_most 1 a.t.now a.count c.from-row.result)) c.row_at-old.ensures c.put-change.ensures c.note_was-noted.ensures

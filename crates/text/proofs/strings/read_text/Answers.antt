@@ -4,49 +4,40 @@ use native.Mathlib.Omega.{arith}
 use Rattle.text.proofs.TextLaws.{prefix_within, absent_prefix, absent-cut, absent-bytes, present}
 use Rattle.text.proofs.strings.read_text.Goals as goal
 
-pub returns-in_default : goal.returns-in_default
-returns-in_default c =
-    let a = c.args in
-    absent_prefix a.section.now a.offset (sym c.in_default.is ∙ c.read_leb128.ensures)
+pub returns-in_err-prefix : goal.returns-in_err-prefix
+returns-in_err-prefix c = c.from_residual.ensures ∙ absent_prefix c.args.section.now c.args.offset c.in_err-prefix.ensures
 
 pub overflow_add-start : goal.overflow_add-start
 overflow_add-start c =
-    let a = c.args in
-    let e = c.read_leb128.ensures in
-    omega (arith, prefix_within a.section.now a.offset c.in-Number.value c.in-Number.len (sym e ∙ c.in-Number.is))
+    let p = c.in_ok-prefix.prefix in
+    omega (arith, prefix_within c.args.section.now c.args.offset p.value p.len (sym c.in_ok-prefix.ensures))
 
 pub overflow_sub-section : goal.overflow_sub-section
 overflow_sub-section c =
-    let a = c.args in
-    let e = c.read_leb128.ensures in
-    prefix_within a.section.now a.offset c.in-Number.value c.in-Number.len (sym e ∙ c.in-Number.is)
+    let p = c.in_ok-prefix.prefix in
+    prefix_within c.args.section.now c.args.offset p.value p.len (sym c.in_ok-prefix.ensures)
 
 pub returns-then-section-start : goal.returns-then-section-start
 returns-then-section-start c =
-    let a = c.args in
-    let e = c.read_leb128.ensures in
-    absent-cut a.section.now a.offset c.in-Number.value c.in-Number.len (sym c.in-Number.is ∙ e) c.if-section-start.true
+    let p = c.in_ok-prefix.prefix in
+    absent-cut c.args.section.now c.args.offset p.value p.len c.in_ok-prefix.ensures c.if-section-start.true
 
-pub overflow_add-end : goal.overflow_add-end
-overflow_add-end c =
-    let a = c.args in
-    let e = c.read_leb128.ensures in
-    omega (arith, prefix_within a.section.now a.offset c.in-Number.value c.in-Number.len (sym e ∙ c.in-Number.is))
+pub overflow_add-start-2 : goal.overflow_add-start-2
+overflow_add-start-2 c =
+    let p = c.in_ok-prefix.prefix in
+    omega (arith, prefix_within c.args.section.now c.args.offset p.value p.len (sym c.in_ok-prefix.ensures))
 
 pub slice_bounds-is_utf8-end : goal.slice_bounds-is_utf8-end
 slice_bounds-is_utf8-end c =
-    let a = c.args in
-    let e = c.read_leb128.ensures in
-    omega (arith, prefix_within a.section.now a.offset c.in-Number.value c.in-Number.len (sym e ∙ c.in-Number.is))
+    let p = c.in_ok-prefix.prefix in
+    omega (arith, prefix_within c.args.section.now c.args.offset p.value p.len (sym c.in_ok-prefix.ensures))
 
-pub returns-then-is_utf8 : goal.returns-then-is_utf8
-returns-then-is_utf8 c =
-    let a = c.args in
-    let e = c.read_leb128.ensures in
-    present a.section.now a.offset c.in-Number.value c.in-Number.len (sym c.in-Number.is ∙ e) c.if-section-start.false c.is_utf8.ensures c.if-is_utf8.true
+pub returns-then-not-is_utf8 : goal.returns-then-not-is_utf8
+returns-then-not-is_utf8 c =
+    let p = c.in_ok-prefix.prefix in
+    absent-bytes c.args.section.now c.args.offset p.value p.len c.in_ok-prefix.ensures c.if-section-start.false c.is_utf8.ensures c.if-not-is_utf8.true
 
 pub returns : goal.returns
 returns c =
-    let a = c.args in
-    let e = c.read_leb128.ensures in
-    absent-bytes a.section.now a.offset c.in-Number.value c.in-Number.len (sym c.in-Number.is ∙ e) c.if-section-start.false c.is_utf8.ensures c.if-is_utf8.false
+    let p = c.in_ok-prefix.prefix in
+    present c.args.section.now c.args.offset p.value p.len c.in_ok-prefix.ensures c.if-section-start.false c.is_utf8.ensures c.if-not-is_utf8.false

@@ -1,14 +1,21 @@
--- `eight` meets its contract: the octets that are not UTF8-1 are counted.
-use Rattle.text.proofs.Utf8Eights.{eight-sum, too_short}
+-- `eight` meets its contract: its fold is over the first eight octets.
+use mathlib.Core.Path.{◌∙◌, ap}
+use mathlib.Core.List.{List}
+use Prim.Native.Nat.{ℕ}
+use lib.Bits.{bit_or}
+use lib.Dec.{ltb}
+use borrow.Author.Rules.{rules}
+use Rattle.std.specs.List.{fold}
+use Rattle.std.proofs.lemmas.Iterator.{YieldsList-from_slice}
+use Rattle.std.proofs.lemmas.Iterator.Consumers.{fold_from_yields_List}
+use Rattle.text.proofs.Utf8Eights.{eight_low, too_short}
 use Rattle.text.proofs.utf8.eight.Goals as goal
 
-pub returns-then-s-lt8 : goal.returns-then-s-lt8
-returns-then-s-lt8 c = too_short c.args.s.now c.if-s-lt8.true
+pub returns-in-Some : goal.returns-in-Some
+returns-in-Some c =
+    let e = fold_from_yields_List _ bit_or 0 c.fold.result c.fold.ensures.ran (YieldsList-from_slice {s = c.iter.result} c.in-Some.octets.now c.iter.ensures.rest) (λ a x b q k. search rules) in
+    let k = c.in-Some.ensures.cases in
+    ap (λ n. ltb n 128) (e ∙ ap (λ (x : List ℕ). fold bit_or 0 x) k.same) ∙ eight_low c.args.s.now k.enough
 
-pub returns : goal.returns
-returns c =
-    eight-sum c.args.s.now c.if-s-lt8.false
-    c.outside.ensures.0 c.outside-2.ensures.0
-    c.outside-3.ensures.0 c.outside-4.ensures.0
-    c.outside-5.ensures.0 c.outside-6.ensures.0
-    c.outside-7.ensures.0 c.outside-8.ensures.0
+pub returns-in-None : goal.returns-in-None
+returns-in-None c = too_short c.args.s.now c.in-None.ensures.cases

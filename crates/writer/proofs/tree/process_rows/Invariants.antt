@@ -1,11 +1,9 @@
 -- `process_rows` meets its contract: reading ahead leaves in scratch what nothing looks at, and the rows still to come leave what all rows leave (`Rowing`),
 -- for either switch of the symbols.
-use Prim.Native.Nat.{◌-◌}
-use mathlib.Core.Path.{◌≡◌}
 use mathlib.Core.Bool.{Bool}
 use lib.ListN.{length}
-use Rattle.rows.specs.Columns.{columns}
-use Rattle.memory.specs.Memory.{words}
+use Rattle.rows.specs.Columns.{columns_of}
+use Rattle.memory.specs.Memory.{SameTables, words_of}
 use Rattle.steps.specs.Steps.{over_words}
 use Rattle.scratch.proofs.Tree.{Rowing}
 use Rattle.steps.specs.Symbols.{switches}
@@ -13,13 +11,5 @@ use Rattle.writer.proofs.tree.process_rows.Given as goal
 
 abbrev pub invariant-loop-i : goal.invariant-loop-i
 invariant-loop-i l =
-    (length l.string_bytes ≡ length l.initial.string_bytes)
-    × (length l.strings ≡ length l.initial.strings)
-    × (length l.files ≡ length l.initial.files)
-    × (length l.functions ≡ length l.initial.functions)
-    × (length l.call_locations ≡ length l.initial.call_locations)
-    × (length l.ranges ≡ length l.initial.ranges)
-    × ((Y : Bool) → Rowing (over_words (switches l.undecorate Y)) (columns l.functions64 l.functions32 l.lines64 l.lines32 l.text) (length l.initial.s) (words l.initial.now l.initial.string_bytes l.initial.strings l.initial.files l.initial.functions l.initial.call_locations l.initial.ranges) l.s l.i l.first_line (words l.now l.string_bytes l.strings l.files l.functions l.call_locations l.ranges))
-
-abbrev pub decreases-loop-i : goal.decreases-loop-i
-decreases-loop-i l = l.rows - l.i
+    SameTables l.initial.tables l.tables
+    × ((Y : Bool) → Rowing (over_words (switches l.undecorate Y)) (columns_of l.functions l.lines l.text) (length l.initial.s) (words_of l.initial.tables) l.s l.i l.first_line (words_of l.tables))

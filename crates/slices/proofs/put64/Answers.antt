@@ -1,7 +1,0 @@
--- `put64` meets its contract: past the end `set` changes nothing.
-use mathlib.Core.Path.{sym}
-use lib.Seq.{set_out}
-use Rattle.slices.proofs.put64.Goals as goal
-
-pub returns-else-j-t : goal.returns-else-j-t
-returns-else-j-t c = sym (set_out _ _ _ c.if-j-t.false)
