@@ -29,7 +29,8 @@ impl Waiting {
     {
         match self {
             Waiting::Nothing => false,
-            Waiting::Bad(_) | Waiting::Frames { .. } => true,
+            Waiting::Bad(_) => true,
+            Waiting::Frames { .. } => true,
         }
     }
 }
@@ -183,7 +184,7 @@ fn print_frames(
 {
     let mut walk = walk;
     let mut at = at;
-    while has_room(out.len(), at) {
+    'frames: while has_room(out.len(), at) {
         let Some(Step { frame, next }) = next_step(file, walk) else {
             return no_more_frames(address, walk.steps, out, at);
         };
