@@ -212,3 +212,6 @@ decoded-encoded p q v h =
 pub decoded-past : (s : List ℕ) (at : ℕ) → length s ≤ at → None ≡ decoded s at
 unfolding decoded leb_number leb_prefix well_formed
 decoded-past s at h = rw (drop_of_length-le s h)
+
+-- what the answers of src/leb128.rt take
+pub ruleset stored = (put_last, put-more, length_last, length_more, encoded_ten)

@@ -17,6 +17,7 @@ fn fits<const N: usize>(s: &[u8], ranges: [(u8, u8); N]) -> bool
 }
 
 // The length of the UTF8-char that s begins with, by the nine alternatives; none where none fits.
+// Nine tests and not a loop over a table of them, which was tried: short names took longer than with the tests by hand.
 #[tactic(auto, unfolding(crate::specs::Utf8::char_len, crate::specs::Utf8::Utf8Char))]
 fn char_len(s: &[u8]) -> Option<usize>
     ensures { result ≡ char_len Utf8Char s.now }

@@ -4,51 +4,44 @@
 // and its bytes. A - stands for absent.
 #![tactic(auto)]
 
+ghost use Rattle.std.specs.Option.{ForSome};
+ghost use Rattle.std.specs.Prelude.{◌<◌, IfSome};
+
 use text::leb128::{Leb, read_leb128, write_leb128};
 use text::strings::{Text, read_text, text_part};
 use text::utf8::is_utf8;
 
-// The line that is being read: how many bytes it has, and the digit that waits for its second (16 where none does).
+// The line that is being read: how many bytes it has, and the digit that waits for its second.
 #[derive(Clone, Copy)]
 struct Line {
     used: usize,
-    high: u8,
+    high: Option<u8>,
     comment: bool,
+    ghost half: { ForSome high (λ d. d < 16) },
 }
 
-fn start() -> Line {
-    Line {
+impl Line {
+    const START: Line = Line {
         used: 0,
-        high: 16,
+        high: None,
         comment: false,
-    }
+    };
 }
 
-// A digit's value; 16 for any other byte.
-fn digit(b: u8) -> u8 {
-    if b >= 48 && b <= 57 {
-        return b - 48;
+// A digit's value; none for any other byte.
+fn digit(b: u8) -> Option<u8>
+    ensures { IfSome result (λ d. d < 16) }
+{
+    match b {
+        b'0'..=b'9' => Some(b - b'0'),
+        b'a'..=b'f' => Some(b - b'a' + 10),
+        _ => None,
     }
-    if b >= 97 && b <= 102 {
-        return b - 87;
-    }
-    16
-}
-
-fn wide(b: u8) -> u64 {
-    b as u64
 }
 
 fn hexes(rt: &impl Print, s: &[u8]) {
     for b in s {
-        let n = wide(*b);
-        let _ = print!(rt; "{n:02x} ");
-    }
-}
-
-fn first_hexes(rt: &impl Print, s: &[u8], n: usize) {
-    if n <= s.len() {
-        hexes(rt, &s[0..n]);
+        let _ = print!(rt; "{b:02x} ");
     }
 }
 
@@ -56,7 +49,7 @@ fn first_hexes(rt: &impl Print, s: &[u8], n: usize) {
 fn print_shortest(rt: &impl Print, v: u64) {
     let mut out = [0u8; 10];
     if let Some(n) = write_leb128(&mut out, 0, v) {
-        first_hexes(rt, &out, n);
+        hexes(rt, &out[..n.min(10)]);
     }
 }
 
@@ -78,11 +71,8 @@ fn print_text(rt: &impl Print, s: &[u8]) {
 }
 
 fn print_utf8(rt: &impl Print, s: &[u8]) {
-    if is_utf8(s) {
-        let _ = print!(rt; "u1 ");
-        return;
-    }
-    let _ = print!(rt; "u0 ");
+    let n = u8::from(is_utf8(s));
+    let _ = print!(rt; "u{n} ");
 }
 
 fn report(rt: &impl Print, s: &[u8]) {
@@ -94,58 +84,48 @@ fn report(rt: &impl Print, s: &[u8]) {
     let _ = println!(rt);
 }
 
-fn report_first(rt: &impl Print, s: &[u8], n: usize) {
-    if n <= s.len() {
-        report(rt, &s[0..n]);
-    }
-}
-
-fn put(s: &mut [u8], at: usize, b: u8) {
-    if at < s.len() {
-        s[at] = b;
-    }
-}
-
 // One byte of the input.
 fn feed(rt: &impl Print, line: &mut [u8], now: Line, b: u8) -> Line {
-    if b == 10 {
+    if b == b'\n' {
         if now.used > 0 || !now.comment {
-            report_first(rt, line, now.used);
+            if let Some(read) = line.get(..now.used) {
+                report(rt, read);
+            }
         }
-        return start();
+        return Line::START;
     }
     if now.comment {
         return now;
     }
-    if b == 35 {
+    if b == b'#' {
         return Line {
             used: now.used,
-            high: 16,
+            high: None,
             comment: true,
         };
     }
-    let low = digit(b);
-    if low > 15 {
+    let Some(low) = digit(b) else {
         return now;
-    }
-    let high = now.high;
-    if high > 15 {
+    };
+    let Some(high) = now.high else {
         return Line {
             used: now.used,
-            high: low,
+            high: Some(low),
             comment: false,
         };
+    };
+    if let Some(place) = line.get_mut(now.used) {
+        *place = high * 16 + low;
     }
-    put(line, now.used, high * 16 + low);
     Line {
-        used: std::num::wrapping_add_u64(now.used as u64, 1) as usize,
-        high: 16,
+        used: now.used.wrapping_add(1),
+        high: None,
         comment: false,
     }
 }
 
 fn feed_all(rt: &impl Print, line: &mut [u8], input: &[u8]) {
-    let mut now = start();
+    let mut now = Line::START;
     for b in input {
         now = feed(rt, line, now, *b);
     }
