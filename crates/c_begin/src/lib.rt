@@ -4,11 +4,12 @@
 
 ghost use Rattle.std.specs.Prelude.{◌≡◌, []};
 ghost use Rattle.slices.specs.Bytes.{bytes_at};
+ghost use Rattle.errors.specs.Numbers.{code_of};
 ghost use Rattle.memory.specs.Memory.{memory};
 ghost use Rattle.c_words.specs.Writing.{call_left, begin_call};
 
 use c_words::record::store;
-use memory::SYMCACHE_CLOSED;
+use errors::Refusal;
 use slices::is_set;
 
 // The first 32 bytes, zeros past the end: a header row begins with its debug id.
@@ -19,7 +20,7 @@ fn debug_id_of(bytes: &[u8]) -> [u8; 32]
     header.debug_id
 }
 
-// A new converter. 0, or 19 where the record has fewer than twenty words.
+// A new converter. Closed where the record has fewer than twenty words.
 #[tactic(auto, using(crate::proofs::BeginLaws::begin_cases))]
 pub fn begin(
     record: &mut [u32],
@@ -33,16 +34,16 @@ pub fn begin(
     functions: &mut [u32],
     call_locations: &mut [u32],
     ranges: &mut [u32],
-) -> u32
+) -> Result<(), Refusal>
     ensures { let before = memory string_bytes.old strings.old files.old functions.old
         call_locations.old ranges.old in
         let after = memory string_bytes.new strings.new files.new functions.new
         call_locations.new ranges.new in
-        call_left result «record».new after []
+        call_left (code_of result) «record».new after []
         ≡ begin_call «record».old debug_id.now arch undecorate_functions undecorate_symbols before }
 {
     if record.len() < 20 {
-        return SYMCACHE_CLOSED;
+        return Err(Refusal::Closed);
     }
     let c = memory::begin(
         debug_id_of(debug_id),
@@ -57,5 +58,5 @@ pub fn begin(
         ranges,
     );
     store(record, c);
-    0
+    Ok(())
 }

@@ -4,6 +4,7 @@
 
 ghost use Rattle.std.specs.Prelude.{◌≡◌};
 ghost use Rattle.rows.specs.Columns.{columns};
+ghost use Rattle.errors.specs.Numbers.{code_of};
 ghost use Rattle.memory.specs.Memory.{memory};
 ghost use Rattle.line_rows.specs.Numbers.{usable_by, number_of};
 ghost use Rattle.c_words.specs.Record.{converter_of};
@@ -11,11 +12,12 @@ ghost use Rattle.c_words.specs.Writing.{call_left, tree_call, lines_left_lem};
 ghost use Rattle.c_trees.specs.Unpacked.{unpacked_call};
 
 use c_words::record::{load, store_answer};
+use errors::Refusal;
 use memory::{Lengths, is_usable};
-use refusals::SYMCACHE_SCRATCH_TOO_SMALL;
+use rows::{FunctionRows, LineRows};
 use slices::{zero, zero64};
 
-// A tree: 0, or 19, 13, 25, 14, 15, 16, 17.
+// A tree.
 pub fn process_symbolic_function(
     record: &mut [u32],
     string_bytes: &mut [u8],
@@ -25,22 +27,22 @@ pub fn process_symbolic_function(
     call_locations: &mut [u32],
     ranges: &mut [u32],
     scratch: &mut [u32],
-    functions64: &[u64],
-    functions32: &[u32],
-    lines64: &[u64],
-    lines32: &[u32],
+    function_rows: FunctionRows,
+    line_rows: LineRows,
     text: &[u8],
-) -> u32
-    ensures { let given = columns functions64.now functions32.now lines64.now lines32.now
+) -> Result<(), Refusal>
+    ensures { let given = columns function_rows.entry.columns64.now function_rows.entry.columns32.now
+        line_rows.entry.columns64.now line_rows.entry.columns32.now
         text.now in
         let before = memory string_bytes.old strings.old files.old functions.old
         call_locations.old ranges.old in
         let after = memory string_bytes.new strings.new files.new functions.new
         call_locations.new ranges.new in
-        call_left result «record».new after scratch.new ≡ tree_call «record».old before scratch.old given }
+        call_left (code_of result) «record».new after scratch.new ≡ tree_call «record».old before scratch.old given }
 {
+    let mut converter = load(record);
     let answer = writer::calls::process_symbolic_function(
-        load(record),
+        &mut converter,
         string_bytes,
         strings,
         files,
@@ -48,18 +50,15 @@ pub fn process_symbolic_function(
         call_locations,
         ranges,
         scratch,
-        functions64,
-        functions32,
-        lines64,
-        lines32,
+        function_rows,
+        line_rows,
         text,
     );
-    let c = answer.converter;
-    store_answer(record, answer.code, c);
-    answer.code
+    store_answer(record, answer, converter);
+    answer
 }
 
-// The number that a tree whose line rows are one list is refused with before a row is unpacked: 19, 13, 25, 14, 15, 16; 0 where it isn't. Of the tables,
+// What a tree whose line rows are one list is refused with before a row is unpacked. Of the tables,
 // scratch, the memory to unpack into and the line rows the lengths are given; the record is lent as the caller has it, and stays.
 pub fn lines_refusal(
     record: &mut [u32],
@@ -72,14 +71,13 @@ pub fn lines_refusal(
     scratch: usize,
     unpacked64: usize,
     unpacked32: usize,
-    functions64: &[u64],
-    functions32: &[u32],
+    function_rows: FunctionRows,
     lines: usize,
     texts: bool,
     text: &[u8],
-) -> u32
+) -> Result<(), Refusal>
     ensures { let usable = usable_by (converter_of «record».old) string_bytes strings files functions call_locations ranges in
-        (result ≡ number_of usable scratch unpacked64 unpacked32 functions64.now functions32.now lines texts text.now)
+        (code_of result ≡ number_of usable scratch unpacked64 unpacked32 function_rows.entry.columns64.now function_rows.entry.columns32.now lines texts text.now)
         × («record».new ≡ «record».old) }
 {
     let usable = is_usable(
@@ -98,17 +96,16 @@ pub fn lines_refusal(
         scratch,
         unpacked64,
         unpacked32,
-        functions64,
-        functions32,
+        function_rows,
         lines,
         texts,
         text,
     )
 }
 
-// The tree over the rows that were unpacked, unless it is refused; they are zeroed after it. 16 where less was lent than they ask for.
+// The tree over the rows that were unpacked, unless it is refused; they are zeroed after it. Too little scratch memory where less was lent than they ask for.
 pub fn process_unpacked(
-    refused: u32,
+    refused: Result<(), Refusal>,
     lines: usize,
     record: &mut [u32],
     string_bytes: &mut [u8],
@@ -120,28 +117,29 @@ pub fn process_unpacked(
     scratch: &mut [u32],
     unpacked64: &mut [u64],
     unpacked32: &mut [u32],
-    functions64: &[u64],
-    functions32: &[u32],
+    function_rows: FunctionRows,
     text: &[u8],
-) -> u32
+) -> Result<(), Refusal>
     ensures { let before = memory string_bytes.old strings.old files.old functions.old
         call_locations.old ranges.old in
         let after = memory string_bytes.new strings.new files.new functions.new
         call_locations.new ranges.new in
-        lines_left_lem (call_left result «record».new after scratch.new) unpacked64.new unpacked32.new
-        ≡ unpacked_call refused lines «record».old before scratch.old unpacked64.old unpacked32.old
-        functions64.now functions32.now text.now }
+        lines_left_lem (call_left (code_of result) «record».new after scratch.new) unpacked64.new unpacked32.new
+        ≡ unpacked_call (code_of refused) lines «record».old before scratch.old unpacked64.old unpacked32.old
+        function_rows.entry.columns64.now function_rows.entry.columns32.now text.now }
 {
-    if refused != 0 {
-        return refused;
-    }
+    refused?;
     if lines > unpacked64.len() / 3 {
-        return SYMCACHE_SCRATCH_TOO_SMALL;
+        return Err(Refusal::ScratchTooSmall);
     }
     if lines > unpacked32.len() / 14 {
-        return SYMCACHE_SCRATCH_TOO_SMALL;
+        return Err(Refusal::ScratchTooSmall);
     }
-    let code = process_symbolic_function(
+    let line_rows = LineRows {
+        columns64: &unpacked64[..lines * 3],
+        columns32: &unpacked32[..lines * 14],
+    };
+    let answer = process_symbolic_function(
         record,
         string_bytes,
         strings,
@@ -150,13 +148,11 @@ pub fn process_unpacked(
         call_locations,
         ranges,
         scratch,
-        functions64,
-        functions32,
-        &unpacked64[..lines * 3],
-        &unpacked32[..lines * 14],
+        function_rows,
+        line_rows,
         text,
     );
     zero64(unpacked64);
     zero(unpacked32);
-    code
+    answer
 }

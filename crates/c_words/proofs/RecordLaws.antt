@@ -2,11 +2,15 @@
 use Prim.Native.Nat.{ℕ, ◌+◌, ◌*◌}
 use native.Mathlib.Omega.{arith}
 use mathlib.Core.Bool.{Bool}
-use mathlib.Core.Path.{◌≡◌, ap, ◌∙◌}
+use mathlib.Core.Path.{◌≡◌, refl, ap, ◌∙◌}
 use mathlib.Core.List.{List}
 use lib.ListN.{get_or, set, replicate}
 use lib.Seq.{sets}
 use borrow.Author.Tests.{ne_eqb}
+use Rattle.errors.specs.declared.Refusal.{Refusal}
+use Rattle.errors.specs.declared.Refusal.TheVariants.{InvalidRows, InvalidText, AddressOverflow, ScratchTooSmall, TableFull, OutputTooShort, Closed, TooDeep}
+use Rattle.errors.specs.Numbers.{number_lem}
+use Rattle.errors.proofs.Laws.{number-not_0}
 use Rattle.slices.specs.Bytes.{le, le_at, bytes_at, word_bytes}
 use Rattle.memory.specs.declared.State.{State}
 use Rattle.memory.specs.declared.Converter.{Converter}
@@ -77,3 +81,21 @@ len-given n len l e h = rw (e, h)
 pub len-kept : (n len : ℕ) (l : List ℕ) → (n ≡ 0 → ⊥) → l ≡ len_words n len l
 unfolding len_words
 len-kept n len l h = rw (ne_eqb n 0 h)
+
+-- ── By what a call answered ────────────────────────────────────────────────────────────────────────────────────────────
+
+pub len-refused : (e : Refusal) (n : ℕ) (l : List ℕ) → l ≡ len_words (number_lem e) n l
+unfolding len_words
+len-refused e n l = rw (ne_eqb (number_lem e) 0 (number-not_0 e))
+
+-- no refusal but a full table stores the record
+pub record-refused : (e : Refusal) (c : Converter) (r : List ℕ) → (e ≡ TableFull → ⊥) → r ≡ kept (number_lem e) c r
+unfolding kept
+record-refused InvalidRows c r h = refl
+record-refused InvalidText c r h = refl
+record-refused AddressOverflow c r h = refl
+record-refused ScratchTooSmall c r h = refl
+record-refused TableFull c r h = absurd (h refl)
+record-refused OutputTooShort c r h = refl
+record-refused Closed c r h = refl
+record-refused TooDeep c r h = refl

@@ -44,11 +44,11 @@ impl Refusal {
 }
 
 // What a C function answers: 0 for an accepted call, else the number of what it was refused with.
-pub fn code_of(answer: Result<(), Refusal>) -> u32
+pub fn code_of<T: Copy>(answer: Result<T, Refusal>) -> u32
     ensures { result ≡ code_of answer }
 {
     match answer {
-        Ok(()) => 0,
+        Ok(_) => 0,
         Err(refusal) => refusal.number(),
     }
 }

@@ -5,8 +5,9 @@ ghost use Rattle.line_rows.specs.Lines.{line_columns};
 ghost use Rattle.c_words.specs.Writing.{call_left, lines_left_lem, lines_call};
 
 use c_trees::{lines_refusal, process_unpacked};
+use errors::code_of;
 use line_rows::{lines_texts, unpack};
-use rows::LineRow;
+use rows::{FunctionRows, LineRow};
 
 // 0, or 19, 13, 25, 14, 15, 16, 17. The memory that the line rows are unpacked into (three 64-bit words and fourteen 32-bit words a row) counts as scratch.
 #[unsafe(no_mangle)]
@@ -34,6 +35,10 @@ pub extern "C" fn symcache_process_symbolic_function_lines(
         lines_left_lem (call_left result «record».new after scratch.new) unpacked64.new unpacked32.new
         ≡ lines_call «record».old before scratch.old unpacked64.old unpacked32.old given }
 {
+    let function_rows = FunctionRows {
+        columns64: functions64,
+        columns32: functions32,
+    };
     let texts = lines_texts(lines, text);
     let refused = lines_refusal(
         &mut *record,
@@ -46,14 +51,13 @@ pub extern "C" fn symcache_process_symbolic_function_lines(
         scratch.len(),
         unpacked64.len(),
         unpacked32.len(),
-        functions64,
-        functions32,
+        function_rows,
         lines.len(),
         texts,
         text,
     );
     unpack(refused, lines, &mut *unpacked64, &mut *unpacked32);
-    process_unpacked(
+    let answer = process_unpacked(
         refused,
         lines.len(),
         record,
@@ -66,8 +70,8 @@ pub extern "C" fn symcache_process_symbolic_function_lines(
         scratch,
         unpacked64,
         unpacked32,
-        functions64,
-        functions32,
+        function_rows,
         text,
-    )
+    );
+    code_of(answer)
 }

@@ -6,7 +6,8 @@ ghost use Rattle.c_words.specs.Writing.{call_left, begin_call, tree_call, name_a
 
 use c_words::file::put_len;
 use c_words::record::{load, store_answer};
-use rows::{OptionalPart, TextPart};
+use errors::code_of;
+use rows::{FunctionRows, LineRows, OptionalPart, TextPart};
 use slices::is_set;
 
 // A new converter. 0, or 19 where the record has fewer than twenty words.
@@ -31,7 +32,7 @@ pub extern "C" fn symcache_begin(
         call_left result «record».new after []
         ≡ begin_call «record».old debug_id.now arch undecorate_functions undecorate_symbols before }
 {
-    c_begin::begin(
+    code_of(c_begin::begin(
         record,
         debug_id,
         arch,
@@ -43,7 +44,7 @@ pub extern "C" fn symcache_begin(
         functions,
         call_locations,
         ranges,
-    )
+    ))
 }
 
 // A tree: 0, or 19, 13, 25, 14, 15, 16, 17.
@@ -71,7 +72,15 @@ pub extern "C" fn symcache_process_symbolic_function(
         call_locations.new ranges.new in
         call_left result «record».new after scratch.new ≡ tree_call «record».old before scratch.old given }
 {
-    c_trees::process_symbolic_function(
+    let function_rows = FunctionRows {
+        columns64: functions64,
+        columns32: functions32,
+    };
+    let line_rows = LineRows {
+        columns64: lines64,
+        columns32: lines32,
+    };
+    code_of(c_trees::process_symbolic_function(
         record,
         string_bytes,
         strings,
@@ -80,12 +89,10 @@ pub extern "C" fn symcache_process_symbolic_function(
         call_locations,
         ranges,
         scratch,
-        functions64,
-        functions32,
-        lines64,
-        lines32,
+        function_rows,
+        line_rows,
         text,
-    )
+    ))
 }
 
 // A symbol: 0, or 19, 14, 17.
@@ -116,8 +123,9 @@ pub extern "C" fn symcache_process_symbolic_symbol(
         start: name_start,
         len: name_len,
     };
+    let mut converter = load(record);
     let answer = symbol_call::process_symbolic_symbol(
-        load(record),
+        &mut converter,
         string_bytes,
         strings,
         files,
@@ -132,9 +140,8 @@ pub extern "C" fn symcache_process_symbolic_symbol(
             part,
         },
     );
-    let c = answer.converter;
-    store_answer(record, answer.code, c);
-    answer.code
+    store_answer(record, answer, converter);
+    code_of(answer)
 }
 
 // How many line rows of the accepted trees had addresses that were cut back to u32::MAX; 0 while closed.
@@ -172,6 +179,6 @@ pub extern "C" fn symcache_serialize(
         ranges,
         out,
     );
-    put_len(len, written.code, written.len);
-    written.code
+    put_len(len, written);
+    code_of(written)
 }

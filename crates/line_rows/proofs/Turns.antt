@@ -1,8 +1,9 @@
 -- The turns of the two loops over line rows, over plain lists.
-use Prim.Native.Nat.{ℕ, ◌+◌, ◌≤◌, ◌<◌}
-use mathlib.Core.Path.{◌≡◌, refl, sym}
-use mathlib.Core.Bool.{true, false}
-use mathlib.Core.List.{List}
+use Prim.Native.Nat.{ℕ, zero, suc, ◌+◌, ◌≤◌, ◌<◌}
+use mathlib.Core.Path.{◌≡◌, refl, sym, ap, ◌∙◌}
+use mathlib.Core.Bool.{Bool, true, false, ◌&&◌, and-true}
+use mathlib.Core.List.{List, [], ◌∷◌}
+use Rattle.std.specs.List.{list_all}
 use native.Mathlib.Omega.{arith}
 use native.Mathlib.Numerals.{add-one}
 use lib.ListN.{length, get_or, drop, drop_of_length-le}
@@ -10,43 +11,25 @@ use lib.Seq.{drop-cons}
 use Rattle.refusals.specs.Refusals.{each, line_texts?}
 use Rattle.rows.specs.declared.LineRow.{LineRow}
 use borrow.Author.Tests.{eq-eqb, ne_eqb}
-use Rattle.refusals.proofs.Laws.{each_none, each_more, each-not, each-end}
+use Rattle.refusals.proofs.Laws.{and-and}
 use Rattle.line_rows.specs.Lines.{no_line, words64, words32, lines_texts?, put_row, put_lines, unpacked_to}
 
--- ── The texts: those of the first j rows are in order ──
+-- ── The texts of a list, as `all` goes through it ──
 
-pub record Tested (t : List ℕ) (ys : List LineRow) : Type 0 where
-  pub j : ℕ
-  pub le : j ≤ length ys
-  pub same : each (λ (i : ℕ). line_texts? t (get_or ys i no_line)) j ≡ true
+module _ (p : ℕ → Bool) where
+  -- the first apart
+  each-first : (n : ℕ) → each p (suc n) ≡ p 0 && each (λ (i : ℕ). p (suc i)) n
+  unfolding each
+  each-first zero = sym (and-true (p 0))
+  each-first (suc n) = ap (λ (b : Bool). b && p (suc n)) (each-first n) ∙ and-and (p 0) (each (λ (i : ℕ). p (suc i)) n) (p (suc n))
 
-abbrev pub tests-begin : (t : List ℕ) (ys : List LineRow) → Tested t ys
-tests-begin t ys = record { j = 0; le = omega arith; same = each_none (λ (i : ℕ). line_texts? t (get_or ys i no_line)) }
+pub lines_tested : (t : List ℕ) (ls : List LineRow) → list_all (line_texts? t) ls ≡ lines_texts? t ls
+unfolding each
+lines_tested t [] = refl
+lines_tested t (l ∷ ls) =
+    ap (λ (b : Bool). line_texts? t l && b) (lines_tested t ls) ∙ sym (each-first (λ (j : ℕ). line_texts? t (get_or (l ∷ ls) j no_line)) (length ls))
 
-pub tested-more : (t : List ℕ) (ys : List LineRow) (s : Tested t ys) → line_texts? t (get_or ys s.j no_line) ≡ true → each (λ (i : ℕ). line_texts? t (get_or ys i no_line)) (s.j + 1) ≡ true
-tested-more t ys s e = each_more (λ (i : ℕ). line_texts? t (get_or ys i no_line)) s.j s.same e
-
--- the first row whose texts aren't
-pub tested-bad : (t : List ℕ) (ys : List LineRow) (s : Tested t ys) → s.j < length ys → line_texts? t (get_or ys s.j no_line) ≡ false → false ≡ lines_texts? t ys
-tested-bad t ys s h e = sym (each-not (λ (i : ℕ). line_texts? t (get_or ys i no_line)) (length ys) s.j h e)
-
-pub tested-all : (t : List ℕ) (ys : List LineRow) (s : Tested t ys) → length ys ≤ s.j → true ≡ lines_texts? t ys
-tested-all t ys s h = each-end (λ (i : ℕ). line_texts? t (get_or ys i no_line)) (length ys) s.j s.le h s.same
-
--- ── Unpacking: j rows are unpacked, and u and v are the columns ──
-
-pub record Unpacked (ys : List LineRow) (u₀ v₀ : List ℕ) : Type 0 where
-  pub j : ℕ
-  pub u : List ℕ
-  pub v : List ℕ
-  pub le : j ≤ length ys
-  pub long64 : length u ≡ length u₀
-  pub long32 : length v ≡ length v₀
-  pub same64 : put_lines 3 words64 (drop j ys) j u ≡ put_lines 3 words64 ys 0 u₀
-  pub same32 : put_lines 14 words32 (drop j ys) j v ≡ put_lines 14 words32 ys 0 v₀
-
-abbrev pub unpack_begin : (ys : List LineRow) (u₀ v₀ : List ℕ) → Unpacked ys u₀ v₀
-unpack_begin ys u₀ v₀ = record { j = 0; u = u₀; v = v₀; le = omega arith; long64 = refl; long32 = refl; same64 = refl; same32 = refl }
+-- ── Unpacking: j rows are unpacked, and the rest makes the columns ──
 
 -- one row more, in a column of w words a row
 pub put-more : (w : ℕ) (f : LineRow → List ℕ) (ys : List LineRow) (j : ℕ) (t : List ℕ) {u z : List ℕ} → j < length ys → put_lines w f (drop j ys) j t ≡ z → u ≡ put_row w t j (f (get_or ys j no_line))

@@ -3,28 +3,20 @@
 #![tactic(auto)]
 
 ghost use Rattle.std.specs.Prelude.{◌≡◌};
+ghost use Rattle.errors.specs.Numbers.{code_of};
 ghost use Rattle.line_rows.specs.Lines.{words64, words32, lines_texts?, put_row, unpacked_to};
 ghost use Rattle.line_rows.specs.Numbers.{number_of};
 
-use memory::SYMCACHE_CLOSED;
-use refusals::{SYMCACHE_SCRATCH_TOO_SMALL, line_texts};
-use rows::LineRow;
+use errors::Refusal;
+use refusals::line_texts;
+use rows::{FunctionRows, LineRow};
 use slices::flag;
 
-// 14: the texts of all line rows, up to the first row whose texts aren't in order.
+// Invalid text: the texts of all line rows, up to the first row whose texts aren't in order.
 pub fn lines_texts(lines: &[LineRow], text: &[u8]) -> bool
     ensures { result ≡ lines_texts? text.now lines.now }
 {
-    let mut j: usize = 0;
-    while j < lines.len() {
-        let row = lines[j];
-        let good = line_texts(text, row);
-        if !good {
-            return false;
-        }
-        j += 1;
-    }
-    true
+    lines.iter().all(|row| line_texts(text, *row))
 }
 
 // The three 64-bit words of row j, where there is room.
@@ -76,46 +68,44 @@ fn put_line(unpacked64: &mut [u64], unpacked32: &mut [u32], j: usize, row: LineR
 }
 
 // All rows into the memory that is lent for them; nothing where the call is refused.
-pub fn unpack(refused: u32, lines: &[LineRow], unpacked64: &mut [u64], unpacked32: &mut [u32])
-    ensures { (unpacked64.new ≡ unpacked_to refused 3 words64 lines.now unpacked64.old)
-        × (unpacked32.new ≡ unpacked_to refused 14 words32 lines.now unpacked32.old) }
+pub fn unpack(
+    refused: Result<(), Refusal>,
+    lines: &[LineRow],
+    unpacked64: &mut [u64],
+    unpacked32: &mut [u32],
+)
+    ensures { (unpacked64.new ≡ unpacked_to (code_of refused) 3 words64 lines.now unpacked64.old)
+        × (unpacked32.new ≡ unpacked_to (code_of refused) 14 words32 lines.now unpacked32.old) }
 {
-    if refused != 0 {
+    let Ok(()) = refused else {
         return;
-    }
-    let mut j: usize = 0;
-    while j < lines.len() {
-        let row = lines[j];
-        put_line(&mut *unpacked64, &mut *unpacked32, j, row);
-        j += 1;
+    };
+    for j in 0..lines.len() {
+        put_line(&mut *unpacked64, &mut *unpacked32, j, lines[j]);
     }
 }
 
-// The number that the call is refused with before a word is unpacked: 19, 13, 25, 14, 15 or 16, in that order; 0 where it isn't.
+// What the call is refused with before a word is unpacked: closed, else what its rows are refused with, else too little memory to unpack them into.
 pub fn refusal(
     usable: bool,
     scratch: usize,
     unpacked64: usize,
     unpacked32: usize,
-    functions64: &[u64],
-    functions32: &[u32],
+    functions: FunctionRows,
     lines: usize,
     texts: bool,
     text: &[u8],
-) -> u32
-    ensures { result ≡ number_of usable scratch unpacked64 unpacked32 functions64.now functions32.now lines texts text.now }
+) -> Result<(), Refusal>
+    ensures { let f64 = functions.entry.columns64.now in
+        let f32 = functions.entry.columns32.now in
+        code_of result ≡ number_of usable scratch unpacked64 unpacked32 f64 f32 lines texts text.now }
 {
-    if usable {
-        let refused = refusals::refusal_with(functions64, functions32, lines, texts, text, scratch);
-        if refused == 0 {
-            if lines <= unpacked64 / 3 {
-                if lines <= unpacked32 / 14 {
-                    return 0;
-                }
-            }
-            return SYMCACHE_SCRATCH_TOO_SMALL;
-        }
-        return refused;
+    if !usable {
+        return Err(Refusal::Closed);
     }
-    SYMCACHE_CLOSED
+    refusals::refusal_with(functions, lines, texts, text, scratch)?;
+    if unpacked64 / 3 < lines || unpacked32 / 14 < lines {
+        return Err(Refusal::ScratchTooSmall);
+    }
+    Ok(())
 }

@@ -56,14 +56,6 @@ pub struct Lengths {
     pub ranges: usize,
 }
 
-// Numbers of document 01
-
-// A table would need more rows or bytes after this call than its capacity.
-pub const SYMCACHE_TABLE_FULL: u32 = 17;
-
-// The converter is closed, or one of its counts is above the table's capacity.
-pub const SYMCACHE_CLOSED: u32 = 19;
-
 // Capacities
 
 // The lengths of tables that are lent.
@@ -138,7 +130,7 @@ pub fn fits(state: State, lent: Lengths) -> bool
     )
 }
 
-// 19: whether the converter is open and no count is above the capacity of its table.
+// Closed: whether the converter is open and no count is above the capacity of its table.
 pub fn is_usable(c: Converter, lent: Lengths) -> bool
     ensures { result ≡ usable_in c lent }
 {

@@ -6,8 +6,10 @@ use mathlib.Core.Logic.{⊎_elim}
 use mathlib.Core.List.{List}
 use native.Mathlib.Omega.{arith}
 use native.Mathlib.Numerals.{add-one}
-use native.Mathlib.Nat.{eq-or-lt_of_le}
-use lib.Dec.{eqb}
+use native.Mathlib.Nat.{eq-or-lt_of_le, add-zero, zero-add, add-suc, suc-add}
+use Rattle.std.specs.List.{list_all, range_with_len}
+use Rattle.std.proofs.lemmas.Bool.Decides.{nat_tests}
+use lib.Dec.{eqb, leb}
 use lib.ListN.{length}
 use borrow.Author.Tests.{lt-ltb, le-ltb, le-leb, lt-leb, eq-eqb, ne_eqb}
 use Rattle.slices.proofs.Cases.{both_true}
@@ -16,6 +18,22 @@ use Rattle.rows.specs.declared.FunctionRow.{FunctionRow}
 use Rattle.rows.specs.declared.OptionalPart.{OptionalPart}
 use Rattle.rows.specs.Columns.{Columns, function_rows, line_rows, line_struct, function_in_columns}
 use Rattle.refusals.specs.Refusals.{each, total, lengths?, count?, depth?, shallow_row?, shallow?, shaped?, readable?, optional?, function_texts?, line_texts?, texts?, end?, ends?, room?, tree_refusal, function_lengths?, line_lengths?, shaped_with?, refusal_with}
+
+-- ── Tests joined by `&&` ──
+
+-- what `x && y` is where x held, and where it did not
+pub joined-then : {x y v a b : Bool} → a ≡ x → b ≡ y → a ≡ true → v ≡ b → v ≡ (x && y)
+joined-then e f h g = rw (← e, h) (g ∙ f)
+
+pub joined-else : {x v a : Bool} (y : Bool) → a ≡ x → a ≡ false → v ≡ a → v ≡ (x && y)
+joined-else y e h g = rw (← e, h) (g ∙ h)
+
+pub and-and : (a b c : Bool) → (a && b) && c ≡ a && (b && c)
+and-and true b c = refl
+and-and false b c = refl
+
+pub and_five : (a b c d e : Bool) → (((a && b) && c) && d) && e ≡ a && (b && (c && (d && e)))
+and_five a b c d e = and-and ((a && b) && c) d e ∙ (and-and (a && b) c (d && e) ∙ and-and a b (c && (d && e)))
 
 -- ── Loops over rows ──
 
@@ -51,6 +69,19 @@ total-none f = refl
 pub total-more : (f : ℕ → ℕ) (i : ℕ) {sum v : ℕ} → sum ≡ total f i → v ≡ f i → sum + v ≡ total f (i + 1)
 unfolding total
 total-more f i e g = rw (add-one, e, g)
+
+-- the rows by their numbers, as `all` goes through them
+module _ (p : ℕ → Bool) where
+  each_from : (n a : ℕ) → each p a && list_all p (range_with_len a n) ≡ each p (a + n)
+  unfolding each
+  each_from zero a = and-true (each p a) ∙ ap (each p) (sym (add-zero a))
+  each_from (suc n) a =
+      sym (and-and (each p a) (p a) (list_all p (range_with_len (a + 1) n)))
+      ∙ (rw (add-one a) (each_from n (suc a)) ∙ ap (each p) (suc-add a n ∙ sym (add-suc a n)))
+
+  pub each_found : {n m : ℕ} {r : Bool} → n ≡ m → r ≡ list_all p (range_with_len 0 n) → r ≡ each p m
+  unfolding each
+  each_found {n = n} e f = f ∙ (each_from n 0 ∙ ap (each p) (zero-add n ∙ e))
 
 module _ (p : ℕ → Bool) where
   pub each-end : (n i : ℕ) → i ≤ n → n ≤ i → each p i ≡ true → true ≡ each p n
@@ -98,25 +129,11 @@ module _ (d : ℕ → ℕ) where
   pub depths-most : (i m : ℕ) → m ≡ d i → m + 1 ≡ d (i + 1 - 1) + 1
   depths-most i m e = let z : i + 1 - 1 ≡ i = omega arith in rw (z, e)
 
--- ── 25 ──
-
-pub deep : (q : FunctionRow) → 41 < q.depth → shallow_row? q ≡ false
-unfolding shallow_row?
-deep q h = lt-leb q.depth 41 h
-
-pub not-deep : (q : FunctionRow) → q.depth ≤ 41 → shallow_row? q ≡ true
-unfolding shallow_row?
-not-deep q h = le-leb q.depth 41 h
-
 -- ── 15 ──
 
-pub end_no : (q : FunctionRow) → 0xffff_ffff_ffff_ffff - q.address < q.size → end? q ≡ false
+pub end_is : (q : FunctionRow) → q.address ≤ 0xffff_ffff_ffff_ffff → leb q.size (0xffff_ffff_ffff_ffff - q.address) ≡ end? q
 unfolding end?
-end_no q h = lt-leb (q.address + q.size) 0xffff_ffff_ffff_ffff (omega arith)
-
-pub end-yes : (q : FunctionRow) → q.address ≤ 0xffff_ffff_ffff_ffff → q.size ≤ 0xffff_ffff_ffff_ffff - q.address → end? q ≡ true
-unfolding end?
-end-yes q g h = le-leb (q.address + q.size) 0xffff_ffff_ffff_ffff (omega arith)
+end_is q h = grind (arith, nat_tests)
 
 -- ── 14: an optional text ──
 

@@ -4,14 +4,15 @@ use mathlib.Core.Bool.{Bool, true, false, cond, ◌||◌}
 use mathlib.Core.Option.{none, some}
 use mathlib.Core.List.{List, [], ◌∷◌, ◌++◌}
 use Prim.Native.Nat.{ℕ, zero, suc, ◌+◌, ◌/◌, min}
-use native.Mathlib.Nat.{zero-add, add-zero}
+use native.Mathlib.Nat.{zero-add}
+use native.Mathlib.Numerals.{add-one}
+use Rattle.std.specs.List.{filter, range_with_len}
 use native.Mathlib.Omega.{arith}
 use lib.Dec.{ltb}
 use lib.ListN.{length}
 use Rattle.model.specs.Rows.{MAX, LineRow}
 use Rattle.rows.specs.Columns.{Columns, columns, line_rows, line_struct, boundaries_of, line_at, lines_from}
 use Rattle.rows.specs.Clamped.{clamped?, clamped_lines_in, cut_at, clamped_columns_lem}
-use Rattle.rows.proofs.RowLaws.{lines_from_append}
 
 -- one or none
 abbrev one : Bool → ℕ
@@ -35,40 +36,24 @@ module _ (k : Columns) where
       go true = refl
       go false = refl
 
-  clamped_one : (j : ℕ) → clamped_lines_in (lines_from k j 1) ≡ one (cut_at k.lines64 k.lines32 j)
-  unfolding clamped_lines_in lines_from
-  clamped_one j = ap (λ (b : Bool). one b + 0) (clamped_at j) ∙ add-zero (one (cut_at k.lines64 k.lines32 j))
-
-  clamped_more : (j : ℕ) → clamped_lines_in (lines_from k 0 (j + 1)) ≡ clamped_lines_in (lines_from k 0 j) + one (cut_at k.lines64 k.lines32 j)
-  clamped_more j =
-      ap clamped_lines_in (lines_from_append k 0 j 1)
-      ∙ (clamped_append (lines_from k 0 j) (lines_from k (0 + j) 1)
-      ∙ ap (λ (n : ℕ). clamped_lines_in (lines_from k 0 j) + n) (ap (λ (i : ℕ). clamped_lines_in (lines_from k i 1)) (zero-add j) ∙ clamped_one j))
-
--- ── The loop over the columns ──
+-- ── The columns, row by row ──
 
 module _ (l64 l32 : List ℕ) where
-  -- of the first j rows
-  unfoldable pub clamped_before : ℕ → ℕ
-  clamped_before j = clamped_lines_in (lines_from (columns [] [] l64 l32 []) 0 j)
+  counted : (n j : ℕ) → length (filter (cut_at l64 l32) (range_with_len j n)) ≡ clamped_lines_in (lines_from (columns [] [] l64 l32 []) j n)
+  unfolding clamped_lines_in lines_from
+  counted zero j = refl
+  counted (suc n) j =
+      kept (cut_at l64 l32 j) (filter (cut_at l64 l32) (range_with_len (j + 1) n))
+      ∙ ap₂ (λ (b : Bool) (m : ℕ). one b + m) (sym (clamped_at (columns [] [] l64 l32 []) j)) (rw (add-one j) (counted n (suc j)))
+    where
+      kept : (b : Bool) (xs : List ℕ) → length (cond b (j ∷ xs) xs) ≡ one b + length xs
+      kept true xs = omega arith
+      kept false xs = sym (zero-add (length xs))
 
-  pub before-none : clamped_before 0 ≡ 0
-  unfolding clamped_before lines_from clamped_lines_in
-  before-none = refl
-
-  before_more : (j : ℕ) {count count₁ : ℕ} (x : Bool) → count ≡ clamped_before j → cut_at l64 l32 j ≡ x → count₁ ≡ count + one x → count₁ ≡ clamped_before (j + 1)
-  unfolding clamped_before
-  before_more j x e f g = rw (g, e, clamped_more (columns [] [] l64 l32 []) j, f)
-
-  pub before-cut : (j : ℕ) {count count₁ : ℕ} {b : Bool} → count ≡ clamped_before j → b ≡ cut_at l64 l32 j → b ≡ true → count₁ ≡ count + 1 → count₁ ≡ clamped_before (j + 1)
-  before-cut j e f g h = before_more j true e (sym f ∙ g) h
-
-  pub before-whole : (j : ℕ) {count count₁ : ℕ} {b : Bool} → count ≡ clamped_before j → b ≡ cut_at l64 l32 j → b ≡ false → count₁ ≡ count → count₁ ≡ clamped_before (j + 1)
-  before-whole j e f g h = before_more j false e (sym f ∙ g) (omega arith)
-
-  pub before-all : (n j : ℕ) {count : ℕ} → count ≡ clamped_before j → n ≡ length l64 / 3 → j ≡ n → count ≡ clamped_columns_lem l64 l32
-  unfolding clamped_before clamped_columns_lem
-  before-all n j e f g = rw (e, g, f)
+  -- as many as are found among the numbers of all rows
+  pub clamped_found : (n : ℕ) {count : ℕ} → n ≡ length l64 / 3 → count ≡ length (filter (cut_at l64 l32) (range_with_len 0 n)) → count ≡ clamped_columns_lem l64 l32
+  unfolding clamped_columns_lem
+  clamped_found n e f = f ∙ (counted n 0 ∙ ap (λ (m : ℕ). clamped_lines_in (lines_from (columns [] [] l64 l32 []) 0 m)) e)
 
 -- ── The rows of a tree ──
 

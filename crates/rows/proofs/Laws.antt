@@ -1,17 +1,60 @@
 -- What the definitions compute to under the tests that the code makes: a row by value, a part of the text, a line's addresses.
-use Prim.Native.Nat.{ℕ, ◌+◌, ◌-◌, ◌*◌, ◌/◌, ◌≤◌, ◌<◌, min}
-use mathlib.Core.Path.{◌≡◌, sym, ap, ◌∙◌}
+use Prim.Native.Nat.{ℕ, ◌+◌, ◌-◌, ◌/◌, ◌≤◌, ◌<◌, min}
+use mathlib.Core.Path.{◌≡◌, sym}
 use mathlib.Core.Bool.{Bool, true, false, cond, not, ◌||◌, true≢false}
 use mathlib.Core.List.{List, []}
 use native.Mathlib.Omega.{arith}
 use lib.Dec.{ltb}
-use lib.ListN.{length, get_or, take, drop}
+use lib.ListN.{length, take, drop}
 use borrow.Author.Tests.{lt-ltb, le-ltb, le-leb, lt-leb}
 use Rattle.model.specs.Rows.{MAX}
+use Rattle.rows.specs.declared.TextPart.{TextPart}
+use Rattle.rows.specs.declared.OptionalPart.{OptionalPart}
+use Rattle.rows.specs.declared.FunctionRow.{FunctionRow as FunctionStruct}
 use Rattle.rows.specs.declared.LineRow.{LineRow as LineStruct}
-use Rattle.rows.specs.declared.Boundaries.{Boundaries}
-use Rattle.rows.specs.Columns.{flag_at, function_fields, function_in_columns, line_fields, line_in_columns, boundaries_of, part_of}
-use Rattle.rows.specs.Clamped.{cut_at}
+use Rattle.rows.specs.Columns.{function_fields, function_in_columns, line_fields, line_in_columns, boundaries_of, part_of}
+
+-- a row of zeros, as a derived `default` gives it
+abbrev ZeroPart : TextPart → Type 0
+ZeroPart p = (p.start ≡ 0) × (p.len ≡ 0)
+
+abbrev NoText : OptionalPart → Type 0
+NoText o = (o.present ≡ false) × ZeroPart o.part
+
+zero_part : {p : TextPart} → ZeroPart p → p ≡ record { start = 0; len = 0 }
+zero_part e = λ i. record { start = e.0 i; len = e.1 i }
+
+no_text : {o : OptionalPart} → NoText o → o ≡ record { present = false; part = record { start = 0; len = 0 } }
+no_text e = λ i. record { present = e.0 i; part = zero_part e.1 i }
+
+pub function_default : {q : FunctionStruct}
+    → (q.depth ≡ 0) × ((q.address ≡ 0) × ((q.size ≡ 0) × ((q.inline ≡ false) × ((q.language ≡ 0) × (ZeroPart q.name × (ZeroPart q.comp_dir × (q.lines ≡ 0)))))))
+    → q ≡ function_fields [] [] 0
+function_default e = λ i. record {
+  depth = e.0 i;
+  address = e.1.0 i;
+  size = e.1.1.0 i;
+  inline = e.1.1.1.0 i;
+  language = e.1.1.1.1.0 i;
+  name = zero_part e.1.1.1.1.1.0 i;
+  comp_dir = zero_part e.1.1.1.1.1.1.0 i;
+  lines = e.1.1.1.1.1.1.1 i;
+}
+
+pub line_default : {l : LineStruct}
+    → (l.address ≡ 0) × ((l.has_size ≡ false) × ((l.size ≡ 0) × ((l.number ≡ 0) × (ZeroPart l.name × (ZeroPart l.directory × (NoText l.srcsrv_name × (NoText l.srcsrv_dir × NoText l.revision)))))))
+    → l ≡ line_fields [] [] 0
+line_default e = λ i. record {
+  address = e.0 i;
+  has_size = e.1.0 i;
+  size = e.1.1.0 i;
+  number = e.1.1.1.0 i;
+  name = zero_part e.1.1.1.1.0 i;
+  directory = zero_part e.1.1.1.1.1.0 i;
+  srcsrv_name = no_text e.1.1.1.1.1.1.0 i;
+  srcsrv_dir = no_text e.1.1.1.1.1.1.1.0 i;
+  revision = no_text e.1.1.1.1.1.1.1.1 i;
+}
 
 module _ (f64 f32 : List ℕ) (i : ℕ) where
   pub function_in : i < length f64 / 2 → i < length f32 / 8 → function_fields f64 f32 i ≡ function_in_columns f64 f32 i
@@ -67,25 +110,6 @@ module _ (a : ℕ) (h : Bool) (s : ℕ) where
   boundaries-within l e g =
       let near : min a MAX + cond h s 1 ≤ MAX = omega arith in
       boundaries_are (omega arith) (omega arith) (rw (le-ltb MAX a l, le-ltb MAX (min a MAX + cond h s 1) near))
-
--- ── Line rows that were cut back ──
-
-module _ (l64 l32 : List ℕ) (j : ℕ) where
-  pub cut_in : j < length l64 / 3 → j < length l32 / 14 → {b : Boundaries}
-      → b ≡ boundaries_of (get_or l64 (j * 3) 0) (flag_at l32 (j * 14)) (get_or l64 (j * 3 + 1) 0) → b.cut ≡ cut_at l64 l32 j
-  unfolding cut_at
-  cut_in g h e = ap (λ (b : Boundaries). b.cut) e ∙ ap (λ (l : LineStruct). (boundaries_of l.address l.has_size l.size).cut) (line_in l64 l32 j g h)
-
-  -- the row of zeros is not
-  none-cut : line_fields [] [] 0 ≡ line_in_columns l64 l32 j → false ≡ cut_at l64 l32 j
-  unfolding cut_at boundaries_of
-  none-cut e = ap (λ (l : LineStruct). (boundaries_of l.address l.has_size l.size).cut) e
-
-  pub cut_out64 : length l64 / 3 ≤ j → false ≡ cut_at l64 l32 j
-  cut_out64 h = none-cut (line_out64 l64 l32 j h)
-
-  pub cut_out32 : j < length l64 / 3 → length l32 / 14 ≤ j → false ≡ cut_at l64 l32 j
-  cut_out32 g h = none-cut (line_out32 l64 l32 j g h)
 
 -- ── Tests one after the other ──
 

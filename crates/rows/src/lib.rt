@@ -1,27 +1,27 @@
 // What a tree call is given: function rows and line rows as columns of numbers over one lent text.
 #![tactic(auto)]
 
-ghost use Rattle.std.specs.Prelude.{◌≡◌, cond};
+ghost use Rattle.std.specs.Prelude.{◌≡◌, ◌/◌, length};
 ghost use Rattle.rows.specs.Columns.{function_in_columns, line_in_columns, part_of, boundaries_of};
 ghost use Rattle.rows.specs.Clamped.{cut_at, clamped_columns_lem};
 
 // A part of the lent text.
 #[repr(C)]
-#[derive(Clone, Copy)]
+#[derive(Clone, Copy, Default)]
 pub struct TextPart {
     pub start: u32,
     pub len: u32,
 }
 
-// A text that may be absent.
+// A text that may be absent. Not an Option: rows of line rows are lent as they lie in C, SymcacheLineRow of include/symcache.h.
 #[repr(C)]
-#[derive(Clone, Copy)]
+#[derive(Clone, Copy, Default)]
 pub struct OptionalPart {
     pub present: bool,
     pub part: TextPart,
 }
 
-#[derive(Clone, Copy)]
+#[derive(Clone, Copy, Default)]
 pub struct FunctionRow {
     pub depth: u32,
     pub address: u64,
@@ -33,8 +33,9 @@ pub struct FunctionRow {
     pub lines: u32,
 }
 
+// Its size is a flag and a number, and no Option, for the same reason.
 #[repr(C)]
-#[derive(Clone, Copy)]
+#[derive(Clone, Copy, Default)]
 pub struct LineRow {
     pub address: u64,
     pub has_size: bool,
@@ -55,108 +56,131 @@ pub struct Boundaries {
     pub cut: bool,
 }
 
-// Function row i; zeros where there is none.
-pub fn function_row(functions64: &[u64], functions32: &[u32], i: usize) -> FunctionRow
-    ensures { result ≡ function_in_columns functions64.now functions32.now i }
-{
-    if i < functions64.len() / 2 {
-        if i < functions32.len() / 8 {
+// Function rows, as their two columns.
+#[derive(Clone, Copy)]
+pub struct FunctionRows<'a> {
+    // Two words a row: address, size.
+    pub columns64: &'a [u64],
+    // Eight words a row: depth, inline flag, language, name, compilation directory, count of line rows.
+    pub columns32: &'a [u32],
+}
+
+impl<'a> FunctionRows<'a> {
+    // How many there are.
+    pub fn len(self) -> usize
+        ensures { result ≡ length self.entry.columns64.now / 2 }
+    {
+        self.columns64.len() / 2
+    }
+
+    // Row i; zeros where there is none.
+    pub fn row(self, i: usize) -> FunctionRow
+        ensures { result ≡ function_in_columns self.entry.columns64.now self.entry.columns32.now i }
+    {
+        let wide = self.columns64;
+        let words = self.columns32;
+        if i < wide.len() / 2 && i < words.len() / 8 {
             let w = i * 2;
             let k = i * 8;
             return FunctionRow {
-                depth: functions32[k],
-                address: functions64[w],
-                size: functions64[w + 1],
-                inline: functions32[k + 1] != 0,
-                language: functions32[k + 2],
+                depth: words[k],
+                address: wide[w],
+                size: wide[w + 1],
+                inline: words[k + 1] != 0,
+                language: words[k + 2],
                 name: TextPart {
-                    start: functions32[k + 3],
-                    len: functions32[k + 4],
+                    start: words[k + 3],
+                    len: words[k + 4],
                 },
                 comp_dir: TextPart {
-                    start: functions32[k + 5],
-                    len: functions32[k + 6],
+                    start: words[k + 5],
+                    len: words[k + 6],
                 },
-                lines: functions32[k + 7],
+                lines: words[k + 7],
             };
         }
-    }
-    FunctionRow {
-        depth: 0,
-        address: 0,
-        size: 0,
-        inline: false,
-        language: 0,
-        name: TextPart { start: 0, len: 0 },
-        comp_dir: TextPart { start: 0, len: 0 },
-        lines: 0,
+        FunctionRow::default()
     }
 }
 
-// Line row j; zeros where there is none.
-pub fn line_row(lines64: &[u64], lines32: &[u32], j: usize) -> LineRow
-    ensures { result ≡ line_in_columns lines64.now lines32.now j }
-{
-    if j < lines64.len() / 3 {
-        if j < lines32.len() / 14 {
+// Line rows, as their two columns.
+#[derive(Clone, Copy)]
+pub struct LineRows<'a> {
+    // Three words a row: address, size, line number.
+    pub columns64: &'a [u64],
+    // Fourteen words a row: has-size flag, name, directory, and the three optional texts.
+    pub columns32: &'a [u32],
+}
+
+impl<'a> LineRows<'a> {
+    // How many there are.
+    pub fn len(self) -> usize
+        ensures { result ≡ length self.entry.columns64.now / 3 }
+    {
+        self.columns64.len() / 3
+    }
+
+    // Row j; zeros where there is none.
+    pub fn row(self, j: usize) -> LineRow
+        ensures { result ≡ line_in_columns self.entry.columns64.now self.entry.columns32.now j }
+    {
+        let wide = self.columns64;
+        let words = self.columns32;
+        if j < wide.len() / 3 && j < words.len() / 14 {
             let w = j * 3;
             let k = j * 14;
             return LineRow {
-                address: lines64[w],
-                has_size: lines32[k] != 0,
-                size: lines64[w + 1],
-                number: lines64[w + 2],
+                address: wide[w],
+                has_size: words[k] != 0,
+                size: wide[w + 1],
+                number: wide[w + 2],
                 name: TextPart {
-                    start: lines32[k + 1],
-                    len: lines32[k + 2],
+                    start: words[k + 1],
+                    len: words[k + 2],
                 },
                 directory: TextPart {
-                    start: lines32[k + 3],
-                    len: lines32[k + 4],
+                    start: words[k + 3],
+                    len: words[k + 4],
                 },
                 srcsrv_name: OptionalPart {
-                    present: lines32[k + 5] != 0,
+                    present: words[k + 5] != 0,
                     part: TextPart {
-                        start: lines32[k + 6],
-                        len: lines32[k + 7],
+                        start: words[k + 6],
+                        len: words[k + 7],
                     },
                 },
                 srcsrv_dir: OptionalPart {
-                    present: lines32[k + 8] != 0,
+                    present: words[k + 8] != 0,
                     part: TextPart {
-                        start: lines32[k + 9],
-                        len: lines32[k + 10],
+                        start: words[k + 9],
+                        len: words[k + 10],
                     },
                 },
                 revision: OptionalPart {
-                    present: lines32[k + 11] != 0,
+                    present: words[k + 11] != 0,
                     part: TextPart {
-                        start: lines32[k + 12],
-                        len: lines32[k + 13],
+                        start: words[k + 12],
+                        len: words[k + 13],
                     },
                 },
             };
         }
+        LineRow::default()
     }
-    LineRow {
-        address: 0,
-        has_size: false,
-        size: 0,
-        number: 0,
-        name: TextPart { start: 0, len: 0 },
-        directory: TextPart { start: 0, len: 0 },
-        srcsrv_name: OptionalPart {
-            present: false,
-            part: TextPart { start: 0, len: 0 },
-        },
-        srcsrv_dir: OptionalPart {
-            present: false,
-            part: TextPart { start: 0, len: 0 },
-        },
-        revision: OptionalPart {
-            present: false,
-            part: TextPart { start: 0, len: 0 },
-        },
+
+    // Whether the addresses of row j were cut back; of a row that is not there they were not.
+    fn is_cut(self, j: usize) -> bool
+        ensures { result ≡ cut_at self.entry.columns64.now self.entry.columns32.now j }
+    {
+        let line = self.row(j);
+        line_boundaries(line.address, line.has_size, line.size).cut
+    }
+
+    // How many have addresses that were cut back: every row once, whatever becomes of it.
+    pub fn clamped(self) -> u64
+        ensures { result ≡ clamped_columns_lem self.entry.columns64.now self.entry.columns32.now }
+    {
+        (0..self.len()).filter(|&j| self.is_cut(j)).count() as u64
     }
 }
 
@@ -170,16 +194,6 @@ pub fn part<'a>(text: &'a [u8], p: TextPart) -> &'a [u8]
         return &text[start..end];
     }
     &text[..0]
-}
-
-// A line with no size covers one address.
-fn size_or_one(has_size: bool, size: u64) -> u64
-    ensures { result ≡ cond has_size size 1 }
-{
-    if has_size {
-        return size;
-    }
-    1
 }
 
 // A line's addresses: the start clamps and the end saturates at u32::MAX; a line with no size covers one address.
@@ -196,7 +210,7 @@ pub fn line_boundaries(address: u64, has_size: bool, size: u64) -> Boundaries
         };
     }
     let start = address as u32;
-    let size = size_or_one(has_size, size);
+    let size = if has_size { size } else { 1 };
     if max - address < size {
         return Boundaries {
             start,
@@ -210,34 +224,4 @@ pub fn line_boundaries(address: u64, has_size: bool, size: u64) -> Boundaries
         end,
         cut: false,
     }
-}
-
-// Whether the addresses of line row j were cut back; of a row that is not there they were not.
-fn is_cut(lines64: &[u64], lines32: &[u32], j: usize) -> bool
-    ensures { result ≡ cut_at lines64.now lines32.now j }
-{
-    if j < lines64.len() / 3 {
-        if j < lines32.len() / 14 {
-            let w = j * 3;
-            let has_size = lines32[j * 14] != 0;
-            return line_boundaries(lines64[w], has_size, lines64[w + 1]).cut;
-        }
-    }
-    false
-}
-
-// How many line rows have addresses that were cut back: every row once, whatever becomes of it.
-pub fn clamped_lines(lines64: &[u64], lines32: &[u32]) -> u64
-    ensures { result ≡ clamped_columns_lem lines64.now lines32.now }
-{
-    let n = lines64.len() / 3;
-    let mut count: u64 = 0;
-    let mut j = 0;
-    while j < n {
-        if is_cut(lines64, lines32, j) {
-            count += 1;
-        }
-        j += 1;
-    }
-    count
 }

@@ -1,6 +1,7 @@
 -- The written file, and what writing answers: document 01 "Writer" and "Who causes which number"; writer.rs, `serialize`. For any record and any content of the
 -- tables.
-use Rattle.std.specs.Prelude.{ℕ, ◌+◌, ◌*◌, ◌%◌, ◌<◌, ◌≤◌, cond, List, ◌++◌, leb, length, take, drop}
+use Rattle.std.specs.Prelude.{ℕ, ◌+◌, ◌*◌, ◌%◌, ◌<◌, ◌≤◌, cond, List, ◌++◌, Result, Ok, Err, leb, length, take, drop}
+use Rattle.errors.specs.declared.Refusal.{Refusal}
 use Rattle.model.specs.Basics.{Span}
 use Rattle.slices.specs.Bytes.{table_bytes}
 use Rattle.raw.specs.Rows.{version_info_bytes, header_bytes}
@@ -56,6 +57,11 @@ pub record Wrote : Type 0 where
 
 abbrev pub wrote : ℕ → ℕ → List ℕ → Wrote
 wrote n l o = record { code = n; len = l; output = o }
+
+-- the length that a call answers, 0 where it is refused
+abbrev pub len_of : Result ℕ Refusal → ℕ
+len_of (Ok n) = n
+len_of (Err e) = 0
 
 -- a file into an output: 0, its length, and its bytes ("Output beyond the written file keeps its content"); or 18 where the output is shorter. A refusal
 -- answers length 0

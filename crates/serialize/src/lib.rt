@@ -10,16 +10,15 @@ ghost use Rattle.serialize.specs.Sections.{file_row, function_row, call_row, ent
 ghost use Rattle.serialize.specs.Sections.{in_order, range_sections};
 ghost use Rattle.raw.specs.Rows.{version_info_bytes, header_bytes};
 ghost use Rattle.raw.specs.Head.{version_info, padding};
+ghost use Rattle.errors.specs.Numbers.{code_of};
 ghost use Rattle.memory.specs.Memory.{memory};
-ghost use Rattle.serialize.specs.File.{header_of, layout_of, written_file, Ready, wrote, serialize_of};
+ghost use Rattle.serialize.specs.File.{header_of, layout_of, written_file, Ready, wrote, len_of, serialize_of};
 
+use errors::Refusal;
 use memory::{Converter, State, is_usable, lent};
 use raw::{Header, Range, VersionInfo};
 use slices::{copy, load_u32, store_u32};
 use tables::kinds::{call_of_row, file_of_row, function_of_row, location_of_row, start_of_row};
-
-// Document 01's number for an output that is shorter than the file.
-const SYMCACHE_OUTPUT_TOO_SHORT: u32 = 18;
 
 // Magic, version and header; then the rows, of these sizes in bytes.
 const HEAD_SIZE: usize = 80;
@@ -35,14 +34,7 @@ const RANGE_SIZE: usize = 4;
 // An entry, while the ranges are sorted: a start and a row number.
 const ENTRY_SIZE: usize = 8;
 
-// What writing answers: document 01's number, 0 for success, and the file's length.
-#[derive(Clone, Copy)]
-pub struct Written {
-    pub code: u32,
-    pub len: usize,
-}
-
-// The file of what was converted: its length, and its bytes at the front of the output. The converter is as it was, and may write again.
+// The file of what was converted: it answers its length, and its bytes stand at the front of the output. The converter is as it was, and may write again.
 pub fn serialize(
     converter: Converter,
     string_bytes: &[u8],
@@ -52,10 +44,10 @@ pub fn serialize(
     call_locations: &[u32],
     ranges: &[u32],
     out: &mut [u8],
-) -> Written
+) -> Result<usize, Refusal>
     ensures { let lent = memory string_bytes.now strings.now files.now
         functions.now call_locations.now ranges.now in
-        wrote result.code result.len out.new ≡ serialize_of converter lent out.old }
+        wrote (code_of result) (len_of result) out.new ≡ serialize_of converter lent out.old }
 {
     let state = converter.state;
     let tables = lent(
@@ -67,18 +59,12 @@ pub fn serialize(
         ranges,
     );
     if !is_usable(converter, tables) {
-        return Written {
-            code: memory::SYMCACHE_CLOSED,
-            len: 0,
-        };
+        return Err(Refusal::Closed);
     }
     let at = lay_out(state);
     let len = at.len;
     if out.len() < len {
-        return Written {
-            code: SYMCACHE_OUTPUT_TOO_SHORT,
-            len: 0,
-        };
+        return Err(Refusal::OutputTooShort);
     }
     write_sections(
         out,
@@ -89,7 +75,7 @@ pub fn serialize(
         call_locations,
         ranges,
     );
-    Written { code: 0, len }
+    Ok(len)
 }
 
 // The file, from the front of the output on.

@@ -2,6 +2,7 @@
 // them, so that what one has to wait for is fetched from memory while the others are. What is read goes to scratch memory, four words
 // a function, and nothing of it is used.
 use crate::tree::entry_pc;
+use rows::FunctionRows;
 use slices::{put, word};
 use tables::Row;
 
@@ -10,21 +11,20 @@ fn name_link(
     undecorate: bool,
     strings: &[u32],
     s: &mut [u32],
-    functions64: &[u64],
-    functions32: &[u32],
+    function_rows: FunctionRows,
     text: &[u8],
     i: u32,
 ) {
     let k = (i as usize) * 4;
-    let q = rows::function_row(functions64, functions32, i as usize);
+    let q = function_rows.row(i as usize);
     let name = steps::shown_name(rows::part(text, q.name), undecorate);
     put(s, k, strings::newest(strings, name));
 }
 
 // The same for the range that starts at its address.
-fn range_link(ranges: &[u32], s: &mut [u32], functions64: &[u64], functions32: &[u32], i: u32) {
+fn range_link(ranges: &[u32], s: &mut [u32], function_rows: FunctionRows, i: u32) {
     let k = (i as usize) * 4 + 1;
-    let q = rows::function_row(functions64, functions32, i as usize);
+    let q = function_rows.row(i as usize);
     let address = (q.address % 4294967296) as u32;
     put(s, k, tables::ranges::newest(ranges, address));
 }
@@ -65,15 +65,9 @@ fn name_bytes(string_bytes: &[u8], s: &mut [u32], i: u32) {
 }
 
 // The newest row in the bucket of the function, as a link.
-fn function_link(
-    functions: &[u32],
-    s: &mut [u32],
-    functions64: &[u64],
-    functions32: &[u32],
-    i: u32,
-) {
+fn function_link(functions: &[u32], s: &mut [u32], function_rows: FunctionRows, i: u32) {
     let k = (i as usize) * 4;
-    let q = rows::function_row(functions64, functions32, i as usize);
+    let q = function_rows.row(i as usize);
     let row = tables::kinds::row_of_function(raw::Function {
         name_offset: word(s, k),
         comp_dir_offset: u32::MAX,
@@ -106,11 +100,10 @@ pub(crate) fn read_ahead(
     functions: &[u32],
     ranges: &[u32],
     s: &mut [u32],
-    functions64: &[u64],
-    functions32: &[u32],
+    function_rows: FunctionRows,
     text: &[u8],
 ) {
-    let n = few(functions64.len() / 2);
+    let n = few(function_rows.len());
     let mut step: u32 = 0;
     while step < 6 {
         let mut next: u32 = 0;
@@ -118,11 +111,11 @@ pub(crate) fn read_ahead(
             let i = next;
             next += 1;
             match step {
-                0 => name_link(undecorate, strings, s, functions64, functions32, text, i),
-                1 => range_link(ranges, s, functions64, functions32, i),
+                0 => name_link(undecorate, strings, s, function_rows, text, i),
+                1 => range_link(ranges, s, function_rows, i),
                 2 => name_row(strings, s, i),
                 3 => name_bytes(string_bytes, s, i),
-                4 => function_link(functions, s, functions64, functions32, i),
+                4 => function_link(functions, s, function_rows, i),
                 _ => function_word(functions, s, i),
             }
         }

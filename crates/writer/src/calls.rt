@@ -1,19 +1,21 @@
 // The public call with a tree. That with a symbol is crate symbol_call's, a beginning `memory::begin`.
 ghost use Rattle.std.specs.Prelude.{◌≡◌};
+ghost use Rattle.errors.specs.Numbers.{code_of};
 ghost use Rattle.memory.specs.Memory.{memory};
 ghost use Rattle.rows.specs.Columns.{columns};
 ghost use Rattle.symbol_call.specs.Calls.{called};
 ghost use Rattle.writer.specs.Calls.{tree_of};
 
 use crate::tree::process_rows;
+use errors::Refusal;
 use memory::{Converter, is_usable, lent, with_clamped};
-use rows::clamped_lines;
+use rows::{FunctionRows, LineRows};
 use slices::zero;
-use symbol_call::{Answer, finish};
+use symbol_call::finish;
 
 // A tree: function rows in preorder, their line rows, and one lent text.
 pub fn process_symbolic_function(
-    converter: Converter,
+    converter: &mut Converter,
     string_bytes: &mut [u8],
     strings: &mut [u32],
     files: &mut [u32],
@@ -21,19 +23,17 @@ pub fn process_symbolic_function(
     call_locations: &mut [u32],
     ranges: &mut [u32],
     scratch: &mut [u32],
-    functions64: &[u64],
-    functions32: &[u32],
-    lines64: &[u64],
-    lines32: &[u32],
+    function_rows: FunctionRows,
+    line_rows: LineRows,
     text: &[u8],
-) -> Answer
-    ensures { let given = columns functions64.now functions32.now
-        lines64.now lines32.now text.now in
+) -> Result<(), Refusal>
+    ensures { let given = columns function_rows.entry.columns64.now function_rows.entry.columns32.now
+        line_rows.entry.columns64.now line_rows.entry.columns32.now text.now in
         let before = memory string_bytes.old strings.old files.old
         functions.old call_locations.old ranges.old in
         let after = memory string_bytes.new strings.new files.new
         functions.new call_locations.new ranges.new in
-        called result.code result.converter after scratch.new ≡ tree_of converter before scratch.old given }
+        called (code_of result) converter.new after scratch.new ≡ tree_of converter.old before scratch.old given }
 {
     let tables = lent(
         string_bytes,
@@ -43,26 +43,10 @@ pub fn process_symbolic_function(
         call_locations,
         ranges,
     );
-    if !is_usable(converter, tables) {
-        return Answer {
-            code: memory::SYMCACHE_CLOSED,
-            converter,
-        };
+    if !is_usable(*converter, tables) {
+        return Err(Refusal::Closed);
     }
-    let refused = refusals::refusal(
-        functions64,
-        functions32,
-        lines64,
-        lines32,
-        text,
-        scratch.len(),
-    );
-    if refused != 0 {
-        return Answer {
-            code: refused,
-            converter,
-        };
-    }
+    refusals::refusal(function_rows, line_rows, text, scratch.len())?;
     let state = process_rows(
         converter.undecorate_functions,
         converter.state,
@@ -73,16 +57,14 @@ pub fn process_symbolic_function(
         call_locations,
         ranges,
         scratch,
-        functions64,
-        functions32,
-        lines64,
-        lines32,
+        function_rows,
+        line_rows,
         text,
     );
     zero(scratch);
-    let counted = with_clamped(converter, clamped_lines(lines64, lines32));
+    *converter = with_clamped(*converter, line_rows.clamped());
     finish(
-        counted,
+        converter,
         state,
         string_bytes,
         strings,

@@ -10,7 +10,7 @@ ghost use Rattle.writer.specs.Walk.{refs_from, cursor_at, LinesReady, LinesLeft}
 use crate::stack::Pairs;
 use memory::State;
 use raw::SourceLocation;
-use rows::FunctionRow;
+use rows::{FunctionRow, LineRows};
 use slices::{put, word};
 use steps::{comp_dir_part, insert_call_location, insert_range, locate_line};
 
@@ -97,8 +97,7 @@ pub(crate) fn process_lines(
     call_locations: &mut [u32],
     ranges: &mut [u32],
     s: &mut [u32],
-    lines64: &[u64],
-    lines32: &[u32],
+    line_rows: LineRows,
     text: &[u8],
     function: FunctionRow,
     first_line: usize,
@@ -106,9 +105,9 @@ pub(crate) fn process_lines(
     own: CallLocations,
     inlinee_ranges: Pairs,
 ) -> Lines
-    requires { LinesReady function first_line own inlinee_ranges (length lines64.now / 3) (length s.old) }
+    requires { LinesReady function first_line own inlinee_ranges (length line_rows.columns64.now / 3) (length s.old) }
     ensures { (X : Setup) (f64 f32 g : List ℕ) (i : ℕ) → function ≡ function_in_columns f64 f32 i →
-        let k = columns f64 f32 lines64.now lines32.now text.now in
+        let k = columns f64 f32 line_rows.entry.columns64.now line_rows.entry.columns32.now text.now in
         let before = words state string_bytes.old strings.old files.old g
         call_locations.old ranges.old in
         let after = words result.state string_bytes.new strings.new files.new g
@@ -135,7 +134,7 @@ pub(crate) fn process_lines(
 
     // Iterate over the line records.
     while next_line < lines {
-        let line = rows::line_row(lines64, lines32, first_line + next_line as usize);
+        let line = line_rows.row(first_line + next_line as usize);
         next_line += 1;
         let line_range = rows::line_boundaries(line.address, line.has_size, line.size);
         let line_range_start = line_range.start;

@@ -9,6 +9,7 @@ ghost use Rattle.rows.specs.Columns.{columns};
 ghost use Rattle.scratch.specs.Scratch.{calls_start, len_at, set_calls, line_spans, kid_spans};
 ghost use Rattle.writer.specs.Walk.{GatherReady};
 
+use rows::{FunctionRows, LineRows};
 use slices::{put, word};
 
 // Pairs of words: `len` of them, from word `at` on.
@@ -52,16 +53,16 @@ pub(crate) fn set_calls(s: &mut [u32], d: u32, start: usize, len: usize)
 }
 
 // The boundaries of `count` line rows from row `first` on, as pairs from word `at` on.
-fn push_lines(s: &mut [u32], at: usize, lines64: &[u64], lines32: &[u32], first: usize, count: u32)
-    requires { (at + count * 2 ≤ length s.old) × (first + count ≤ length lines64.now / 3) }
+fn push_lines(s: &mut [u32], at: usize, line_rows: LineRows, first: usize, count: u32)
+    requires { (at + count * 2 ≤ length s.old) × (first + count ≤ length line_rows.columns64.now / 3) }
     ensures { (f g t : List ℕ) →
-        let k = columns f g lines64.now lines32.now t in
+        let k = columns f g line_rows.entry.columns64.now line_rows.entry.columns32.now t in
         s.new ≡ sets s.old at (pair_words (line_spans k first count)) }
 {
     let mut i: u32 = 0;
     while i < count {
         let k = i as usize;
-        let line = rows::line_row(lines64, lines32, first + k);
+        let line = line_rows.row(first + k);
         let b = rows::line_boundaries(line.address, line.has_size, line.size);
         put(&mut *s, at + k * 2, b.start);
         put(&mut *s, at + k * 2 + 1, b.end);
@@ -74,32 +75,30 @@ fn push_lines(s: &mut [u32], at: usize, lines64: &[u64], lines32: &[u32], first:
 pub(crate) fn gather(
     s: &mut [u32],
     at: usize,
-    functions64: &[u64],
-    functions32: &[u32],
-    lines64: &[u64],
-    lines32: &[u32],
+    function_rows: FunctionRows,
+    line_rows: LineRows,
     i: usize,
     first: usize,
     depth: u32,
 ) -> usize
-    requires { GatherReady (columns functions64.now functions32.now lines64.now lines32.now []) (length s.old) at i first depth }
-    ensures { let k = columns functions64.now functions32.now lines64.now lines32.now [] in
+    requires { GatherReady (columns function_rows.columns64.now function_rows.columns32.now line_rows.columns64.now line_rows.columns32.now []) (length s.old) at i first depth }
+    ensures { let k = columns function_rows.entry.columns64.now function_rows.entry.columns32.now line_rows.entry.columns64.now line_rows.entry.columns32.now [] in
         let spans = kid_spans k depth i first in
         (result ≡ length spans) × (s.new ≡ sets s.old at (pair_words spans)) }
 {
-    let rows = functions64.len() / 2;
+    let rows = function_rows.len();
     let mut r = i;
     let mut line = first;
     let mut n: usize = 0;
     while r < rows {
-        let q = rows::function_row(functions64, functions32, r);
+        let q = function_rows.row(r);
         let d = q.depth;
         let lines = q.lines;
         if d <= depth {
             return n;
         }
         if d == depth + 1 {
-            push_lines(&mut *s, at + n * 2, lines64, lines32, line, lines);
+            push_lines(&mut *s, at + n * 2, line_rows, line, lines);
             n += lines as usize;
         }
         line += lines as usize;

@@ -19,7 +19,7 @@ use crate::lines::{CallLocations, process_lines};
 use crate::stack::{Pairs, calls_at, gather, set_calls};
 use memory::State;
 use raw::SourceLocation;
-use rows::FunctionRow;
+use rows::{FunctionRow, FunctionRows, LineRows};
 use slices::word;
 use steps::{Indexed, begin_function, insert_end, insert_source_location};
 
@@ -173,29 +173,17 @@ fn own_calls(s: &[u32], base: usize, depth: u32) -> Own
 fn sorted_ranges(
     s: &mut [u32],
     at: usize,
-    functions64: &[u64],
-    functions32: &[u32],
-    lines64: &[u64],
-    lines32: &[u32],
+    function_rows: FunctionRows,
+    line_rows: LineRows,
     i: usize,
     first: usize,
     depth: u32,
 ) -> usize
-    requires { GatherReady (columns functions64.now functions32.now lines64.now lines32.now []) (length s.old) at i first depth }
-    ensures { let k = columns functions64.now functions32.now lines64.now lines32.now [] in
+    requires { GatherReady (columns function_rows.columns64.now function_rows.columns32.now line_rows.columns64.now line_rows.columns32.now []) (length s.old) at i first depth }
+    ensures { let k = columns function_rows.entry.columns64.now function_rows.entry.columns32.now line_rows.entry.columns64.now line_rows.entry.columns32.now [] in
         Sorted at (kid_spans k depth i first) result s.old s.new }
 {
-    let spans = gather(
-        s,
-        at,
-        functions64,
-        functions32,
-        lines64,
-        lines32,
-        i,
-        first,
-        depth,
-    );
+    let spans = gather(s, at, function_rows, line_rows, i, first, depth);
     let end = at + spans * 2;
     sorting::sort_pairs(&mut s[at..end]);
     spans
@@ -220,18 +208,16 @@ fn visit_row(
     call_locations: &mut [u32],
     ranges: &mut [u32],
     s: &mut [u32],
-    functions64: &[u64],
-    functions32: &[u32],
-    lines64: &[u64],
-    lines32: &[u32],
+    function_rows: FunctionRows,
+    line_rows: LineRows,
     text: &[u8],
     base: usize,
     row: InProgressFunction,
     own: Own,
 ) -> State
-    requires { VisitReady (columns functions64.now functions32.now lines64.now lines32.now text.now) (length s.old) base row own }
+    requires { VisitReady (columns function_rows.columns64.now function_rows.columns32.now line_rows.columns64.now line_rows.columns32.now text.now) (length s.old) base row own }
     ensures { (Y : Bool) (a : ℕ) →
-        let k = columns functions64.now functions32.now lines64.now lines32.now text.now in
+        let k = columns function_rows.entry.columns64.now function_rows.entry.columns32.now line_rows.entry.columns64.now line_rows.entry.columns32.now text.now in
         let before = words state string_bytes.old strings.old files.old
         functions.old call_locations.old ranges.old in
         let after = words result string_bytes.new strings.new files.new
@@ -244,10 +230,8 @@ fn visit_row(
     let len = sorted_ranges(
         s,
         at,
-        functions64,
-        functions32,
-        lines64,
-        lines32,
+        function_rows,
+        line_rows,
         row.i + 1,
         row.first_line + function.lines as usize,
         function.depth,
@@ -272,8 +256,7 @@ fn visit_row(
         call_locations,
         ranges,
         s,
-        lines64,
-        lines32,
+        line_rows,
         text,
         function,
         row.first_line,
@@ -308,17 +291,15 @@ fn process_row(
     call_locations: &mut [u32],
     ranges: &mut [u32],
     s: &mut [u32],
-    functions64: &[u64],
-    functions32: &[u32],
-    lines64: &[u64],
-    lines32: &[u32],
+    function_rows: FunctionRows,
+    line_rows: LineRows,
     text: &[u8],
     base: usize,
     row: InProgressFunction,
 ) -> State
-    requires { InProgress (columns functions64.now functions32.now lines64.now lines32.now text.now) s.old base row }
+    requires { InProgress (columns function_rows.columns64.now function_rows.columns32.now line_rows.columns64.now line_rows.columns32.now text.now) s.old base row }
     ensures { (Y : Bool) →
-        let k = columns functions64.now functions32.now lines64.now lines32.now text.now in
+        let k = columns function_rows.entry.columns64.now function_rows.entry.columns32.now line_rows.entry.columns64.now line_rows.entry.columns32.now text.now in
         let before = words state string_bytes.old strings.old files.old
         functions.old call_locations.old ranges.old in
         let after = words result string_bytes.new strings.new files.new
@@ -341,10 +322,8 @@ fn process_row(
         call_locations,
         ranges,
         s,
-        functions64,
-        functions32,
-        lines64,
-        lines32,
+        function_rows,
+        line_rows,
         text,
         base,
         row,
@@ -363,15 +342,13 @@ pub(crate) fn process_rows(
     call_locations: &mut [u32],
     ranges: &mut [u32],
     s: &mut [u32],
-    functions64: &[u64],
-    functions32: &[u32],
-    lines64: &[u64],
-    lines32: &[u32],
+    function_rows: FunctionRows,
+    line_rows: LineRows,
     text: &[u8],
 ) -> State
-    requires { tree_refusal (columns functions64.now functions32.now lines64.now lines32.now text.now) (length s.old) ≡ 0 }
+    requires { tree_refusal (columns function_rows.columns64.now function_rows.columns32.now line_rows.columns64.now line_rows.columns32.now text.now) (length s.old) ≡ 0 }
     ensures { (Y : Bool) →
-        let k = columns functions64.now functions32.now lines64.now lines32.now text.now in
+        let k = columns function_rows.entry.columns64.now function_rows.entry.columns32.now line_rows.entry.columns64.now line_rows.entry.columns32.now text.now in
         let before = words state string_bytes.old strings.old files.old
         functions.old call_locations.old ranges.old in
         let after = words result string_bytes.new strings.new files.new
@@ -385,17 +362,16 @@ pub(crate) fn process_rows(
         functions,
         ranges,
         s,
-        functions64,
-        functions32,
+        function_rows,
         text,
     );
-    let rows = functions64.len() / 2;
+    let rows = function_rows.len();
     let base = rows * 4;
     let mut now = state;
     let mut first_line: usize = 0;
     let mut i: usize = 0;
     while i < rows {
-        let function = rows::function_row(functions64, functions32, i);
+        let function = function_rows.row(i);
         let lines = function.lines;
         let row = InProgressFunction {
             function,
@@ -412,10 +388,8 @@ pub(crate) fn process_rows(
             call_locations,
             ranges,
             s,
-            functions64,
-            functions32,
-            lines64,
-            lines32,
+            function_rows,
+            line_rows,
             text,
             base,
             row,

@@ -1,12 +1,12 @@
 // Replays lists of calls whose written files the original made: oracle/FORMAT.md, "Converter". A line is printed for each list, the checksum of its words.
 #![tactic(auto)]
 
+use errors::{Refusal, code_of};
 use memory::Converter;
 use replay::{add, add_bytes, low, number, place, word};
-use rows::{OptionalPart, TextPart};
+use rows::{FunctionRows, LineRows, OptionalPart, TextPart};
 use std::fs;
 use std::io::Read;
-use symbol_call::Answer;
 
 // Parts of a record
 
@@ -67,12 +67,10 @@ struct Replay {
     sum: u32,
 }
 
-fn answered(sum: u32, answer: Answer) -> Replay {
-    let converter = answer.converter;
-    let code = answer.code;
+fn answered(sum: u32, converter: Converter, answer: Result<(), Refusal>) -> Replay {
     Replay {
         converter,
-        sum: add(sum, code),
+        sum: add(sum, code_of(answer)),
     }
 }
 
@@ -120,7 +118,7 @@ fn tree(
     ranges: &mut [u32],
     record: &[u8],
 ) -> Replay {
-    let converter = now.converter;
+    let mut converter = now.converter;
     let f = word(record, 4) as usize;
     let l = word(record, 8) as usize;
     let at_functions32 = 16 + f * 16;
@@ -137,7 +135,7 @@ fn tree(
     read_numbers(&mut lines64, l * 3, record, at_lines64);
     read_words(&mut lines32, l * 14, record, at_lines32);
     let answer = writer::calls::process_symbolic_function(
-        converter,
+        &mut converter,
         string_bytes,
         strings,
         files,
@@ -145,13 +143,17 @@ fn tree(
         call_locations,
         ranges,
         &mut scratch,
-        first_numbers(&functions64, f * 2),
-        first_words(&functions32, f * 8),
-        first_numbers(&lines64, l * 3),
-        first_words(&lines32, l * 14),
+        FunctionRows {
+            columns64: first_numbers(&functions64, f * 2),
+            columns32: first_words(&functions32, f * 8),
+        },
+        LineRows {
+            columns64: first_numbers(&lines64, l * 3),
+            columns32: first_words(&lines32, l * 14),
+        },
         rest(record, at_text),
     );
-    answered(now.sum, answer)
+    answered(now.sum, converter, answer)
 }
 
 fn symbol(
@@ -164,7 +166,7 @@ fn symbol(
     ranges: &mut [u32],
     record: &[u8],
 ) -> Replay {
-    let converter = now.converter;
+    let mut converter = now.converter;
     let text = rest(record, 24);
     let name = OptionalPart {
         present: word(record, 4) != 0,
@@ -174,7 +176,7 @@ fn symbol(
         },
     };
     let answer = symbol_call::process_symbolic_symbol(
-        converter,
+        &mut converter,
         string_bytes,
         strings,
         files,
@@ -186,7 +188,7 @@ fn symbol(
         number(record, 16),
         name,
     );
-    answered(now.sum, answer)
+    answered(now.sum, converter, answer)
 }
 
 // The file, as it is now.
@@ -211,9 +213,10 @@ fn write(
         ranges,
         &mut out,
     );
-    let sum = add(now.sum, written.code);
-    let sum = add(sum, low(written.len));
-    let sum = add_bytes(sum, first_bytes(&out, written.len));
+    let len = written.unwrap_or(0);
+    let sum = add(now.sum, code_of(written));
+    let sum = add(sum, low(len));
+    let sum = add_bytes(sum, first_bytes(&out, len));
     Replay { converter, sum }
 }
 

@@ -7,6 +7,6 @@ pub returns : goal.returns
 returns c =
     let a = c.args in (
       decided a.«record».now a.string_bytes a.strings a.files a.functions a.call_locations a.ranges a.scratch a.unpacked64 a.unpacked32
-          a.functions64.now a.functions32.now a.lines a.texts a.text.now c.load.ensures c.is_usable-usable.ensures c.refusal.ensures,
+          a.function_rows.columns64.now a.function_rows.columns32.now a.lines a.texts a.text.now c.load.ensures c.is_usable-usable.ensures c.refusal.ensures,
       refl,
     )

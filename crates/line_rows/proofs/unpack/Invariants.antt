@@ -1,15 +1,10 @@
 -- `unpack` meets its contract: j rows are unpacked, and the rows still to come make the columns.
-use Prim.Native.Nat.{◌≤◌, ◌-◌}
 use mathlib.Core.Path.{◌≡◌}
-use lib.ListN.{length, drop}
+use lib.ListN.{drop}
 use Rattle.line_rows.specs.Lines.{words64, words32, put_lines}
 use Rattle.line_rows.proofs.unpack.Given as goal
 
 abbrev pub invariant-loop-j : goal.invariant-loop-j
 invariant-loop-j l =
-    (l.j ≤ length l.lines)
-    × (put_lines 3 words64 (drop l.j l.lines) l.j l.unpacked64 ≡ put_lines 3 words64 l.lines 0 l.initial.unpacked64)
+    (put_lines 3 words64 (drop l.j l.lines) l.j l.unpacked64 ≡ put_lines 3 words64 l.lines 0 l.initial.unpacked64)
     × (put_lines 14 words32 (drop l.j l.lines) l.j l.unpacked32 ≡ put_lines 14 words32 l.lines 0 l.initial.unpacked32)
-
-abbrev pub decreases-loop-j : goal.decreases-loop-j
-decreases-loop-j l = length l.lines - l.j

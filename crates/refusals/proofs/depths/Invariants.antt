@@ -7,7 +7,6 @@ use Rattle.refusals.specs.Refusals.{each, depth?}
 use Rattle.refusals.proofs.depths.Given as goal
 
 abbrev pub invariant-loop-i : goal.invariant-loop-i
-invariant-loop-i l = (1 ≤ l.i) × (l.i ≤ l.n) × (each (depth? (λ (r : ℕ). (function_in_columns l.functions64 l.functions32 r).depth)) l.i ≡ true) × (l.most ≡ (function_in_columns l.functions64 l.functions32 (l.i - 1)).depth + 1)
-
-abbrev pub decreases-loop-i : goal.decreases-loop-i
-decreases-loop-i l = l.n - l.i
+invariant-loop-i l =
+    let depth = λ (r : ℕ). (function_in_columns l.functions.columns64.now l.functions.columns32.now r).depth in
+    (1 ≤ l.i) × (each (depth? depth) l.i ≡ true) × (l.most ≡ depth (l.i - 1) + 1)

@@ -1,18 +1,15 @@
-use mathlib.Core.Path.{sym, ap, ◌∙◌}
-use native.Mathlib.Omega.{arith}
+-- `refusals::ends` meets its contract: every row passes the test.
+use Rattle.std.proofs.Common.{ℕ, refl, arith, rules, tests}
+use Rattle.std.proofs.lemmas.Iterator.{YieldsList-from_range}
+use Rattle.std.proofs.lemmas.Iterator.Search.{all_from_yields_List}
+use Rattle.rows.specs.Columns.{function_in_columns}
 use Rattle.refusals.specs.Refusals.{end?}
-use Rattle.refusals.proofs.Laws.{each_none, each_more, each-not, each-end, end_no, end-yes}
-use borrow.Author.Rules.{rules}
+use Rattle.refusals.proofs.Laws.{each_found}
 use Rattle.refusals.proofs.ends.Goals as goal
 
-pub loop-i-init : goal.loop-i-init
-loop-i-init c = (omega arith, each_none _)
-
-pub returns-then-q : goal.returns-then-q
-returns-then-q c = sym (each-not _ _ _ c.loop-i-test.true (sym (ap end? c.function_row-q.ensures) ∙ end_no c.function_row-q.result c.if-q.true))
-
-pub loop-i-preserved : goal.loop-i-preserved
-loop-i-preserved c = (omega arith, each_more _ _ c.loop-i.invariant.1 (sym (ap end? c.function_row-q.ensures) ∙ end-yes c.function_row-q.result (search rules) c.if-q.false))
-
 pub returns : goal.returns
-returns c = each-end _ _ _ c.loop-i.invariant.0 c.loop-i-test.false c.loop-i.invariant.1
+returns c =
+    let r = c.args.functions in
+    let n = c.len.result in
+    each_found (λ (i : ℕ). end? (function_in_columns r.columns64.now r.columns32.now i)) c.len.ensures
+    (all_from_yields_List (λ (i : ℕ). end? (function_in_columns r.columns64.now r.columns32.now i)) _ _ c.all.result c.all.ensures.ran (YieldsList-from_range 0 n n refl (omega arith)) (λ x b q k. search (rules, tests)))

@@ -1,21 +1,16 @@
-use mathlib.Core.Path.{sym, ap, ◌∙◌}
-use native.Mathlib.Omega.{arith}
+-- `refusals::functions_texts` meets its contract: every row passes the test.
+use Rattle.std.proofs.Common.{ℕ, refl, arith, rules, tests}
+use Rattle.std.proofs.lemmas.Iterator.{YieldsList-from_range}
+use Rattle.std.proofs.lemmas.Iterator.Search.{all_from_yields_List}
+use Rattle.rows.specs.Columns.{function_in_columns}
 use Rattle.refusals.specs.Refusals.{function_texts?}
-use Rattle.refusals.proofs.Laws.{each_none, each_more, each-not, each-end}
+use Rattle.refusals.proofs.Laws.{each_found}
 use Rattle.refusals.proofs.functions_texts.Goals as goal
 
-pub loop-i-init : goal.loop-i-init
-loop-i-init c = (omega arith, each_none _)
-
-pub loop-i-preserved : goal.loop-i-preserved
-loop-i-preserved c =
-    let t = c.args.text.now in
-    (omega arith, each_more _ _ c.loop-i.invariant.1 (sym (c.function_texts.ensures ∙ ap (function_texts? t) c.function_row.ensures) ∙ c.if-function_texts.true))
-
-pub returns-else-function_texts : goal.returns-else-function_texts
-returns-else-function_texts c =
-    let t = c.args.text.now in
-    sym (each-not _ _ _ c.loop-i-test.true (sym (c.function_texts.ensures ∙ ap (function_texts? t) c.function_row.ensures) ∙ c.if-function_texts.false))
-
 pub returns : goal.returns
-returns c = each-end _ _ _ c.loop-i.invariant.0 c.loop-i-test.false c.loop-i.invariant.1
+returns c =
+    let t = c.args.text.now in
+    let r = c.args.functions in
+    let n = c.len.result in
+    each_found (λ (i : ℕ). function_texts? t (function_in_columns r.columns64.now r.columns32.now i)) c.len.ensures
+    (all_from_yields_List (λ (i : ℕ). function_texts? t (function_in_columns r.columns64.now r.columns32.now i)) _ _ c.all.result c.all.ensures.ran (YieldsList-from_range 0 n n refl (omega arith)) (λ x b q k. search (rules, tests)))

@@ -1,4 +1,4 @@
--- `refusals::inside` meets its contract: it is the definition.
+-- `refusals::inside` meets its contract.
 use mathlib.Core.Path.{refl}
 use Rattle.refusals.specs.Refusals.{inside?}
 use Rattle.refusals.proofs.inside.Goals as goal

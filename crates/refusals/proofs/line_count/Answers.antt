@@ -4,11 +4,11 @@ use Rattle.rows.specs.declared.FunctionRow.{FunctionRow}
 use Rattle.refusals.proofs.Laws.{total-none, total-more, total-end}
 use Rattle.refusals.proofs.line_count.Goals as goal
 
-pub loop-row-init : goal.loop-row-init
-loop-row-init c = (omega arith, total-none _, omega arith)
+pub loop-i-init : goal.loop-i-init
+loop-i-init c = (total-none _, omega arith)
 
-pub loop-row-preserved : goal.loop-row-preserved
-loop-row-preserved c = (omega arith, total-more _ _ c.loop-row.invariant.1 (ap (λ (q : FunctionRow). q.lines) c.function_row.ensures), omega arith)
+pub loop-i-preserved : goal.loop-i-preserved
+loop-i-preserved c = (total-more _ _ c.loop-i.invariant.0 (ap (λ (q : FunctionRow). q.lines) c.row.ensures), omega arith)
 
 pub returns : goal.returns
-returns c = total-end _ _ _ _ c.loop-row.invariant.0 c.loop-row-test.false c.loop-row.invariant.1
+returns c = total-end _ _ _ _ (omega arith) (omega arith) c.loop-i.invariant.0

@@ -1,18 +1,14 @@
 -- `refusals::line_lengths` meets its contract: the three tests one after the other.
-use mathlib.Core.Path.{refl}
-use borrow.Author.Tests.{eq-eqb, ne_eqb}
-use Rattle.slices.proofs.Cases.{and-stop, and_then}
+use Rattle.std.proofs.Common.{arith}
+use Rattle.std.proofs.lemmas.Bool.Decides.{nat_tests}
 use Rattle.refusals.specs.Refusals.{line_lengths?}
 use Rattle.refusals.proofs.line_lengths.Goals as goal
+use Rattle.refusals.proofs.line_lengths.Goals.{then-lines-eq0, else-lines-eq0}
 
-pub returns-then-lines32-eq0 : goal.returns-then-lines32-eq0
+pub returns-then-lines-eq0-2 : goal.returns-then-lines-eq0-2
 unfolding line_lengths?
-returns-then-lines32-eq0 c = and_then _ _ _ (eq-eqb _ _ c.if-lines64-eq0.true) (and_then _ _ _ (eq-eqb _ _ c.if-lines32-eq0.true) refl)
+returns-then-lines-eq0-2 c = elim c.if-lines-eq0.branch [ then-lines-eq0 w ↦ grind (arith, nat_tests) | else-lines-eq0 w ↦ grind (arith, nat_tests) ]
 
-pub returns-else-lines32-eq0 : goal.returns-else-lines32-eq0
+pub returns-else-lines-eq0-2 : goal.returns-else-lines-eq0-2
 unfolding line_lengths?
-returns-else-lines32-eq0 c = and_then _ _ _ (eq-eqb _ _ c.if-lines64-eq0.true) (and-stop _ _ (ne_eqb _ _ c.if-lines32-eq0.false))
-
-pub returns-else-lines64-eq0 : goal.returns-else-lines64-eq0
-unfolding line_lengths?
-returns-else-lines64-eq0 c = and-stop _ _ (ne_eqb _ _ c.if-lines64-eq0.false)
+returns-else-lines-eq0-2 c = elim c.if-lines-eq0.branch [ then-lines-eq0 w ↦ grind (arith, nat_tests) | else-lines-eq0 w ↦ grind (arith, nat_tests) ]

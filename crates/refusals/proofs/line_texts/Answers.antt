@@ -1,38 +1,51 @@
 -- `refusals::line_texts` meets its contract: the five tests one after the other.
-use Rattle.slices.proofs.Cases.{and-stop, and_then}
-use Rattle.refusals.specs.Refusals.{line_texts?}
-use Rattle.rows.proofs.Laws.{failed, passed}
+use mathlib.Core.Bool.{◌&&◌}
+use mathlib.Core.Path.{◌≡◌, refl, ◌∙◌}
+use Rattle.refusals.specs.Refusals.{readable?, optional?, line_texts?}
+use Rattle.refusals.proofs.Laws.{joined-then, joined-else, and_five}
 use Rattle.refusals.proofs.line_texts.Goals as goal
+use Rattle.refusals.proofs.line_texts.Goals.{then-readable, else-readable, then-readable-2, else-readable-2, then-optional, else-optional}
 
-pub returns-then-not-readable : goal.returns-then-not-readable
+pub returns-then-optional-2 : goal.returns-then-optional-2
 unfolding line_texts?
-returns-then-not-readable c = and-stop _ _ (failed c.readable.ensures c.if-not-readable.true-raw)
+returns-then-optional-2 c =
+    let t = c.args.text.now in
+    let l = c.args.l in
+    let two : c.if-readable.value ≡ readable? t l.name && readable? t l.directory =
+        elim c.if-readable.branch [
+          | then-readable w ↦ joined-then c.readable.ensures w.readable-then-readable.ensures w.if-readable.true w.value-is
+          | else-readable w ↦ joined-else (readable? t l.directory) c.readable.ensures w.if-readable.false w.value-is
+        ] in
+    let three : c.if-readable-2.value ≡ (readable? t l.name && readable? t l.directory) && optional? t l.srcsrv_name =
+        elim c.if-readable-2.branch [
+          | then-readable-2 w ↦ joined-then two w.optional.ensures w.if-readable-2.true w.value-is
+          | else-readable-2 w ↦ joined-else (optional? t l.srcsrv_name) two w.if-readable-2.false w.value-is
+        ] in
+    let four : c.if-optional.value ≡ ((readable? t l.name && readable? t l.directory) && optional? t l.srcsrv_name) && optional? t l.srcsrv_dir =
+        elim c.if-optional.branch [
+          | then-optional w ↦ joined-then three w.optional-then-optional.ensures w.if-optional.true w.value-is
+          | else-optional w ↦ joined-else (optional? t l.srcsrv_dir) three w.if-optional.false w.value-is
+        ] in
+    joined-then four c.optional-then-optional-2.ensures c.if-optional-2.true refl ∙ and_five (readable? t l.name) (readable? t l.directory) (optional? t l.srcsrv_name) (optional? t l.srcsrv_dir) (optional? t l.revision)
 
-pub returns-then-not-readable-2 : goal.returns-then-not-readable-2
+pub returns-else-optional-2 : goal.returns-else-optional-2
 unfolding line_texts?
-returns-then-not-readable-2 c =
-    and_then _ _ _ (passed c.readable.ensures c.if-not-readable.false-raw)
-    (and-stop _ _ (failed c.readable-2.ensures c.if-not-readable-2.true-raw))
-
-pub returns-then-not-optional : goal.returns-then-not-optional
-unfolding line_texts?
-returns-then-not-optional c =
-    and_then _ _ _ (passed c.readable.ensures c.if-not-readable.false-raw)
-    (and_then _ _ _ (passed c.readable-2.ensures c.if-not-readable-2.false-raw)
-    (and-stop _ _ (failed c.optional.ensures c.if-not-optional.true-raw)))
-
-pub returns-then-not-optional-2 : goal.returns-then-not-optional-2
-unfolding line_texts?
-returns-then-not-optional-2 c =
-    and_then _ _ _ (passed c.readable.ensures c.if-not-readable.false-raw)
-    (and_then _ _ _ (passed c.readable-2.ensures c.if-not-readable-2.false-raw)
-    (and_then _ _ _ (passed c.optional.ensures c.if-not-optional.false-raw)
-    (and-stop _ _ (failed c.optional-2.ensures c.if-not-optional-2.true-raw))))
-
-pub returns : goal.returns
-unfolding line_texts?
-returns c =
-    and_then _ _ _ (passed c.readable.ensures c.if-not-readable.false-raw)
-    (and_then _ _ _ (passed c.readable-2.ensures c.if-not-readable-2.false-raw)
-    (and_then _ _ _ (passed c.optional.ensures c.if-not-optional.false-raw)
-    (and_then _ _ _ (passed c.optional-2.ensures c.if-not-optional-2.false-raw) c.optional-3.ensures)))
+returns-else-optional-2 c =
+    let t = c.args.text.now in
+    let l = c.args.l in
+    let two : c.if-readable.value ≡ readable? t l.name && readable? t l.directory =
+        elim c.if-readable.branch [
+          | then-readable w ↦ joined-then c.readable.ensures w.readable-then-readable.ensures w.if-readable.true w.value-is
+          | else-readable w ↦ joined-else (readable? t l.directory) c.readable.ensures w.if-readable.false w.value-is
+        ] in
+    let three : c.if-readable-2.value ≡ (readable? t l.name && readable? t l.directory) && optional? t l.srcsrv_name =
+        elim c.if-readable-2.branch [
+          | then-readable-2 w ↦ joined-then two w.optional.ensures w.if-readable-2.true w.value-is
+          | else-readable-2 w ↦ joined-else (optional? t l.srcsrv_name) two w.if-readable-2.false w.value-is
+        ] in
+    let four : c.if-optional.value ≡ ((readable? t l.name && readable? t l.directory) && optional? t l.srcsrv_name) && optional? t l.srcsrv_dir =
+        elim c.if-optional.branch [
+          | then-optional w ↦ joined-then three w.optional-then-optional.ensures w.if-optional.true w.value-is
+          | else-optional w ↦ joined-else (optional? t l.srcsrv_dir) three w.if-optional.false w.value-is
+        ] in
+    joined-else (optional? t l.revision) four c.if-optional-2.false refl ∙ and_five (readable? t l.name) (readable? t l.directory) (optional? t l.srcsrv_name) (optional? t l.srcsrv_dir) (optional? t l.revision)

@@ -2,19 +2,13 @@
 use mathlib.Core.Path.{sym, ap, ◌∙◌}
 use Rattle.slices.proofs.Cases.{and-stop, and_then}
 use Rattle.text.specs.Utf8.{utf8}
-use Rattle.rows.specs.Columns.{text_of}
-use Rattle.refusals.specs.Refusals.{inside?, readable?}
+use Rattle.refusals.specs.Refusals.{readable?}
 use Rattle.refusals.proofs.readable.Goals as goal
 
 pub returns-then-inside : goal.returns-then-inside
 unfolding readable?
-returns-then-inside c =
-    let a = c.args in
-    and_then (inside? a.text.now a.p) (utf8 (text_of a.text.now a.p)) _ (sym c.inside.ensures ∙ c.if-inside.true)
-    (c.is_utf8.ensures ∙ ap utf8 c.part.ensures)
+returns-then-inside c = and_then _ _ _ (sym c.inside.ensures ∙ c.if-inside.true) (c.is_utf8.ensures ∙ ap utf8 c.part.ensures)
 
-pub returns : goal.returns
+pub returns-else-inside : goal.returns-else-inside
 unfolding readable?
-returns c =
-    let a = c.args in
-    and-stop (inside? a.text.now a.p) (utf8 (text_of a.text.now a.p)) (sym c.inside.ensures ∙ c.if-inside.false)
+returns-else-inside c = c.if-inside.false ∙ and-stop _ _ (sym c.inside.ensures ∙ c.if-inside.false)

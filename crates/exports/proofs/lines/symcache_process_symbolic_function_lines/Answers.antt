@@ -6,6 +6,7 @@ use Rattle.exports.proofs.lines.symcache_process_symbolic_function_lines.Goals a
 pub returns : goal.returns
 returns c =
     let a = c.args in
-    lines-made a.«record».now (memory a.string_bytes.now a.strings.now a.files.now a.functions.now a.call_locations.now a.ranges.now) a.scratch.now a.unpacked64.now a.unpacked32.now
+    rw c.code_of.ensures
+    (lines-made a.«record».now (memory a.string_bytes.now a.strings.now a.files.now a.functions.now a.call_locations.now a.ranges.now) a.scratch.now a.unpacked64.now a.unpacked32.now
     a.functions64.now a.functions32.now a.lines.now a.text.now c.lines_texts-texts.ensures c.lines_refusal-refused.ensures.0 c.lines_refusal-refused.ensures.1
-    c.unpack.ensures.0 c.unpack.ensures.1 c.process_unpacked.ensures
+    c.unpack.ensures.0 c.unpack.ensures.1 c.process_unpacked-answer.ensures)

@@ -22,7 +22,7 @@ loop-next_line-init c =
       refl,
       keeps_start a.function.lines a.own.others.at a.own.others.len a.inlinee_ranges.at a.inlinee_ranges.len a.s.now c.requires.room c.requires.apart,
       λ X f64 f32 g i e. goes-start ((let a = c.args in
-          fixed ((columns f64 f32 c.args.lines64.now c.args.lines32.now c.args.text.now)) i a.first_line a.function_idx a.function.lines a.own.others a.own.first a.inlinee_ranges.at a.inlinee_ranges.len a.s.now X
+          fixed ((columns f64 f32 c.args.line_rows.columns64.now c.args.line_rows.columns32.now c.args.text.now)) i a.first_line a.function_idx a.function.lines a.own.others a.own.first a.inlinee_ranges.at a.inlinee_ranges.len a.s.now X
           (words a.state a.string_bytes.now a.strings.now a.files.now g a.call_locations.now a.ranges.now))),
     )
 
@@ -45,9 +45,9 @@ loop-next_line-preserved-then-address-current_address c =
           c.loop-next_line.s c.loop-next_line.next_line c.loop-next_line.call_location_iter.next_call_location c.loop-next_line.next_inline c.loop-next_line.invariant.5 c.loop-next_line-test.true,
       λ X f64 f32 g i e.
           line-passed ((let a = c.args in
-          fixed ((columns f64 f32 c.args.lines64.now c.args.lines32.now c.args.text.now)) i a.first_line a.function_idx a.function.lines a.own.others a.own.first a.inlinee_ranges.at a.inlinee_ranges.len a.s.now X
+          fixed ((columns f64 f32 c.args.line_rows.columns64.now c.args.line_rows.columns32.now c.args.text.now)) i a.first_line a.function_idx a.function.lines a.own.others a.own.first a.inlinee_ranges.at a.inlinee_ranges.len a.s.now X
           (words a.state a.string_bytes.now a.strings.now a.files.now g a.call_locations.now a.ranges.now))) c.loop-next_line.s c.loop-next_line.next_line c.loop-next_line.call_location_iter c.loop-next_line.next_inline c.loop-next_line.current_address ((words c.loop-next_line.now c.loop-next_line.string_bytes c.loop-next_line.strings c.loop-next_line.files g c.loop-next_line.call_locations c.loop-next_line.ranges))
-          (c.loop-next_line.invariant.6 X f64 f32 g i e) c.loop-next_line-test.true c.line_row-line.result c.line_row-line.ensures c.if-address-current_address.true,
+          (c.loop-next_line.invariant.6 X f64 f32 g i e) c.loop-next_line-test.true c.row-line.result c.row-line.ensures c.if-address-current_address.true,
     )
 
 pub find_call_location-call_location_iter-requires : goal.find_call_location-call_location_iter-requires
@@ -97,9 +97,9 @@ loop-next_line-preserved-then-line_range_end-current_address c =
           c.find_call_location-call_location_iter.result.next_call_location c.find_call_location-call_location_iter.ensures.0 c.loop-current_address.s c.loop-current_address.next_inline i.kept i.len i.few),
       λ X f64 f32 g i e.
           (line-walked ((let a = c.args in
-          fixed ((columns f64 f32 c.args.lines64.now c.args.lines32.now c.args.text.now)) i a.first_line a.function_idx a.function.lines a.own.others a.own.first a.inlinee_ranges.at a.inlinee_ranges.len a.s.now X
+          fixed ((columns f64 f32 c.args.line_rows.columns64.now c.args.line_rows.columns32.now c.args.text.now)) i a.first_line a.function_idx a.function.lines a.own.others a.own.first a.inlinee_ranges.at a.inlinee_ranges.len a.s.now X
           (words a.state a.string_bytes.now a.strings.now a.files.now g a.call_locations.now a.ranges.now))) c.loop-next_line.s c.loop-next_line.next_line c.loop-next_line.call_location_iter c.loop-next_line.next_inline c.loop-next_line.current_address ((words c.loop-next_line.now c.loop-next_line.string_bytes c.loop-next_line.strings c.loop-next_line.files g c.loop-next_line.call_locations c.loop-next_line.ranges))
-          (c.loop-next_line.invariant.6 X f64 f32 g i e) c.loop-next_line-test.true c.line_row-line.result c.line_row-line.ensures c.loop-next_line.invariant.5.apart c.line_boundaries-line_range.result c.line_boundaries-line_range.ensures c.if-address-current_address.false
+          (c.loop-next_line.invariant.6 X f64 f32 g i e) c.loop-next_line-test.true c.row-line.result c.row-line.ensures c.loop-next_line.invariant.5.apart c.line_boundaries-line_range.result c.line_boundaries-line_range.ensures c.if-address-current_address.false
           c.comp_dir_part-comp_dir.result e c.find_call_location-call_location_iter.result c.find_call_location-call_location_iter.ensures.0 c.find_call_location-call_location_iter.ensures.1
           c.locate_line-located.result.location ((words c.locate_line-located.result.state c.locate_line-located.new.string_bytes c.locate_line-located.new.strings c.locate_line-located.new.files g c.loop-next_line.call_locations c.loop-next_line.ranges)) (c.locate_line-located.ensures g c.loop-next_line.call_locations c.loop-next_line.ranges) c.loop-current_address.s c.loop-current_address.next_inline c.loop-current_address.current_address ((words c.loop-current_address.now c.locate_line-located.new.string_bytes c.locate_line-located.new.strings c.locate_line-located.new.files g c.loop-current_address.call_locations c.loop-current_address.ranges)) (line-ends input (over_words X) r.at r.len c.locate_line-located.result.location b.end c.loop-next_line.s c.loop-next_line.next_inline b.start ((words c.locate_line-located.result.state c.locate_line-located.new.string_bytes c.locate_line-located.new.strings c.locate_line-located.new.files g c.loop-next_line.call_locations c.loop-next_line.ranges))
           c.loop-current_address.s c.loop-current_address.next_inline c.loop-current_address.current_address ((words c.loop-current_address.now c.locate_line-located.new.string_bytes c.locate_line-located.new.strings c.locate_line-located.new.files g c.loop-current_address.call_locations c.loop-current_address.ranges)) (c.loop-current_address.invariant.2 X g) c.if-line_range_end-current_address.true)),
@@ -123,9 +123,9 @@ loop-next_line-preserved-then-inline_len-next_inline c =
       λ X f64 f32 g i e.
           let w = words c.insert_range-now.result c.locate_line-located.new.string_bytes c.locate_line-located.new.strings c.locate_line-located.new.files g c.loop-current_address.call_locations c.insert_range-now.new.ranges in
           (line-walked ((let a = c.args in
-          fixed ((columns f64 f32 c.args.lines64.now c.args.lines32.now c.args.text.now)) i a.first_line a.function_idx a.function.lines a.own.others a.own.first a.inlinee_ranges.at a.inlinee_ranges.len a.s.now X
+          fixed ((columns f64 f32 c.args.line_rows.columns64.now c.args.line_rows.columns32.now c.args.text.now)) i a.first_line a.function_idx a.function.lines a.own.others a.own.first a.inlinee_ranges.at a.inlinee_ranges.len a.s.now X
           (words a.state a.string_bytes.now a.strings.now a.files.now g a.call_locations.now a.ranges.now))) c.loop-next_line.s c.loop-next_line.next_line c.loop-next_line.call_location_iter c.loop-next_line.next_inline c.loop-next_line.current_address ((words c.loop-next_line.now c.loop-next_line.string_bytes c.loop-next_line.strings c.loop-next_line.files g c.loop-next_line.call_locations c.loop-next_line.ranges))
-          (c.loop-next_line.invariant.6 X f64 f32 g i e) c.loop-next_line-test.true c.line_row-line.result c.line_row-line.ensures c.loop-next_line.invariant.5.apart c.line_boundaries-line_range.result c.line_boundaries-line_range.ensures c.if-address-current_address.false
+          (c.loop-next_line.invariant.6 X f64 f32 g i e) c.loop-next_line-test.true c.row-line.result c.row-line.ensures c.loop-next_line.invariant.5.apart c.line_boundaries-line_range.result c.line_boundaries-line_range.ensures c.if-address-current_address.false
           c.comp_dir_part-comp_dir.result e c.find_call_location-call_location_iter.result c.find_call_location-call_location_iter.ensures.0 c.find_call_location-call_location_iter.ensures.1
           c.locate_line-located.result.location ((words c.locate_line-located.result.state c.locate_line-located.new.string_bytes c.locate_line-located.new.strings c.locate_line-located.new.files g c.loop-next_line.call_locations c.loop-next_line.ranges)) (c.locate_line-located.ensures g c.loop-next_line.call_locations c.loop-next_line.ranges) c.loop-current_address.s c.loop-current_address.next_inline b.end w (no_range_left input (over_words X) r.at r.len c.locate_line-located.result.location b.end c.loop-next_line.s c.loop-next_line.next_inline b.start ((words c.locate_line-located.result.state c.locate_line-located.new.string_bytes c.locate_line-located.new.strings c.locate_line-located.new.files g c.loop-next_line.call_locations c.loop-next_line.ranges))
           c.loop-current_address.s c.loop-current_address.next_inline c.loop-current_address.current_address ((words c.loop-current_address.now c.locate_line-located.new.string_bytes c.locate_line-located.new.strings c.locate_line-located.new.files g c.loop-current_address.call_locations c.loop-current_address.ranges)) (c.loop-current_address.invariant.2 X g) c.if-line_range_end-current_address.false c.if-inline_len-next_inline.true w
@@ -149,9 +149,9 @@ loop-next_line-preserved c =
           c.find_call_location-call_location_iter.result.next_call_location c.find_call_location-call_location_iter.ensures.0 c.loop-current_address.s c.loop-current_address.next_inline i.kept i.len i.few),
       λ X f64 f32 g i e.
           (line-walked ((let a = c.args in
-          fixed ((columns f64 f32 c.args.lines64.now c.args.lines32.now c.args.text.now)) i a.first_line a.function_idx a.function.lines a.own.others a.own.first a.inlinee_ranges.at a.inlinee_ranges.len a.s.now X
+          fixed ((columns f64 f32 c.args.line_rows.columns64.now c.args.line_rows.columns32.now c.args.text.now)) i a.first_line a.function_idx a.function.lines a.own.others a.own.first a.inlinee_ranges.at a.inlinee_ranges.len a.s.now X
           (words a.state a.string_bytes.now a.strings.now a.files.now g a.call_locations.now a.ranges.now))) c.loop-next_line.s c.loop-next_line.next_line c.loop-next_line.call_location_iter c.loop-next_line.next_inline c.loop-next_line.current_address ((words c.loop-next_line.now c.loop-next_line.string_bytes c.loop-next_line.strings c.loop-next_line.files g c.loop-next_line.call_locations c.loop-next_line.ranges))
-          (c.loop-next_line.invariant.6 X f64 f32 g i e) c.loop-next_line-test.true c.line_row-line.result c.line_row-line.ensures c.loop-next_line.invariant.5.apart c.line_boundaries-line_range.result c.line_boundaries-line_range.ensures c.if-address-current_address.false
+          (c.loop-next_line.invariant.6 X f64 f32 g i e) c.loop-next_line-test.true c.row-line.result c.row-line.ensures c.loop-next_line.invariant.5.apart c.line_boundaries-line_range.result c.line_boundaries-line_range.ensures c.if-address-current_address.false
           c.comp_dir_part-comp_dir.result e c.find_call_location-call_location_iter.result c.find_call_location-call_location_iter.ensures.0 c.find_call_location-call_location_iter.ensures.1
           c.locate_line-located.result.location ((words c.locate_line-located.result.state c.locate_line-located.new.string_bytes c.locate_line-located.new.strings c.locate_line-located.new.files g c.loop-next_line.call_locations c.loop-next_line.ranges)) (c.locate_line-located.ensures g c.loop-next_line.call_locations c.loop-next_line.ranges) c.loop-current_address.s c.loop-current_address.next_inline b.end ((words c.insert_self_range-now.result c.locate_line-located.new.string_bytes c.locate_line-located.new.strings c.locate_line-located.new.files g c.loop-current_address.call_locations c.insert_self_range-now.new.ranges)) (range_after input (over_words X) r.at r.len c.locate_line-located.result.location b.end c.loop-next_line.s c.loop-next_line.next_inline b.start ((words c.locate_line-located.result.state c.locate_line-located.new.string_bytes c.locate_line-located.new.strings c.locate_line-located.new.files g c.loop-next_line.call_locations c.loop-next_line.ranges))
           c.loop-current_address.s c.loop-current_address.next_inline c.loop-current_address.current_address ((words c.loop-current_address.now c.locate_line-located.new.string_bytes c.locate_line-located.new.strings c.locate_line-located.new.files g c.loop-current_address.call_locations c.loop-current_address.ranges)) (c.loop-current_address.invariant.2 X g) c.if-line_range_end-current_address.false c.if-inline_len-next_inline.false
@@ -163,11 +163,11 @@ returns c =
     let a = c.args in
     let w = words a.state a.string_bytes.now a.strings.now a.files.now in
     λ X f64 f32 g i e.
-    left_of X ((columns f64 f32 c.args.lines64.now c.args.lines32.now c.args.text.now)) i a.first_line a.function_idx a.own a.inlinee_ranges a.s.now c.loop-next_line.s (w g a.call_locations.now a.ranges.now) ((words c.loop-next_line.now c.loop-next_line.string_bytes c.loop-next_line.strings c.loop-next_line.files g c.loop-next_line.call_locations c.loop-next_line.ranges)) c.loop-next_line.next_inline a.function e
+    left_of X ((columns f64 f32 c.args.line_rows.columns64.now c.args.line_rows.columns32.now c.args.text.now)) i a.first_line a.function_idx a.own a.inlinee_ranges a.s.now c.loop-next_line.s (w g a.call_locations.now a.ranges.now) ((words c.loop-next_line.now c.loop-next_line.string_bytes c.loop-next_line.strings c.loop-next_line.files g c.loop-next_line.call_locations c.loop-next_line.ranges)) c.loop-next_line.next_inline a.function e
     (lines-ended ((let a = c.args in
-    fixed ((columns f64 f32 c.args.lines64.now c.args.lines32.now c.args.text.now)) i a.first_line a.function_idx a.function.lines a.own.others a.own.first a.inlinee_ranges.at a.inlinee_ranges.len a.s.now X
+    fixed ((columns f64 f32 c.args.line_rows.columns64.now c.args.line_rows.columns32.now c.args.text.now)) i a.first_line a.function_idx a.function.lines a.own.others a.own.first a.inlinee_ranges.at a.inlinee_ranges.len a.s.now X
     (words a.state a.string_bytes.now a.strings.now a.files.now g a.call_locations.now a.ranges.now))) c.loop-next_line.s c.loop-next_line.next_line c.loop-next_line.call_location_iter c.loop-next_line.next_inline c.loop-next_line.current_address ((words c.loop-next_line.now c.loop-next_line.string_bytes c.loop-next_line.strings c.loop-next_line.files g c.loop-next_line.call_locations c.loop-next_line.ranges))
-    (c.loop-next_line.invariant.6 X f64 f32 g i (dir_of ((columns f64 f32 c.args.lines64.now c.args.lines32.now c.args.text.now)) i a.function c.comp_dir_part-comp_dir.result e c.comp_dir_part-comp_dir.ensures)) c.loop-next_line.invariant.5 c.loop-next_line-test.false)
+    (c.loop-next_line.invariant.6 X f64 f32 g i (dir_of ((columns f64 f32 c.args.line_rows.columns64.now c.args.line_rows.columns32.now c.args.text.now)) i a.function c.comp_dir_part-comp_dir.result e c.comp_dir_part-comp_dir.ensures)) c.loop-next_line.invariant.5 c.loop-next_line-test.false)
 
 pub loop-next_line-smaller-then-address-current_address : goal.loop-next_line-smaller-then-address-current_address
 loop-next_line-smaller-then-address-current_address c = omega (arith, c.loop-next_line-test.true)

@@ -30,8 +30,8 @@ invariant-loop-next_line l =
     × (length l.call_locations ≡ length l.initial.call_locations)
     × (length l.ranges ≡ length l.initial.ranges)
     × Kept l.lines l.others l.inline_at l.inline_len l.initial.s l.s l.next_line l.call_location_iter l.next_inline
-    × ((X : Setup) (f64 f32 g : List ℕ) (i : ℕ) → l.comp_dir ≡ dir_part (columns f64 f32 l.lines64 l.lines32 l.text) i
-    → Goes (fixed (columns f64 f32 l.lines64 l.lines32 l.text) i l.first_line l.function_idx l.lines l.others l.initial.call_location_iter.current_call_location l.inline_at l.inline_len l.initial.s X (words l.initial.now l.initial.string_bytes l.initial.strings l.initial.files g l.initial.call_locations l.initial.ranges)) l.s l.next_line l.call_location_iter l.next_inline l.current_address (words l.now l.string_bytes l.strings l.files g l.call_locations l.ranges))
+    × ((X : Setup) (f64 f32 g : List ℕ) (i : ℕ) → l.comp_dir ≡ dir_part (columns f64 f32 l.line_rows.columns64.now l.line_rows.columns32.now l.text) i
+    → Goes (fixed (columns f64 f32 l.line_rows.columns64.now l.line_rows.columns32.now l.text) i l.first_line l.function_idx l.lines l.others l.initial.call_location_iter.current_call_location l.inline_at l.inline_len l.initial.s X (words l.initial.now l.initial.string_bytes l.initial.strings l.initial.files g l.initial.call_locations l.initial.ranges)) l.s l.next_line l.call_location_iter l.next_inline l.current_address (words l.now l.string_bytes l.strings l.files g l.call_locations l.ranges))
 
 abbrev pub decreases-loop-next_line : goal.decreases-loop-next_line
 decreases-loop-next_line l = l.lines - l.next_line

@@ -8,7 +8,7 @@ use Rattle.scratch.proofs.Gathered.{Pushed}
 use Rattle.writer.proofs.stack.push_lines.Given as goal
 
 abbrev pub invariant-loop-i : goal.invariant-loop-i
-invariant-loop-i l = (l.i ≤ l.count) × (length l.s ≡ length l.initial.s) × ((f g t : List ℕ) → Pushed (columns f g l.lines64 l.lines32 t) l.first l.count l.at l.initial.s l.s l.i)
+invariant-loop-i l = (l.i ≤ l.count) × (length l.s ≡ length l.initial.s) × ((f g t : List ℕ) → Pushed (columns f g l.line_rows.columns64.now l.line_rows.columns32.now t) l.first l.count l.at l.initial.s l.s l.i)
 
 abbrev pub decreases-loop-i : goal.decreases-loop-i
 decreases-loop-i l = l.count - l.i

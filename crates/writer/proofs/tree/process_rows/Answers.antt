@@ -24,16 +24,16 @@ loop-i-init c = (
   refl,
   refl,
   refl,
-  λ Y. starts (over_words (switches c.args.undecorate Y)) ((let a = c.args in columns a.functions64.now a.functions32.now a.lines64.now a.lines32.now a.text.now)) (length c.read_ahead.new.s) ((let a = c.args in words a.state a.string_bytes.now a.strings.now a.files.now a.functions.now a.call_locations.now a.ranges.now)) ((accepted ((let a = c.args in columns a.functions64.now a.functions32.now a.lines64.now a.lines32.now a.text.now)) (length c.read_ahead.new.s)
-      (as_long ((let a = c.args in columns a.functions64.now a.functions32.now a.lines64.now a.lines32.now a.text.now)) c.read_ahead.auto.s c.requires))) refl c.read_ahead.new.s refl,
+  λ Y. starts (over_words (switches c.args.undecorate Y)) ((let a = c.args in columns a.function_rows.columns64.now a.function_rows.columns32.now a.line_rows.columns64.now a.line_rows.columns32.now a.text.now)) (length c.read_ahead.new.s) ((let a = c.args in words a.state a.string_bytes.now a.strings.now a.files.now a.functions.now a.call_locations.now a.ranges.now)) ((accepted ((let a = c.args in columns a.function_rows.columns64.now a.function_rows.columns32.now a.line_rows.columns64.now a.line_rows.columns32.now a.text.now)) (length c.read_ahead.new.s)
+      (as_long ((let a = c.args in columns a.function_rows.columns64.now a.function_rows.columns32.now a.line_rows.columns64.now a.line_rows.columns32.now a.text.now)) c.read_ahead.auto.s c.requires))) refl c.read_ahead.new.s refl,
 )
 
 pub process_row-now-requires : goal.process_row-now-requires
 process_row-now-requires c =
     record {
-      is = c.function_row-function.ensures;
-      ready = row-ready ((let a = c.args in columns a.functions64.now a.functions32.now a.lines64.now a.lines32.now a.text.now)) (length c.read_ahead.new.s) (switches c.args.undecorate true) ((let a = c.args in words a.state a.string_bytes.now a.strings.now a.files.now a.functions.now a.call_locations.now a.ranges.now)) ((accepted ((let a = c.args in columns a.functions64.now a.functions32.now a.lines64.now a.lines32.now a.text.now)) (length c.read_ahead.new.s)
-          (as_long ((let a = c.args in columns a.functions64.now a.functions32.now a.lines64.now a.lines32.now a.text.now)) c.read_ahead.auto.s c.requires))) c.loop-i.s c.loop-i.i c.loop-i.first_line ((words c.loop-i.now c.loop-i.string_bytes c.loop-i.strings c.loop-i.files c.loop-i.functions c.loop-i.call_locations c.loop-i.ranges)) (c.loop-i.invariant.6 true) c.loop-i-test.true;
+      is = c.row-function.ensures;
+      ready = rw c.len-rows.ensures (row-ready ((let a = c.args in columns a.function_rows.columns64.now a.function_rows.columns32.now a.line_rows.columns64.now a.line_rows.columns32.now a.text.now)) (length c.read_ahead.new.s) (switches c.args.undecorate true) ((let a = c.args in words a.state a.string_bytes.now a.strings.now a.files.now a.functions.now a.call_locations.now a.ranges.now)) ((accepted ((let a = c.args in columns a.function_rows.columns64.now a.function_rows.columns32.now a.line_rows.columns64.now a.line_rows.columns32.now a.text.now)) (length c.read_ahead.new.s)
+          (as_long ((let a = c.args in columns a.function_rows.columns64.now a.function_rows.columns32.now a.line_rows.columns64.now a.line_rows.columns32.now a.text.now)) c.read_ahead.auto.s c.requires))) c.loop-i.s c.loop-i.i c.loop-i.first_line ((words c.loop-i.now c.loop-i.string_bytes c.loop-i.strings c.loop-i.files c.loop-i.functions c.loop-i.call_locations c.loop-i.ranges)) (c.loop-i.invariant.6 true) (omega (arith, c.loop-i-test.true)));
     }
 
 pub loop-i-preserved : goal.loop-i-preserved
@@ -45,19 +45,19 @@ loop-i-preserved c = (
   c.process_row-now.auto.call_locations ∙ c.loop-i.invariant.4,
   c.process_row-now.auto.ranges ∙ c.loop-i.invariant.5,
   λ Y.
-      row-after ((let a = c.args in columns a.functions64.now a.functions32.now a.lines64.now a.lines32.now a.text.now)) (length c.read_ahead.new.s) (switches c.args.undecorate Y) ((let a = c.args in words a.state a.string_bytes.now a.strings.now a.files.now a.functions.now a.call_locations.now a.ranges.now)) ((accepted ((let a = c.args in columns a.functions64.now a.functions32.now a.lines64.now a.lines32.now a.text.now)) (length c.read_ahead.new.s)
-      (as_long ((let a = c.args in columns a.functions64.now a.functions32.now a.lines64.now a.lines32.now a.text.now)) c.read_ahead.auto.s c.requires))) c.loop-i.s c.loop-i.i c.loop-i.first_line ((words c.loop-i.now c.loop-i.string_bytes c.loop-i.strings c.loop-i.files c.loop-i.functions c.loop-i.call_locations c.loop-i.ranges)) (c.loop-i.invariant.6 Y) c.loop-i-test.true
-      c.function_row-function.result c.function_row-function.ensures c.process_row-now.new.s (words c.process_row-now.result c.process_row-now.new.string_bytes c.process_row-now.new.strings c.process_row-now.new.files c.process_row-now.new.functions c.process_row-now.new.call_locations c.process_row-now.new.ranges)
-      (c.process_row-now.ensures Y) c.process_row-now.auto.s,
+      row-after ((let a = c.args in columns a.function_rows.columns64.now a.function_rows.columns32.now a.line_rows.columns64.now a.line_rows.columns32.now a.text.now)) (length c.read_ahead.new.s) (switches c.args.undecorate Y) ((let a = c.args in words a.state a.string_bytes.now a.strings.now a.files.now a.functions.now a.call_locations.now a.ranges.now)) ((accepted ((let a = c.args in columns a.function_rows.columns64.now a.function_rows.columns32.now a.line_rows.columns64.now a.line_rows.columns32.now a.text.now)) (length c.read_ahead.new.s)
+      (as_long ((let a = c.args in columns a.function_rows.columns64.now a.function_rows.columns32.now a.line_rows.columns64.now a.line_rows.columns32.now a.text.now)) c.read_ahead.auto.s c.requires))) c.loop-i.s c.loop-i.i c.loop-i.first_line ((words c.loop-i.now c.loop-i.string_bytes c.loop-i.strings c.loop-i.files c.loop-i.functions c.loop-i.call_locations c.loop-i.ranges)) (c.loop-i.invariant.6 Y) (omega (arith, c.loop-i-test.true))
+      c.row-function.result c.row-function.ensures c.process_row-now.new.s (words c.process_row-now.result c.process_row-now.new.string_bytes c.process_row-now.new.strings c.process_row-now.new.files c.process_row-now.new.functions c.process_row-now.new.call_locations c.process_row-now.new.ranges)
+      (rw c.len-rows.ensures at (c.process_row-now.ensures Y)) c.process_row-now.auto.s,
 )
 
 pub returns : goal.returns
 returns c =
-    λ Y. ends (over_words (switches c.args.undecorate Y)) ((let a = c.args in columns a.functions64.now a.functions32.now a.lines64.now a.lines32.now a.text.now)) (length c.read_ahead.new.s) ((let a = c.args in words a.state a.string_bytes.now a.strings.now a.files.now a.functions.now a.call_locations.now a.ranges.now)) ((accepted ((let a = c.args in columns a.functions64.now a.functions32.now a.lines64.now a.lines32.now a.text.now)) (length c.read_ahead.new.s)
-    (as_long ((let a = c.args in columns a.functions64.now a.functions32.now a.lines64.now a.lines32.now a.text.now)) c.read_ahead.auto.s c.requires))) c.loop-i.s c.loop-i.i c.loop-i.first_line ((words c.loop-i.now c.loop-i.string_bytes c.loop-i.strings c.loop-i.files c.loop-i.functions c.loop-i.call_locations c.loop-i.ranges)) (c.loop-i.invariant.6 Y) c.loop-i-test.false
+    λ Y. ends (over_words (switches c.args.undecorate Y)) ((let a = c.args in columns a.function_rows.columns64.now a.function_rows.columns32.now a.line_rows.columns64.now a.line_rows.columns32.now a.text.now)) (length c.read_ahead.new.s) ((let a = c.args in words a.state a.string_bytes.now a.strings.now a.files.now a.functions.now a.call_locations.now a.ranges.now)) ((accepted ((let a = c.args in columns a.function_rows.columns64.now a.function_rows.columns32.now a.line_rows.columns64.now a.line_rows.columns32.now a.text.now)) (length c.read_ahead.new.s)
+    (as_long ((let a = c.args in columns a.function_rows.columns64.now a.function_rows.columns32.now a.line_rows.columns64.now a.line_rows.columns32.now a.text.now)) c.read_ahead.auto.s c.requires))) c.loop-i.s c.loop-i.i c.loop-i.first_line ((words c.loop-i.now c.loop-i.string_bytes c.loop-i.strings c.loop-i.files c.loop-i.functions c.loop-i.call_locations c.loop-i.ranges)) (c.loop-i.invariant.6 Y) (omega (arith, c.loop-i-test.false))
 
 pub overflow_cast-first_line : goal.overflow_cast-first_line
-overflow_cast-first_line c = omega (arith, c.function_row-function.type_inv)
+overflow_cast-first_line c = omega (arith, c.row-function.type_inv)
 
 pub loop-i-smaller : goal.loop-i-smaller
 loop-i-smaller c = omega (arith, c.loop-i-test.true)
@@ -88,12 +88,12 @@ pub overflow_add-first_line : goal.overflow_add-first_line
 overflow_add-first_line c =
     let a = c.args in
     let l = c.loop-i in
-    let k = columns a.functions64.now a.functions32.now a.lines64.now a.lines32.now a.text.now in
+    let k = columns a.function_rows.columns64.now a.function_rows.columns32.now a.line_rows.columns64.now a.line_rows.columns32.now a.text.now in
     let n = length c.read_ahead.new.s in
     let w = words a.state a.string_bytes.now a.strings.now a.files.now a.functions.now a.call_locations.now a.ranges.now in
     let v = words l.now l.string_bytes l.strings l.files l.functions l.call_locations l.ranges in
     omega (
       arith,
-      first-low k n (switches a.undecorate true) w (accepted k n (as_long k c.read_ahead.auto.s c.requires)) l.s l.i l.first_line v (l.invariant.6 true) c.loop-i-test.true
-          c.function_row-function.result c.function_row-function.ensures,
+      first-low k n (switches a.undecorate true) w (accepted k n (as_long k c.read_ahead.auto.s c.requires)) l.s l.i l.first_line v (l.invariant.6 true) (omega (arith, c.loop-i-test.true))
+          c.row-function.result c.row-function.ensures,
     )

@@ -19,7 +19,7 @@ invariant-loop-i l =
     × (length l.functions ≡ length l.initial.functions)
     × (length l.call_locations ≡ length l.initial.call_locations)
     × (length l.ranges ≡ length l.initial.ranges)
-    × ((Y : Bool) → Rowing (over_words (switches l.undecorate Y)) (columns l.functions64 l.functions32 l.lines64 l.lines32 l.text) (length l.initial.s) (words l.initial.now l.initial.string_bytes l.initial.strings l.initial.files l.initial.functions l.initial.call_locations l.initial.ranges) l.s l.i l.first_line (words l.now l.string_bytes l.strings l.files l.functions l.call_locations l.ranges))
+    × ((Y : Bool) → Rowing (over_words (switches l.undecorate Y)) (columns l.function_rows.columns64.now l.function_rows.columns32.now l.line_rows.columns64.now l.line_rows.columns32.now l.text) (length l.initial.s) (words l.initial.now l.initial.string_bytes l.initial.strings l.initial.files l.initial.functions l.initial.call_locations l.initial.ranges) l.s l.i l.first_line (words l.now l.string_bytes l.strings l.files l.functions l.call_locations l.ranges))
 
 abbrev pub decreases-loop-i : goal.decreases-loop-i
 decreases-loop-i l = l.rows - l.i

@@ -8,5 +8,5 @@ use Rattle.writer.proofs.tree.sorted_ranges.Goals as goal
 pub returns : goal.returns
 returns c =
     let a = c.args in
-    ranges-sorted a.s.now c.gather-spans.new.s c.sort_pairs.new.s a.at c.gather-spans.result (kid_spans (columns a.functions64.now a.functions32.now a.lines64.now a.lines32.now []) a.depth a.i a.first)
+    ranges-sorted a.s.now c.gather-spans.new.s c.sort_pairs.new.s a.at c.gather-spans.result (kid_spans (columns a.function_rows.columns64.now a.function_rows.columns32.now a.line_rows.columns64.now a.line_rows.columns32.now []) a.depth a.i a.first)
     c.gather-spans.ensures.0 c.gather-spans.ensures.1 c.requires.room c.sort_pairs.ensures

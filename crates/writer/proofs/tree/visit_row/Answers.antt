@@ -16,12 +16,12 @@ use Rattle.writer.proofs.tree.visit_row.Goals as goal
 pub sorted_ranges-len-requires : goal.sorted_ranges-len-requires
 sorted_ranges-len-requires c =
     let a = c.args in
-    gather_ready a.functions64.now a.functions32.now a.lines64.now a.lines32.now a.text.now a.base a.row.i a.row.first_line (length a.s.now) a.own.top c.requires.ready a.row.function c.requires.is
+    gather_ready a.function_rows.columns64.now a.function_rows.columns32.now a.line_rows.columns64.now a.line_rows.columns32.now a.text.now a.base a.row.i a.row.first_line (length a.s.now) a.own.top c.requires.ready a.row.function c.requires.is
 
 pub process_lines-lines-requires : goal.process_lines-lines-requires
 process_lines-lines-requires c =
     let a = c.args in
-    lines-ready a.functions64.now a.functions32.now a.lines64.now a.lines32.now a.text.now a.base a.row.i a.row.first_line (length a.s.now) a.own.top c.requires.ready a.row.function c.requires.is
+    lines-ready a.function_rows.columns64.now a.function_rows.columns32.now a.line_rows.columns64.now a.line_rows.columns32.now a.text.now a.base a.row.i a.row.first_line (length a.s.now) a.own.top c.requires.ready a.row.function c.requires.is
     a.own.call_locations c.sorted_ranges-len.result c.requires.below a.s.now c.sorted_ranges-len.new.s c.sorted_ranges-len.auto.s c.sorted_ranges-len.ensures
 
 pub returns : goal.returns
@@ -30,7 +30,7 @@ returns c =
     let q = a.row.function in
     let i = a.row.i in
     let first = a.row.first_line in
-    let k = (let a = c.args in columns a.functions64.now a.functions32.now a.lines64.now a.lines32.now a.text.now) in
+    let k = (let a = c.args in columns a.function_rows.columns64.now a.function_rows.columns32.now a.line_rows.columns64.now a.line_rows.columns32.now a.text.now) in
     let address : (tree_row k i first).address ≡ q.address = tree_row-address k i first ∙ ap (λ (x : FunctionStruct). x.address) (sym c.requires.is) in
     let size : (tree_row k i first).size ≡ q.size = tree_row-size k i first ∙ ap (λ (x : FunctionStruct). x.size) (sym c.requires.is) in
     let inline : (tree_row k i first).inline ≡ q.inline = tree_row-inline k i first ∙ ap (λ (x : FunctionStruct). x.inline) (sym c.requires.is) in
@@ -39,14 +39,14 @@ returns c =
     let calls = c.process_lines-lines.new.call_locations in
     λ Y n.
     let X = switches a.undecorate Y in
-    row_walked a.functions64.now a.functions32.now a.lines64.now a.lines32.now a.text.now a.base i first (length a.s.now) a.own.top c.requires.ready q c.requires.is
+    row_walked a.function_rows.columns64.now a.function_rows.columns32.now a.line_rows.columns64.now a.line_rows.columns32.now a.text.now a.base i first (length a.s.now) a.own.top c.requires.ready q c.requires.is
     a.own.call_locations c.sorted_ranges-len.result c.requires.below X c.begin_row-begun.result.index c.process_lines-lines.result.callee_call_locations a.s.now c.sorted_ranges-len.new.s c.process_lines-lines.new.s c.set_calls.new.s
     (words a.state a.string_bytes.now a.strings.now a.files.now a.functions.now a.call_locations.now a.ranges.now)
     (words c.begin_row-begun.result.state c.begin_row-begun.new.string_bytes c.begin_row-begun.new.strings a.files.now functions a.call_locations.now a.ranges.now)
     (words c.process_lines-lines.result.state c.process_lines-lines.new.string_bytes c.process_lines-lines.new.strings c.process_lines-lines.new.files functions calls c.process_lines-lines.new.ranges)
     (words c.close_function-closed.result c.process_lines-lines.new.string_bytes c.process_lines-lines.new.strings c.process_lines-lines.new.files functions calls c.close_function-closed.new.ranges)
     c.requires.visited c.sorted_ranges-len.ensures (c.process_lines-lines.auto.s ∙ c.sorted_ranges-len.auto.s) (c.begin_row-begun.ensures a.files.now a.call_locations.now a.ranges.now)
-    (c.process_lines-lines.ensures X a.functions64.now a.functions32.now functions i c.requires.is)
+    (c.process_lines-lines.ensures X a.function_rows.columns64.now a.function_rows.columns32.now functions i c.requires.is)
     (c.close_function-closed.ensures X (tree_row k i first) c.process_lines-lines.new.string_bytes c.process_lines-lines.new.strings c.process_lines-lines.new.files functions calls address size inline low) c.set_calls.ensures n
 
 pub overflow_mul-at : goal.overflow_mul-at
@@ -63,7 +63,7 @@ overflow_add-row-2 c =
     omega (
       arith,
       (let a = c.args in
-          lines-room a.functions64.now a.functions32.now a.lines64.now a.lines32.now a.text.now a.base a.row.i a.row.first_line (length a.s.now) a.own.top c.requires.ready a.row.function c.requires.is),
+          lines-room a.function_rows.columns64.now a.function_rows.columns32.now a.line_rows.columns64.now a.line_rows.columns32.now a.text.now a.base a.row.i a.row.first_line (length a.s.now) a.own.top c.requires.ready a.row.function c.requires.is),
       c.well_formed.1.1.1.1.1.1.1.1.1.1.1.0,
     )
 
