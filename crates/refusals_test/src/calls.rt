@@ -1,10 +1,11 @@
 // The calls of a case, with the slices lent as it says.
 ghost use Rattle.replay.specs.Counts.{IsPrefixLen};
 
-use crate::case::{BEGIN, Case, SYMBOL, WRITE};
+use crate::case::{Call, Case};
 use crate::left::{OTHER, is_scratch_left, is_written};
+use errors::Refusal;
 use memory::Converter;
-use rows::{OptionalPart, TextPart};
+use rows::{FunctionRows, LineRows, OptionalPart, TextPart};
 
 // The lent tables.
 #[derive(Clone, Copy)]
@@ -20,7 +21,7 @@ pub(crate) struct Tables {
 // What a call answered, the record and the tables after it, and whether all else that was lent is left as it should be.
 #[derive(Clone, Copy)]
 pub(crate) struct Done {
-    pub code: u32,
+    pub answer: Result<(), Refusal>,
     pub converter: Converter,
     pub tables: Tables,
     pub same: bool,
@@ -228,7 +229,7 @@ fn begin(lent: [usize; 14], tables: Tables) -> Done {
         ranges,
     };
     Done {
-        code: 0,
+        answer: Ok(()),
         converter,
         tables: after,
         same: true,
@@ -239,10 +240,8 @@ fn tree(
     lent: [usize; 14],
     converter: Converter,
     tables: Tables,
-    functions64: &[u64],
-    functions32: &[u32],
-    lines64: &[u64],
-    lines32: &[u32],
+    function_rows: FunctionRows,
+    line_rows: LineRows,
     text: &[u8],
 ) -> Done {
     let mut string_bytes = tables.string_bytes;
@@ -259,8 +258,9 @@ fn tree(
     let n4 = lent_words(&call_locations, lent[4]);
     let n5 = lent_words(&ranges, lent[5]);
     let n6 = lent_scratch(&scratch, lent[6]);
+    let mut record = converter;
     let answer = writer::calls::process_symbolic_function(
-        converter,
+        &mut record,
         &mut string_bytes[..n0],
         &mut strings[..n1],
         &mut files[..n2],
@@ -268,10 +268,8 @@ fn tree(
         &mut call_locations[..n4],
         &mut ranges[..n5],
         &mut scratch[..n6],
-        functions64,
-        functions32,
-        lines64,
-        lines32,
+        function_rows,
+        line_rows,
         text,
     );
     let after = Tables {
@@ -282,12 +280,11 @@ fn tree(
         call_locations,
         ranges,
     };
-    let record = answer.converter;
     Done {
-        code: answer.code,
+        answer,
         converter: record,
         tables: after,
-        same: is_scratch_left(&scratch, n6, answer.code),
+        same: is_scratch_left(&scratch, n6, answer),
     }
 }
 
@@ -297,8 +294,7 @@ fn tree_with_lines(
     lent: [usize; 14],
     converter: Converter,
     tables: Tables,
-    functions64: &[u64],
-    functions32: &[u32],
+    function_rows: FunctionRows,
     text: &[u8],
 ) -> Done {
     let mut lines64 = [0u64; 12];
@@ -309,10 +305,11 @@ fn tree_with_lines(
         lent,
         converter,
         tables,
-        functions64,
-        functions32,
-        &lines64[..n],
-        &lines32[..n1],
+        function_rows,
+        LineRows {
+            columns64: &lines64[..n],
+            columns32: &lines32[..n1],
+        },
         text,
     );
     let same = set_lines64(&mut lines64, words, n).same;
@@ -337,8 +334,10 @@ fn tree_with_rows(
         lent,
         converter,
         tables,
-        &functions64[..n],
-        &functions32[..n1],
+        FunctionRows {
+            columns64: &functions64[..n],
+            columns32: &functions32[..n1],
+        },
         text,
     );
     let same = set_functions64(&mut functions64, words, n).same;
@@ -375,8 +374,9 @@ fn symbol(
     let n3 = lent_words(&functions, lent[3]);
     let n4 = lent_words(&call_locations, lent[4]);
     let n5 = lent_words(&ranges, lent[5]);
+    let mut record = converter;
     let answer = symbol_call::process_symbolic_symbol(
-        converter,
+        &mut record,
         &mut string_bytes[..n0],
         &mut strings[..n1],
         &mut files[..n2],
@@ -396,9 +396,8 @@ fn symbol(
         call_locations,
         ranges,
     };
-    let record = answer.converter;
     Done {
-        code: answer.code,
+        answer,
         converter: record,
         tables: after,
         same: true,
@@ -431,25 +430,11 @@ fn write(lent: [usize; 14], converter: Converter, tables: Tables, file: &[u8]) -
         &mut out[..n7],
     );
     Done {
-        code: written.code,
+        answer: written.map(|_| ()),
         converter,
         tables,
-        same: is_written(&out, file, written.code, written.len),
+        same: is_written(&out, file, written),
     }
-}
-
-fn call_with(
-    call: usize,
-    words: &[u64; 384],
-    lent: [usize; 14],
-    converter: Converter,
-    tables: Tables,
-    text: &[u8],
-) -> Done {
-    if call == SYMBOL {
-        return symbol(words, lent, converter, tables, text);
-    }
-    tree_with_rows(words, lent, converter, tables, text)
 }
 
 // A tree or a symbol of the case's text, which is compared after it.
@@ -458,19 +443,20 @@ fn call_with_text(c: Case, converter: Converter, tables: Tables) -> Done {
     let lent = c.lent;
     let mut text = [0u8; 20];
     let n = set_text(&mut text, &words, lent[12]).n;
-    let done = call_with(c.call, &words, lent, converter, tables, &text[..n]);
+    let done = if c.call == Call::Symbol {
+        symbol(&words, lent, converter, tables, &text[..n])
+    } else {
+        tree_with_rows(&words, lent, converter, tables, &text[..n])
+    };
     let same = set_text(&mut text, &words, n).same;
     with_same(done, same)
 }
 
 // The call of a case.
 pub(crate) fn call(c: Case, converter: Converter, tables: Tables, file: &[u8]) -> Done {
-    let lent = c.lent;
-    if c.call == BEGIN {
-        return begin(lent, tables);
+    match c.call {
+        Call::Begin => begin(c.lent, tables),
+        Call::Write => write(c.lent, converter, tables, file),
+        Call::Tree | Call::Symbol => call_with_text(c, converter, tables),
     }
-    if c.call == WRITE {
-        return write(lent, converter, tables, file);
-    }
-    call_with_text(c, converter, tables)
 }

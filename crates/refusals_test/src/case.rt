@@ -1,26 +1,64 @@
 // A case: what is lent, and what is called. A line of data/refusals.cases says it in words.
 
-// What a number of a line stands for, and the calls: the numbers of their words.
+// What a number of a line stands for: how much of a slice is lent, to all calls or to the one under test alone, or where the next value stands, or the value.
+#[derive(Clone, Copy, PartialEq, Eq)]
+enum Mode {
+    Of,
+    Only,
+    At,
+    Is,
+}
 
-const OF: usize = 0;
+#[derive(Clone, Copy, PartialEq, Eq)]
+pub(crate) enum Call {
+    Begin,
+    Tree,
+    Symbol,
+    Write,
+}
 
-const AT: usize = 2;
+// A word of a line that is no slice.
+#[derive(Clone, Copy, PartialEq, Eq)]
+enum Word {
+    Mode(Mode),
+    Call(Call),
+    First,
+    Whole,
+    Closed,
+    Nested,
+}
 
-const IS: usize = 3;
+// A word of a line that says nothing.
+#[derive(Debug, Clone, Copy)]
+struct UnknownWord;
 
-pub(crate) const BEGIN: usize = 4;
+impl TryFrom<&[u8]> for Word {
+    type Error = UnknownWord;
 
-pub(crate) const TREE: usize = 5;
-
-pub(crate) const SYMBOL: usize = 6;
-
-pub(crate) const WRITE: usize = 7;
+    fn try_from(w: &[u8]) -> Result<Word, UnknownWord> {
+        match w {
+            b"of" => Ok(Word::Mode(Mode::Of)),
+            b"only" => Ok(Word::Mode(Mode::Only)),
+            b"at" => Ok(Word::Mode(Mode::At)),
+            b"is" => Ok(Word::Mode(Mode::Is)),
+            b"begin" => Ok(Word::Call(Call::Begin)),
+            b"tree" => Ok(Word::Call(Call::Tree)),
+            b"symbol" => Ok(Word::Call(Call::Symbol)),
+            b"write" => Ok(Word::Call(Call::Write)),
+            b"first" => Ok(Word::First),
+            b"whole" => Ok(Word::Whole),
+            b"closed" => Ok(Word::Closed),
+            b"nested" => Ok(Word::Nested),
+            _ => Err(UnknownWord),
+        }
+    }
+}
 
 // `begun` is how much of each slice is lent to the calls before the one under test, `lent` how much to that one. `words` are what a call is given,
 // 64 for each slice from 8 on; the last of them is 1 for a case that is `nested`. `slice`, `mode` and `index` say what the next number of the line stands for.
 #[derive(Clone, Copy)]
 pub(crate) struct Case {
-    pub call: usize,
+    pub call: Call,
     pub first: bool,
     pub whole: bool,
     pub closed: bool,
@@ -28,7 +66,7 @@ pub(crate) struct Case {
     pub lent: [usize; 14],
     pub words: [u64; 384],
     slice: usize,
-    mode: usize,
+    mode: Mode,
     index: usize,
 }
 
@@ -36,7 +74,7 @@ pub(crate) fn blank() -> Case {
     let none = [0usize; 14];
     let words = [0u64; 384];
     Case {
-        call: TREE,
+        call: Call::Tree,
         first: false,
         whole: false,
         closed: false,
@@ -44,13 +82,13 @@ pub(crate) fn blank() -> Case {
         lent: none,
         words,
         slice: 0,
-        mode: OF,
+        mode: Mode::Of,
         index: 0,
     }
 }
 
 // A case of another call.
-pub(crate) fn with_call(mut c: Case, call: usize) -> Case {
+pub(crate) fn with_call(mut c: Case, call: Call) -> Case {
     c.call = call;
     c
 }
@@ -94,7 +132,7 @@ fn with_lent(mut c: Case, n: usize) -> Case {
     let slice = c.slice;
     if slice < 14 {
         c.lent[slice] = n;
-        if c.mode == OF {
+        if c.mode == Mode::Of {
             c.begun[slice] = n;
         }
     }
@@ -102,15 +140,14 @@ fn with_lent(mut c: Case, n: usize) -> Case {
 }
 
 fn with_number(mut c: Case, v: u64) -> Case {
-    let mode = c.mode;
-    if mode == IS {
-        return with_value(c, v);
+    match c.mode {
+        Mode::Is => with_value(c, v),
+        Mode::At => {
+            c.index = v as usize;
+            c
+        }
+        Mode::Of | Mode::Only => with_lent(c, v as usize),
     }
-    if mode == AT {
-        c.index = v as usize;
-        return c;
-    }
-    with_lent(c, v as usize)
 }
 
 fn with_digit(v: u64, d: u8) -> u64 {
@@ -130,68 +167,34 @@ fn number(w: &[u8]) -> u64 {
 
 // Words of a line
 
-// Which of the names, each with a space after it, a word is; their count where it is none.
-fn index_in(names: &[u8], w: &[u8]) -> usize {
-    let mut k: usize = 0;
-    let mut start: usize = 0;
-    let mut i: usize = 0;
-    while i < names.len() {
-        if names[i] == b' ' {
-            if &names[start..i] == w {
-                return k;
-            }
-            start = i + 1;
-            k += 1;
-        }
-        i += 1;
-    }
-    k
-}
-
 // The lent slices by number: 0 to 5 are the tables, 6 is scratch, 7 the output, and 8 to 13 are what a call is given.
-fn slice_of(w: &[u8]) -> usize {
-    index_in(
-        b"string_bytes strings files functions call_locations ranges scratch out functions64 functions32 lines64 lines32 text named ",
-        w,
-    )
+fn slice_of(w: &[u8]) -> Option<usize> {
+    b"string_bytes strings files functions call_locations ranges scratch out functions64 functions32 lines64 lines32 text named"
+        .split(|b| *b == b' ')
+        .position(|name| name == w)
 }
 
-// A mark. Any other word is printed, so that it is seen.
-fn with_mark(rt: &impl Print, mut c: Case, k: usize, w: &[u8]) -> Case {
-    c.first = c.first || k == 8;
-    c.whole = c.whole || k == 9;
-    c.closed = c.closed || k == 10;
-    if k == 11 {
-        c.words[383] = 1;
-    }
-    if k > 11 {
-        let _ = print!(rt; "unknown word ");
-        let _ = rt.write_all(w);
-        let _ = println!(rt);
-    }
-    c
-}
-
+// A word that is neither a slice nor one of these is printed, so that it is seen.
 fn with_name(rt: &impl Print, mut c: Case, w: &[u8]) -> Case {
-    let slice = slice_of(w);
-    if slice < 14 {
+    if let Some(slice) = slice_of(w) {
         c.slice = slice;
         c.index = 0;
         return c;
     }
-    let k = index_in(
-        b"of only at is begin tree symbol write first whole closed nested ",
-        w,
-    );
-    if k < BEGIN {
-        c.mode = k;
-        return c;
+    match Word::try_from(w) {
+        Ok(Word::Mode(mode)) => c.mode = mode,
+        Ok(Word::Call(call)) => c.call = call,
+        Ok(Word::First) => c.first = true,
+        Ok(Word::Whole) => c.whole = true,
+        Ok(Word::Closed) => c.closed = true,
+        Ok(Word::Nested) => c.words[383] = 1,
+        Err(UnknownWord) => {
+            let _ = print!(rt; "unknown word ");
+            let _ = rt.write_all(w);
+            let _ = println!(rt);
+        }
     }
-    if k <= WRITE {
-        c.call = k;
-        return c;
-    }
-    with_mark(rt, c, k, w)
+    c
 }
 
 fn with_word(rt: &impl Print, c: Case, w: &[u8]) -> Case {

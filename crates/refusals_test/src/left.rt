@@ -1,42 +1,40 @@
 // What a call leaves in the tables and in the record, held against what was there before it.
 use crate::calls::{Done, Tables};
-use crate::case::{BEGIN, Case, WRITE};
+use crate::case::{Call, Case};
+use errors::Refusal;
 use memory::{Converter, State};
 
 // What lent memory holds at first.
 pub(crate) const OTHER: u32 = 2779096485;
 
 // What is left where memory was lent: what was there; zeros; anything.
-
-const SAME: u32 = 0;
-
-const ZEROS: u32 = 1;
-
-const ANY: u32 = 2;
-
-// A refused call and a write change nothing; a beginning, and a call that finds a table full, leave zeros.
-fn left_by(call: usize, code: u32) -> u32 {
-    if code == 17 || call == BEGIN {
-        return ZEROS;
-    }
-    if code == 0 && call != WRITE {
-        return ANY;
-    }
-    SAME
+#[derive(Clone, Copy, PartialEq, Eq)]
+enum Left {
+    Same,
+    Zeros,
+    Any,
 }
 
-fn expected(before: u32, now: u32, lent: bool, left: u32) -> u32 {
-    if lent && left == ZEROS {
-        return 0;
+// A refused call and a write change nothing; a beginning, and a call that finds a table full, leave zeros.
+fn left_by(call: Call, answer: Result<(), Refusal>) -> Left {
+    match answer {
+        _ if call == Call::Begin => Left::Zeros,
+        Err(Refusal::TableFull) => Left::Zeros,
+        Ok(()) if call != Call::Write => Left::Any,
+        _ => Left::Same,
     }
-    if lent && left == ANY {
-        return now;
+}
+
+fn expected(before: u32, now: u32, lent: bool, left: Left) -> u32 {
+    match left {
+        Left::Zeros if lent => 0,
+        Left::Any if lent => now,
+        _ => before,
     }
-    before
 }
 
 // Whether the first n words are left so, and the others as before.
-fn is_left(before: &[u32; 96], t: &[u32; 96], n: usize, left: u32) -> bool {
+fn is_left(before: &[u32; 96], t: &[u32; 96], n: usize, left: Left) -> bool {
     for i in 0..96 {
         if t[i] != expected(before[i], t[i], i < n, left) {
             return false;
@@ -49,7 +47,7 @@ fn wide(b: u8) -> u32 {
     b as u32
 }
 
-fn is_left_bytes(before: &[u8; 96], t: &[u8; 96], n: usize, left: u32) -> bool {
+fn is_left_bytes(before: &[u8; 96], t: &[u8; 96], n: usize, left: Left) -> bool {
     for i in 0..96 {
         if wide(t[i]) != expected(wide(before[i]), wide(t[i]), i < n, left) {
             return false;
@@ -58,7 +56,7 @@ fn is_left_bytes(before: &[u8; 96], t: &[u8; 96], n: usize, left: u32) -> bool {
     true
 }
 
-fn are_tables_left(before: Tables, after: Tables, c: Case, left: u32) -> bool {
+fn are_tables_left(before: Tables, after: Tables, c: Case, left: Left) -> bool {
     let n = c.lent;
     is_left_bytes(&before.string_bytes, &after.string_bytes, n[0], left)
         && is_left(&before.strings, &after.strings, n[1], left)
@@ -88,11 +86,11 @@ fn zero_or_other(i: usize, zeros: usize) -> u32 {
 }
 
 // Scratch after a tree: zero where it was lent if the tree was accepted or found a table full, and what it was if it was refused.
-pub(crate) fn is_scratch_left(t: &[u32; 262144], n: usize, code: u32) -> bool {
-    if code == 0 || code == 17 {
-        return is_zero_up_to(t, n);
+pub(crate) fn is_scratch_left(t: &[u32; 262144], n: usize, answer: Result<(), Refusal>) -> bool {
+    match answer {
+        Ok(()) | Err(Refusal::TableFull) => is_zero_up_to(t, n),
+        Err(_) => is_zero_up_to(t, 0),
     }
-    is_zero_up_to(t, 0)
 }
 
 fn byte(t: &[u8], at: usize, n: usize) -> u8 {
@@ -113,11 +111,11 @@ fn begins_with(t: &[u8; 400], file: &[u8], n: usize) -> bool {
 }
 
 // The output after a write.
-pub(crate) fn is_written(t: &[u8; 400], file: &[u8], code: u32, len: usize) -> bool {
-    if code == 0 {
-        return len == file.len() && begins_with(t, file, len);
+pub(crate) fn is_written(t: &[u8; 400], file: &[u8], written: Result<usize, Refusal>) -> bool {
+    match written {
+        Ok(len) => len == file.len() && begins_with(t, file, len),
+        Err(_) => begins_with(t, file, 0),
     }
-    len == 0 && begins_with(t, file, 0)
 }
 
 // The record
@@ -170,11 +168,11 @@ fn same_record(a: Converter, b: Converter) -> bool {
 }
 
 // A beginning opens the converter; one that finds a table full closes it, with nothing in use.
-fn is_record_left(before: Converter, after: Converter, call: usize, left: u32) -> bool {
-    if left == ZEROS {
-        return same_record(after, unused(call == BEGIN));
+fn is_record_left(before: Converter, after: Converter, call: Call, left: Left) -> bool {
+    if left == Left::Zeros {
+        return same_record(after, unused(call == Call::Begin));
     }
-    if left == ANY {
+    if left == Left::Any {
         return same_begun(before, after) && after.open;
     }
     same_record(before, after)
@@ -182,7 +180,7 @@ fn is_record_left(before: Converter, after: Converter, call: usize, left: u32) -
 
 // Whether a call left all as document 01 says.
 pub(crate) fn is_as_said(c: Case, before: Done, after: Done) -> bool {
-    let left = left_by(c.call, after.code);
+    let left = left_by(c.call, after.answer);
     after.same
         && is_record_left(before.converter, after.converter, c.call, left)
         && are_tables_left(before.tables, after.tables, c, left)

@@ -12,8 +12,9 @@ mod case;
 mod left;
 
 use crate::calls::{Done, Tables, call};
-use crate::case::{BEGIN, Case, SYMBOL, TREE, WRITE, blank, with_call, with_tables_of, with_words};
+use crate::case::{Call, Case, blank, with_call, with_tables_of, with_words};
 use crate::left::{OTHER, is_as_said, unused};
+use errors::{Refusal, code_of};
 
 // Makes a call; `same` is whether it left all as it should.
 fn make(now: Done, c: Case, file: &[u8]) -> Done {
@@ -36,7 +37,7 @@ fn nothing_begun() -> Done {
         ranges: words,
     };
     Done {
-        code: 0,
+        answer: Ok(()),
         converter: unused(false),
         tables,
         same: true,
@@ -51,7 +52,7 @@ fn first_tree(now: Done, c: Case, usual: Case, file: &[u8]) -> Done {
         return now;
     }
     let done = make(now, usual, file);
-    with_ok(done, now.same && done.code == 0)
+    with_ok(done, now.same && done.answer.is_ok())
 }
 
 fn with_ok(mut done: Done, ok: bool) -> Done {
@@ -77,7 +78,7 @@ fn print_ok(rt: &impl Print, ok: bool) {
 }
 
 fn print_case(rt: &impl Print, title: &[u8], done: Done) {
-    let code = done.code;
+    let code = code_of(done.answer);
     let _ = print!(rt; "{code} ");
     let _ = rt.write_all(title);
     let _ = print!(rt; ":");
@@ -85,7 +86,7 @@ fn print_case(rt: &impl Print, title: &[u8], done: Done) {
 }
 
 fn print_next(rt: &impl Print, how: &str, done: Done) {
-    let code = done.code;
+    let code = code_of(done.answer);
     let _ = print!(rt; "{how} {code}");
     print_ok(rt, done.same);
 }
@@ -99,29 +100,29 @@ fn next(rt: &impl Print, how: &str, now: Done, c: Case, file: &[u8]) {
 
 // A new beginning, the worked tree, and a write.
 fn begun_anew(rt: &impl Print, now: Done, base: Case, file: &[u8]) {
-    let now = make(now, with_call(base, BEGIN), file);
+    let now = make(now, with_call(base, Call::Begin), file);
     let now = make(now, base, file);
-    next(rt, ", begun anew", now, with_call(base, WRITE), file);
+    next(rt, ", begun anew", now, with_call(base, Call::Write), file);
 }
 
 // After 17, a tree, a symbol and a write; then anew. `usual` is the base with the tables of the case.
 fn afterwards(rt: &impl Print, now: Done, c: Case, usual: Case, base: Case, file: &[u8]) {
-    if now.code == 17 {
+    if now.answer == Err(Refusal::TableFull) {
         next(rt, ", then", now, usual, file);
-        next(rt, ",", now, with_call(usual, SYMBOL), file);
-        next(rt, ",", now, with_call(usual, WRITE), file);
+        next(rt, ",", now, with_call(usual, Call::Symbol), file);
+        next(rt, ",", now, with_call(usual, Call::Write), file);
         begun_anew(rt, now, base, file);
         return;
     }
     if c.whole {
-        next(rt, ", written", now, with_call(usual, WRITE), file);
+        next(rt, ", written", now, with_call(usual, Call::Write), file);
     }
 }
 
 // A case: the beginning, the tree before the call under test, the call, and what comes after it.
 fn run(rt: &impl Print, file: &[u8], title: &[u8], c: Case, base: Case) {
-    let usual = with_call(with_tables_of(base, c), TREE);
-    let now = make(nothing_begun(), with_call(usual, BEGIN), file);
+    let usual = with_call(with_tables_of(base, c), Call::Tree);
+    let now = make(nothing_begun(), with_call(usual, Call::Begin), file);
     let now = first_tree(now, c, usual, file);
     let done = make(with_open(now, !c.closed), c, file);
     print_case(rt, title, with_ok(done, now.same));

@@ -1,13 +1,13 @@
 // Replays lists of calls whose written files the original made: oracle/FORMAT.md, "Converter". A line is printed for each list, the checksum of its words.
 #![tactic(auto)]
 
+use errors::{Refusal, code_of};
 use memory::Converter;
 use raw::{Header, Stored};
 use replay::{add, add_bytes, low, number, place, word};
-use rows::{OptionalPart, TextPart};
+use rows::{FunctionRows, LineRows, OptionalPart, TextPart};
 use std::fs;
 use std::io::Read;
-use symbol_call::Answer;
 
 // Parts of a record
 
@@ -68,12 +68,10 @@ struct Replay {
     sum: u32,
 }
 
-fn answered(sum: u32, answer: Answer) -> Replay {
-    let converter = answer.converter;
-    let code = answer.code;
+fn answered(sum: u32, converter: Converter, answer: Result<(), Refusal>) -> Replay {
     Replay {
         converter,
-        sum: add(sum, code),
+        sum: add(sum, code_of(answer)),
     }
 }
 
@@ -121,7 +119,7 @@ fn tree(
     ranges: &mut [u32],
     record: &[u8],
 ) -> Replay {
-    let converter = now.converter;
+    let mut converter = now.converter;
     let f = word(record, 4) as usize;
     let l = word(record, 8) as usize;
     let at_functions32 = 16 + f * 16;
@@ -138,7 +136,7 @@ fn tree(
     read_numbers(&mut lines64, l * 3, record, at_lines64);
     read_words(&mut lines32, l * 14, record, at_lines32);
     let answer = writer::calls::process_symbolic_function(
-        converter,
+        &mut converter,
         string_bytes,
         strings,
         files,
@@ -146,13 +144,17 @@ fn tree(
         call_locations,
         ranges,
         &mut scratch,
-        first_numbers(&functions64, f * 2),
-        first_words(&functions32, f * 8),
-        first_numbers(&lines64, l * 3),
-        first_words(&lines32, l * 14),
+        FunctionRows {
+            columns64: first_numbers(&functions64, f * 2),
+            columns32: first_words(&functions32, f * 8),
+        },
+        LineRows {
+            columns64: first_numbers(&lines64, l * 3),
+            columns32: first_words(&lines32, l * 14),
+        },
         rest(record, at_text),
     );
-    answered(now.sum, answer)
+    answered(now.sum, converter, answer)
 }
 
 fn symbol(
@@ -165,7 +167,7 @@ fn symbol(
     ranges: &mut [u32],
     record: &[u8],
 ) -> Replay {
-    let converter = now.converter;
+    let mut converter = now.converter;
     let text = rest(record, 24);
     let name = OptionalPart {
         present: word(record, 4) != 0,
@@ -175,7 +177,7 @@ fn symbol(
         },
     };
     let answer = symbol_call::process_symbolic_symbol(
-        converter,
+        &mut converter,
         string_bytes,
         strings,
         files,
@@ -187,7 +189,7 @@ fn symbol(
         number(record, 16),
         name,
     );
-    answered(now.sum, answer)
+    answered(now.sum, converter, answer)
 }
 
 // The file, as it is now.
@@ -212,9 +214,10 @@ fn write(
         ranges,
         &mut out,
     );
-    let sum = add(now.sum, written.code);
-    let sum = add(sum, low(written.len));
-    let sum = add_bytes(sum, first_bytes(&out, written.len));
+    let len = written.unwrap_or(0);
+    let sum = add(now.sum, code_of(written));
+    let sum = add(sum, low(len));
+    let sum = add_bytes(sum, first_bytes(&out, len));
     Replay { converter, sum }
 }
 
