@@ -258,7 +258,7 @@ impl SourceLocations {
     }
 }
 
-// Files and functions
+// Files and functions. Each has its own functions, as in the original: with `?` these are two lines, and one over both would need a trait of the tables.
 
 #[tactic(auto, using(crate::proofs::LookupLaws::read_cases), unfolding(crate::specs::Lookup::got_file, symcache::specs::Answers::and_then))]
 pub fn get_file(s: &[u8], file_idx: u32) -> Result<Option<File>, ErrorKind>
