@@ -3,7 +3,7 @@
 #![tactic(auto)]
 
 ghost use Rattle.std.specs.Prelude.{◌≡◌};
-ghost use Rattle.rows.specs.Columns.{columns};
+ghost use Rattle.rows.specs.Columns.{columns_of};
 ghost use Rattle.errors.specs.Numbers.{code_of};
 ghost use Rattle.memory.specs.Memory.{memory};
 ghost use Rattle.line_rows.specs.Numbers.{usable_by, number_of};
@@ -31,8 +31,7 @@ pub fn process_symbolic_function(
     line_rows: LineRows,
     text: &[u8],
 ) -> Result<(), Refusal>
-    ensures { let given = columns function_rows.entry.columns64.now function_rows.entry.columns32.now
-        line_rows.entry.columns64.now line_rows.entry.columns32.now
+    ensures { let given = columns_of function_rows.entry line_rows.entry
         text.now in
         let before = memory string_bytes.old strings.old files.old functions.old
         call_locations.old ranges.old in
@@ -77,7 +76,9 @@ pub fn lines_refusal(
     text: &[u8],
 ) -> Result<(), Refusal>
     ensures { let usable = usable_by (converter_of «record».old) string_bytes strings files functions call_locations ranges in
-        (code_of result ≡ number_of usable scratch unpacked64 unpacked32 function_rows.entry.columns64.now function_rows.entry.columns32.now lines texts text.now)
+        let f64 = function_rows.entry.columns64.now in
+        let f32 = function_rows.entry.columns32.now in
+        (code_of result ≡ number_of usable scratch unpacked64 unpacked32 f64 f32 lines texts text.now)
         × («record».new ≡ «record».old) }
 {
     let usable = is_usable(

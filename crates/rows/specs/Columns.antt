@@ -8,6 +8,8 @@ use Rattle.rows.specs.declared.TextPart.{TextPart}
 use Rattle.rows.specs.declared.OptionalPart.{OptionalPart}
 use Rattle.rows.specs.declared.FunctionRow.{FunctionRow as FunctionStruct}
 use Rattle.rows.specs.declared.LineRow.{LineRow as LineStruct}
+use Rattle.rows.specs.declared.FunctionRows.{FunctionRows}
+use Rattle.rows.specs.declared.LineRows.{LineRows}
 use Rattle.rows.specs.declared.Boundaries.{Boundaries}
 
 pub record Columns : Type 0 where
@@ -20,6 +22,10 @@ pub record Columns : Type 0 where
 
 abbrev pub columns : List ℕ → List ℕ → List ℕ → List ℕ → List ℕ → Columns
 columns f64 f32 l64 l32 t = record { functions64 = f64; functions32 = f32; lines64 = l64; lines32 = l32; text = t }
+
+-- those of lent rows and a lent text
+abbrev pub columns_of : FunctionRows → LineRows → List ℕ → Columns
+columns_of f l t = columns f.columns64.now f.columns32.now l.columns64.now l.columns32.now t
 
 abbrev pub function_rows : Columns → ℕ
 function_rows k = length k.functions64 / 2

@@ -2,7 +2,7 @@
 ghost use Rattle.std.specs.Prelude.{◌≡◌};
 ghost use Rattle.errors.specs.Numbers.{code_of};
 ghost use Rattle.memory.specs.Memory.{memory};
-ghost use Rattle.rows.specs.Columns.{columns};
+ghost use Rattle.rows.specs.Columns.{columns_of};
 ghost use Rattle.symbol_call.specs.Calls.{called};
 ghost use Rattle.writer.specs.Calls.{tree_of};
 
@@ -27,8 +27,7 @@ pub fn process_symbolic_function(
     line_rows: LineRows,
     text: &[u8],
 ) -> Result<(), Refusal>
-    ensures { let given = columns function_rows.entry.columns64.now function_rows.entry.columns32.now
-        line_rows.entry.columns64.now line_rows.entry.columns32.now text.now in
+    ensures { let given = columns_of function_rows.entry line_rows.entry text.now in
         let before = memory string_bytes.old strings.old files.old
         functions.old call_locations.old ranges.old in
         let after = memory string_bytes.new strings.new files.new

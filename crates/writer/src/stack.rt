@@ -5,7 +5,7 @@
 ghost use Rattle.std.specs.Prelude.{◌≡◌, List, [], ℕ, ◌+◌, ◌*◌, ◌/◌, ◌≤◌, length, set};
 ghost use Rattle.std.proofs.lemmas.List.Edits.{sets};
 ghost use Rattle.sorting.specs.Pairs.{pair_words};
-ghost use Rattle.rows.specs.Columns.{columns};
+ghost use Rattle.rows.specs.Columns.{columns, columns_of};
 ghost use Rattle.scratch.specs.Scratch.{calls_start, len_at, set_calls, line_spans, kid_spans};
 ghost use Rattle.writer.specs.Walk.{GatherReady};
 
@@ -81,8 +81,8 @@ pub(crate) fn gather(
     first: usize,
     depth: u32,
 ) -> usize
-    requires { GatherReady (columns function_rows.columns64.now function_rows.columns32.now line_rows.columns64.now line_rows.columns32.now []) (length s.old) at i first depth }
-    ensures { let k = columns function_rows.entry.columns64.now function_rows.entry.columns32.now line_rows.entry.columns64.now line_rows.entry.columns32.now [] in
+    requires { GatherReady (columns_of function_rows line_rows []) (length s.old) at i first depth }
+    ensures { let k = columns_of function_rows.entry line_rows.entry [] in
         let spans = kid_spans k depth i first in
         (result ≡ length spans) × (s.new ≡ sets s.old at (pair_words spans)) }
 {

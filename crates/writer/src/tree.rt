@@ -5,7 +5,7 @@ ghost use Rattle.model.specs.Rows.{MAX};
 ghost use Rattle.model.specs.Rows.{FunctionRow as ModelRow};
 ghost use Rattle.model.specs.Machine.{entry_m, closing_m};
 ghost use Rattle.model.specs.Converter.{Setup, input};
-ghost use Rattle.rows.specs.Columns.{columns, text_of};
+ghost use Rattle.rows.specs.Columns.{columns_of, text_of};
 ghost use Rattle.refusals.specs.Refusals.{tree_refusal};
 ghost use Rattle.memory.specs.Memory.{words};
 ghost use Rattle.steps.specs.Steps.{gave, begin_named, over_words};
@@ -179,8 +179,8 @@ fn sorted_ranges(
     first: usize,
     depth: u32,
 ) -> usize
-    requires { GatherReady (columns function_rows.columns64.now function_rows.columns32.now line_rows.columns64.now line_rows.columns32.now []) (length s.old) at i first depth }
-    ensures { let k = columns function_rows.entry.columns64.now function_rows.entry.columns32.now line_rows.entry.columns64.now line_rows.entry.columns32.now [] in
+    requires { GatherReady (columns_of function_rows line_rows []) (length s.old) at i first depth }
+    ensures { let k = columns_of function_rows.entry line_rows.entry [] in
         Sorted at (kid_spans k depth i first) result s.old s.new }
 {
     let spans = gather(s, at, function_rows, line_rows, i, first, depth);
@@ -215,9 +215,9 @@ fn visit_row(
     row: InProgressFunction,
     own: Own,
 ) -> State
-    requires { VisitReady (columns function_rows.columns64.now function_rows.columns32.now line_rows.columns64.now line_rows.columns32.now text.now) (length s.old) base row own }
+    requires { VisitReady (columns_of function_rows line_rows text.now) (length s.old) base row own }
     ensures { (Y : Bool) (a : ℕ) →
-        let k = columns function_rows.entry.columns64.now function_rows.entry.columns32.now line_rows.entry.columns64.now line_rows.entry.columns32.now text.now in
+        let k = columns_of function_rows.entry line_rows.entry text.now in
         let before = words state string_bytes.old strings.old files.old
         functions.old call_locations.old ranges.old in
         let after = words result string_bytes.new strings.new files.new
@@ -297,9 +297,9 @@ fn process_row(
     base: usize,
     row: InProgressFunction,
 ) -> State
-    requires { InProgress (columns function_rows.columns64.now function_rows.columns32.now line_rows.columns64.now line_rows.columns32.now text.now) s.old base row }
+    requires { InProgress (columns_of function_rows line_rows text.now) s.old base row }
     ensures { (Y : Bool) →
-        let k = columns function_rows.entry.columns64.now function_rows.entry.columns32.now line_rows.entry.columns64.now line_rows.entry.columns32.now text.now in
+        let k = columns_of function_rows.entry line_rows.entry text.now in
         let before = words state string_bytes.old strings.old files.old
         functions.old call_locations.old ranges.old in
         let after = words result string_bytes.new strings.new files.new
@@ -346,9 +346,9 @@ pub(crate) fn process_rows(
     line_rows: LineRows,
     text: &[u8],
 ) -> State
-    requires { tree_refusal (columns function_rows.columns64.now function_rows.columns32.now line_rows.columns64.now line_rows.columns32.now text.now) (length s.old) ≡ 0 }
+    requires { tree_refusal (columns_of function_rows line_rows text.now) (length s.old) ≡ 0 }
     ensures { (Y : Bool) →
-        let k = columns function_rows.entry.columns64.now function_rows.entry.columns32.now line_rows.entry.columns64.now line_rows.entry.columns32.now text.now in
+        let k = columns_of function_rows.entry line_rows.entry text.now in
         let before = words state string_bytes.old strings.old files.old
         functions.old call_locations.old ranges.old in
         let after = words result string_bytes.new strings.new files.new
