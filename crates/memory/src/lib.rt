@@ -22,7 +22,7 @@ ghost use Rattle.memory.specs.Record.{
 use slices::zero;
 
 // How much of each lent table is in use.
-#[derive(Clone, Copy)]
+#[derive(Clone, Copy, PartialEq, Eq)]
 pub struct State {
     pub string_bytes: u32,
     pub strings: u32,
@@ -34,7 +34,7 @@ pub struct State {
 
 // The converter's record: what it was begun with, whether it is open, how much of the lent tables is in use, and how many line rows of accepted trees
 // had addresses that were cut back.
-#[derive(Clone, Copy)]
+#[derive(Clone, Copy, PartialEq, Eq)]
 pub struct Converter {
     pub debug_id: [u8; 32],
     pub arch: u32,
