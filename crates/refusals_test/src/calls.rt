@@ -1,15 +1,14 @@
 // The calls of a case, with the slices lent as it says.
-ghost use Rattle.replay.specs.Counts.{IsPrefixLen};
 
-use crate::case::{Call, Case};
-use crate::left::{OTHER, is_scratch_left, is_written};
+use crate::case::{Call, Case, Slice};
+use crate::left::{OTHER, OTHER_BYTE, is_scratch_left, is_written};
 use errors::Refusal;
-use memory::Converter;
+use memory::{Converter, Lent, State, Tables};
 use rows::{FunctionRows, LineRows, OptionalPart, TextPart};
 
-// The lent tables.
+// The arrays that the tables are lent from.
 #[derive(Clone, Copy)]
-pub(crate) struct Tables {
+pub(crate) struct Arrays {
     pub string_bytes: [u8; 96],
     pub strings: [u32; 96],
     pub files: [u32; 96],
@@ -23,440 +22,185 @@ pub(crate) struct Tables {
 pub(crate) struct Done {
     pub answer: Result<(), Refusal>,
     pub converter: Converter,
-    pub tables: Tables,
+    pub arrays: Arrays,
     pub same: bool,
 }
 
-// How much of a slice is lent: n, or all of it.
+// What is lent of an array: its first n, or all of it. (Its length is a parameter, so that no proof counts to it.)
 
-fn count_words(t: &[u32], n: usize) -> usize
-    ensures { IsPrefixLen result t.now }
-{
-    if n < t.len() {
-        return n;
+fn front<T, const N: usize>(t: &[T; N], n: usize) -> &[T] {
+    &t[..n.min(N)]
+}
+
+fn front_mut<T, const N: usize>(t: &mut [T; N], n: usize) -> &mut [T] {
+    &mut t[..n.min(N)]
+}
+
+impl Arrays {
+    fn lend(&mut self, c: &Case) -> Tables<'_> {
+        let Arrays {
+            string_bytes,
+            strings,
+            files,
+            functions,
+            call_locations,
+            ranges,
+        } = self;
+        Tables {
+            state: State::unused(),
+            string_bytes: front_mut(string_bytes, c.lent(Slice::StringBytes)),
+            strings: front_mut(strings, c.lent(Slice::Strings)),
+            files: front_mut(files, c.lent(Slice::Files)),
+            functions: front_mut(functions, c.lent(Slice::Functions)),
+            call_locations: front_mut(call_locations, c.lent(Slice::CallLocations)),
+            ranges: front_mut(ranges, c.lent(Slice::Ranges)),
+        }
     }
-    t.len()
-}
 
-fn count_bytes(t: &[u8], n: usize) -> usize
-    ensures { IsPrefixLen result t.now }
-{
-    if n < t.len() {
-        return n;
+    fn lend_to_read(&self, c: &Case) -> Lent<'_> {
+        Lent {
+            string_bytes: front(&self.string_bytes, c.lent(Slice::StringBytes)),
+            strings: front(&self.strings, c.lent(Slice::Strings)),
+            files: front(&self.files, c.lent(Slice::Files)),
+            functions: front(&self.functions, c.lent(Slice::Functions)),
+            call_locations: front(&self.call_locations, c.lent(Slice::CallLocations)),
+            ranges: front(&self.ranges, c.lent(Slice::Ranges)),
+        }
     }
-    t.len()
-}
-
-// The same for the arrays that are lent.
-
-fn lent_words(t: &[u32; 96], n: usize) -> usize
-    ensures { IsPrefixLen result t.now }
-{
-    count_words(t, n)
-}
-
-fn lent_bytes(t: &[u8; 96], n: usize) -> usize
-    ensures { IsPrefixLen result t.now }
-{
-    count_bytes(t, n)
-}
-
-fn lent_scratch(t: &[u32; 262144], n: usize) -> usize
-    ensures { IsPrefixLen result t.now }
-{
-    count_words(t, n)
-}
-
-fn lent_out(t: &[u8; 400], n: usize) -> usize
-    ensures { IsPrefixLen result t.now }
-{
-    count_bytes(t, n)
-}
-
-fn other_scratch() -> [u32; 262144] {
-    [OTHER; 262144]
 }
 
 // What a call is given
 
-fn low(n: u64) -> u32 {
-    (n % 4294967296) as u32
-}
-
-fn low_byte(n: u64) -> u8 {
-    (n % 256) as u8
-}
-
-// The word i of a slice whose words begin at `from`. After the first 64 every function row is an inlinee of depth 1 and zeros; where the case is `nested`,
-// it lies inside the row before it, so its depth is how many rows come before it.
-fn word(words: &[u64; 384], from: usize, i: usize) -> u64 {
-    if i < 64 {
-        if from < 320 {
-            return words[from + i];
-        }
+// Sets as much of an array as is lent to what `value` says by index.
+fn set<T: Copy, const N: usize, F: Fn(usize) -> T>(t: &mut [T; N], n: usize, value: F)
+    requires { F.IsAlwaysCallable value }
+{
+    for i in 0..n.min(N) {
+        t[i] = value(i);
     }
-    if from == 64 && i % 8 == 0 {
-        return next_depth(words, i / 8);
-    }
-    0
 }
 
-fn next_depth(words: &[u64; 384], row: usize) -> u64 {
-    if words[383] != 0 {
-        return row as u64;
-    }
-    1
-}
-
-// How many words were set, and whether each was there already.
-#[derive(Clone, Copy)]
-struct Set {
-    n: usize,
-    same: bool,
-}
-
-fn set_numbers(t: &mut [u64], words: &[u64; 384], from: usize, n: usize) -> Set
-    ensures { IsPrefixLen result.n t.new }
+// Whether a slice holds that.
+fn is_set<T: Copy + PartialEq, F: Fn(usize) -> T>(t: &[T], value: F) -> bool
+    requires { F.IsAlwaysCallable value }
 {
-    let n = t.len().min(n);
-    let mut same = true;
-    for i in 0..n {
-        let v = word(words, from, i);
-        same = same && t[i] == v;
-        t[i] = v;
-    }
-    Set { n, same }
-}
-
-fn set_words(t: &mut [u32], words: &[u64; 384], from: usize, n: usize) -> Set
-    ensures { IsPrefixLen result.n t.new }
-{
-    let n = t.len().min(n);
-    let mut same = true;
-    for i in 0..n {
-        let v = low(word(words, from, i));
-        same = same && t[i] == v;
-        t[i] = v;
-    }
-    Set { n, same }
-}
-
-fn set_bytes(t: &mut [u8], words: &[u64; 384], from: usize, n: usize) -> Set
-    ensures { IsPrefixLen result.n t.new }
-{
-    let n = t.len().min(n);
-    let mut same = true;
-    for i in 0..n {
-        let v = low_byte(word(words, from, i));
-        same = same && t[i] == v;
-        t[i] = v;
-    }
-    Set { n, same }
-}
-
-// The same for the arrays that are lent.
-
-fn set_functions64(t: &mut [u64; 131074], words: &[u64; 384], n: usize) -> Set
-    ensures { IsPrefixLen result.n t.new }
-{
-    set_numbers(t, words, 0, n)
-}
-
-fn set_functions32(t: &mut [u32; 524296], words: &[u64; 384], n: usize) -> Set
-    ensures { IsPrefixLen result.n t.new }
-{
-    set_words(t, words, 64, n)
-}
-
-fn set_lines64(t: &mut [u64; 12], words: &[u64; 384], n: usize) -> Set
-    ensures { IsPrefixLen result.n t.new }
-{
-    set_numbers(t, words, 128, n)
-}
-
-fn set_lines32(t: &mut [u32; 56], words: &[u64; 384], n: usize) -> Set
-    ensures { IsPrefixLen result.n t.new }
-{
-    set_words(t, words, 192, n)
-}
-
-fn set_text(t: &mut [u8; 20], words: &[u64; 384], n: usize) -> Set
-    ensures { IsPrefixLen result.n t.new }
-{
-    set_bytes(t, words, 256, n)
-}
-
-// With whether the rows or the text are what they were.
-fn with_same(mut done: Done, same: bool) -> Done {
-    done.same = done.same && same;
-    done
+    t.iter().enumerate().all(|(i, x)| *x == value(i))
 }
 
 // The calls
 
-fn begin(lent: [usize; 14], tables: Tables) -> Done {
-    let mut string_bytes = tables.string_bytes;
-    let mut strings = tables.strings;
-    let mut files = tables.files;
-    let mut functions = tables.functions;
-    let mut call_locations = tables.call_locations;
-    let mut ranges = tables.ranges;
-    let n0 = lent_bytes(&string_bytes, lent[0]);
-    let n1 = lent_words(&strings, lent[1]);
-    let n2 = lent_words(&files, lent[2]);
-    let n3 = lent_words(&functions, lent[3]);
-    let n4 = lent_words(&call_locations, lent[4]);
-    let n5 = lent_words(&ranges, lent[5]);
-    let id = [0u8; 32];
-    let converter = memory::begin(
-        id,
-        0,
-        false,
-        false,
-        &mut string_bytes[..n0],
-        &mut strings[..n1],
-        &mut files[..n2],
-        &mut functions[..n3],
-        &mut call_locations[..n4],
-        &mut ranges[..n5],
-    );
-    let after = Tables {
-        string_bytes,
-        strings,
-        files,
-        functions,
-        call_locations,
-        ranges,
-    };
-    Done {
-        answer: Ok(()),
-        converter,
-        tables: after,
-        same: true,
-    }
+fn begin(c: &Case, mut now: Done) -> Done {
+    let mut tables = now.arrays.lend(c);
+    now.converter = memory::begin([0; 32], 0, false, false, &mut tables);
+    now.answer = Ok(());
+    now.same = true;
+    now
 }
 
-fn tree(
-    lent: [usize; 14],
-    converter: Converter,
-    tables: Tables,
-    function_rows: FunctionRows,
-    line_rows: LineRows,
-    text: &[u8],
-) -> Done {
-    let mut string_bytes = tables.string_bytes;
-    let mut strings = tables.strings;
-    let mut files = tables.files;
-    let mut functions = tables.functions;
-    let mut call_locations = tables.call_locations;
-    let mut ranges = tables.ranges;
-    let mut scratch = other_scratch();
-    let n0 = lent_bytes(&string_bytes, lent[0]);
-    let n1 = lent_words(&strings, lent[1]);
-    let n2 = lent_words(&files, lent[2]);
-    let n3 = lent_words(&functions, lent[3]);
-    let n4 = lent_words(&call_locations, lent[4]);
-    let n5 = lent_words(&ranges, lent[5]);
-    let n6 = lent_scratch(&scratch, lent[6]);
-    let mut record = converter;
-    let answer = writer::calls::process_symbolic_function(
-        &mut record,
-        &mut string_bytes[..n0],
-        &mut strings[..n1],
-        &mut files[..n2],
-        &mut functions[..n3],
-        &mut call_locations[..n4],
-        &mut ranges[..n5],
-        &mut scratch[..n6],
-        function_rows,
-        line_rows,
+fn tree(c: &Case, mut now: Done, functions: FunctionRows, lines: LineRows, text: &[u8]) -> Done {
+    let mut scratch = [OTHER; 262144];
+    let n = c.lent(Slice::Scratch);
+    let mut tables = now.arrays.lend(c);
+    now.answer = writer::calls::process_symbolic_function(
+        &mut now.converter,
+        &mut tables,
+        front_mut(&mut scratch, n),
+        functions,
+        lines,
         text,
     );
-    let after = Tables {
-        string_bytes,
-        strings,
-        files,
-        functions,
-        call_locations,
-        ranges,
-    };
-    Done {
-        answer,
-        converter: record,
-        tables: after,
-        same: is_scratch_left(&scratch, n6, answer),
-    }
+    now.same = is_scratch_left(&scratch, n, now.answer);
+    now
 }
 
 // A tree of the case's line rows, which are compared after it.
-fn tree_with_lines(
-    words: &[u64; 384],
-    lent: [usize; 14],
-    converter: Converter,
-    tables: Tables,
-    function_rows: FunctionRows,
-    text: &[u8],
-) -> Done {
+fn tree_with_lines(c: &Case, now: Done, functions: FunctionRows, text: &[u8]) -> Done {
+    let number64 = |i| c.number(Slice::Lines64, i);
+    let number32 = |i| c.number32(Slice::Lines32, i);
     let mut lines64 = [0u64; 12];
     let mut lines32 = [0u32; 56];
-    let n = set_lines64(&mut lines64, words, lent[10]).n;
-    let n1 = set_lines32(&mut lines32, words, lent[11]).n;
-    let done = tree(
-        lent,
-        converter,
-        tables,
-        function_rows,
-        LineRows {
-            columns64: &lines64[..n],
-            columns32: &lines32[..n1],
-        },
-        text,
-    );
-    let same = set_lines64(&mut lines64, words, n).same;
-    let same1 = set_lines32(&mut lines32, words, n1).same;
-    with_same(done, same && same1)
+    set(&mut lines64, c.lent(Slice::Lines64), number64);
+    set(&mut lines32, c.lent(Slice::Lines32), number32);
+    let lines = LineRows {
+        columns64: front(&lines64, c.lent(Slice::Lines64)),
+        columns32: front(&lines32, c.lent(Slice::Lines32)),
+    };
+    let mut done = tree(c, now, functions, lines, text);
+    done.same = done.same && is_set(lines.columns64, number64) && is_set(lines.columns32, number32);
+    done
 }
 
 // A tree of the case's function rows, which are compared after it.
-fn tree_with_rows(
-    words: &[u64; 384],
-    lent: [usize; 14],
-    converter: Converter,
-    tables: Tables,
-    text: &[u8],
-) -> Done {
+fn tree_with_rows(c: &Case, now: Done, text: &[u8]) -> Done {
+    let number64 = |i| c.number(Slice::Functions64, i);
+    let number32 = |i| c.number32(Slice::Functions32, i);
     let mut functions64 = [0u64; 131074];
     let mut functions32 = [0u32; 524296];
-    let n = set_functions64(&mut functions64, words, lent[8]).n;
-    let n1 = set_functions32(&mut functions32, words, lent[9]).n;
-    let done = tree_with_lines(
-        words,
-        lent,
-        converter,
-        tables,
-        FunctionRows {
-            columns64: &functions64[..n],
-            columns32: &functions32[..n1],
-        },
-        text,
-    );
-    let same = set_functions64(&mut functions64, words, n).same;
-    let same1 = set_functions32(&mut functions32, words, n1).same;
-    with_same(done, same && same1)
-}
-
-fn name_of(words: &[u64; 384]) -> OptionalPart {
-    OptionalPart {
-        present: words[322] != 0,
-        part: TextPart {
-            start: low(words[323]),
-            len: low(words[324]),
-        },
-    }
-}
-
-fn symbol(
-    words: &[u64; 384],
-    lent: [usize; 14],
-    converter: Converter,
-    tables: Tables,
-    text: &[u8],
-) -> Done {
-    let mut string_bytes = tables.string_bytes;
-    let mut strings = tables.strings;
-    let mut files = tables.files;
-    let mut functions = tables.functions;
-    let mut call_locations = tables.call_locations;
-    let mut ranges = tables.ranges;
-    let n0 = lent_bytes(&string_bytes, lent[0]);
-    let n1 = lent_words(&strings, lent[1]);
-    let n2 = lent_words(&files, lent[2]);
-    let n3 = lent_words(&functions, lent[3]);
-    let n4 = lent_words(&call_locations, lent[4]);
-    let n5 = lent_words(&ranges, lent[5]);
-    let mut record = converter;
-    let answer = symbol_call::process_symbolic_symbol(
-        &mut record,
-        &mut string_bytes[..n0],
-        &mut strings[..n1],
-        &mut files[..n2],
-        &mut functions[..n3],
-        &mut call_locations[..n4],
-        &mut ranges[..n5],
-        text,
-        words[320],
-        words[321],
-        name_of(words),
-    );
-    let after = Tables {
-        string_bytes,
-        strings,
-        files,
-        functions,
-        call_locations,
-        ranges,
+    set(&mut functions64, c.lent(Slice::Functions64), number64);
+    set(&mut functions32, c.lent(Slice::Functions32), number32);
+    let functions = FunctionRows {
+        columns64: front(&functions64, c.lent(Slice::Functions64)),
+        columns32: front(&functions32, c.lent(Slice::Functions32)),
     };
-    Done {
-        answer,
-        converter: record,
-        tables: after,
-        same: true,
-    }
+    let mut done = tree_with_lines(c, now, functions, text);
+    done.same = done.same
+        && is_set(functions.columns64, number64)
+        && is_set(functions.columns32, number32);
+    done
 }
 
-fn write(lent: [usize; 14], converter: Converter, tables: Tables, file: &[u8]) -> Done {
-    let string_bytes = tables.string_bytes;
-    let strings = tables.strings;
-    let files = tables.files;
-    let functions = tables.functions;
-    let call_locations = tables.call_locations;
-    let ranges = tables.ranges;
-    let mut out = [165u8; 400];
-    let n0 = lent_bytes(&string_bytes, lent[0]);
-    let n1 = lent_words(&strings, lent[1]);
-    let n2 = lent_words(&files, lent[2]);
-    let n3 = lent_words(&functions, lent[3]);
-    let n4 = lent_words(&call_locations, lent[4]);
-    let n5 = lent_words(&ranges, lent[5]);
-    let n7 = lent_out(&out, lent[7]);
-    let written = serialize::serialize(
-        converter,
-        &string_bytes[..n0],
-        &strings[..n1],
-        &files[..n2],
-        &functions[..n3],
-        &call_locations[..n4],
-        &ranges[..n5],
-        &mut out[..n7],
+fn symbol(c: &Case, mut now: Done, text: &[u8]) -> Done {
+    let name = OptionalPart {
+        present: c.number(Slice::Named, 2) != 0,
+        part: TextPart {
+            start: c.number32(Slice::Named, 3),
+            len: c.number32(Slice::Named, 4),
+        },
+    };
+    let mut tables = now.arrays.lend(c);
+    now.answer = symbol_call::process_symbolic_symbol(
+        &mut now.converter,
+        &mut tables,
+        text,
+        c.number(Slice::Named, 0),
+        c.number(Slice::Named, 1),
+        name,
     );
-    Done {
-        answer: written.map(|_| ()),
-        converter,
-        tables,
-        same: is_written(&out, file, written),
-    }
+    now.same = true;
+    now
+}
+
+fn write(c: &Case, mut now: Done, file: &[u8]) -> Done {
+    let mut out = [OTHER_BYTE; 400];
+    let written = serialize::serialize(
+        now.converter,
+        now.arrays.lend_to_read(c),
+        front_mut(&mut out, c.lent(Slice::Out)),
+    );
+    now.answer = written.map(|_| ());
+    now.same = is_written(&out, file, written);
+    now
 }
 
 // A tree or a symbol of the case's text, which is compared after it.
-fn call_with_text(c: Case, converter: Converter, tables: Tables) -> Done {
-    let words = c.words;
-    let lent = c.lent;
+fn call_with_text(c: &Case, now: Done) -> Done {
+    let byte = |i| c.byte(Slice::Text, i);
     let mut text = [0u8; 20];
-    let n = set_text(&mut text, &words, lent[12]).n;
-    let done = if c.call == Call::Symbol {
-        symbol(&words, lent, converter, tables, &text[..n])
-    } else {
-        tree_with_rows(&words, lent, converter, tables, &text[..n])
+    set(&mut text, c.lent(Slice::Text), byte);
+    let text = front(&text, c.lent(Slice::Text));
+    let mut done = match c.call {
+        Call::Symbol => symbol(c, now, text),
+        _ => tree_with_rows(c, now, text),
     };
-    let same = set_text(&mut text, &words, n).same;
-    with_same(done, same)
+    done.same = done.same && is_set(text, byte);
+    done
 }
 
 // The call of a case.
-pub(crate) fn call(c: Case, converter: Converter, tables: Tables, file: &[u8]) -> Done {
+pub(crate) fn call(c: &Case, now: Done, file: &[u8]) -> Done {
     match c.call {
-        Call::Begin => begin(c.lent, tables),
-        Call::Write => write(c.lent, converter, tables, file),
-        Call::Tree | Call::Symbol => call_with_text(c, converter, tables),
+        Call::Begin => begin(c, now),
+        Call::Write => write(c, now, file),
+        Call::Tree | Call::Symbol => call_with_text(c, now),
     }
 }

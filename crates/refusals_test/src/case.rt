@@ -1,13 +1,5 @@
 // A case: what is lent, and what is called. A line of data/refusals.cases says it in words.
-
-// What a number of a line stands for: how much of a slice is lent, to all calls or to the one under test alone, or where the next value stands, or the value.
-#[derive(Clone, Copy, PartialEq, Eq)]
-enum Mode {
-    Of,
-    Only,
-    At,
-    Is,
-}
+ghost use Rattle.std.specs.Prelude.{◌<◌, IfSome};
 
 #[derive(Clone, Copy, PartialEq, Eq)]
 pub(crate) enum Call {
@@ -17,9 +9,57 @@ pub(crate) enum Call {
     Write,
 }
 
-// A word of a line that is no slice.
+// The slices that are lent: the tables, scratch, the output, and what a call is given. `Named` are the numbers that a symbol is given.
 #[derive(Clone, Copy, PartialEq, Eq)]
+pub(crate) enum Slice {
+    StringBytes,
+    Strings,
+    Files,
+    Functions,
+    CallLocations,
+    Ranges,
+    Scratch,
+    Out,
+    Functions64,
+    Functions32,
+    Lines64,
+    Lines32,
+    Text,
+    Named,
+}
+
+impl Slice {
+    // Where its number i stands among the words of a case: there are 64 for what a call is given, and none for the others.
+    fn place(self, i: usize) -> Option<usize>
+        ensures { IfSome result (λ at. at < 384) }
+    {
+        let from = match self {
+            Slice::Functions64 => 0,
+            Slice::Functions32 => 64,
+            Slice::Lines64 => 128,
+            Slice::Lines32 => 192,
+            Slice::Text => 256,
+            Slice::Named => 320,
+            _ => return None,
+        };
+        if i < 64 { Some(from + i) } else { None }
+    }
+}
+
+// What a number of a line stands for: how much of a slice is lent, to all calls or to the one under test alone, or where the next value stands, or the value.
+#[derive(Clone, Copy)]
+enum Mode {
+    Of,
+    Only,
+    At,
+    Is,
+}
+
+// A word of a line.
+#[derive(Clone, Copy)]
 enum Word {
+    Number(u64),
+    Slice(Slice),
     Mode(Mode),
     Call(Call),
     First,
@@ -37,6 +77,20 @@ impl TryFrom<&[u8]> for Word {
 
     fn try_from(w: &[u8]) -> Result<Word, UnknownWord> {
         match w {
+            b"string_bytes" => Ok(Word::Slice(Slice::StringBytes)),
+            b"strings" => Ok(Word::Slice(Slice::Strings)),
+            b"files" => Ok(Word::Slice(Slice::Files)),
+            b"functions" => Ok(Word::Slice(Slice::Functions)),
+            b"call_locations" => Ok(Word::Slice(Slice::CallLocations)),
+            b"ranges" => Ok(Word::Slice(Slice::Ranges)),
+            b"scratch" => Ok(Word::Slice(Slice::Scratch)),
+            b"out" => Ok(Word::Slice(Slice::Out)),
+            b"functions64" => Ok(Word::Slice(Slice::Functions64)),
+            b"functions32" => Ok(Word::Slice(Slice::Functions32)),
+            b"lines64" => Ok(Word::Slice(Slice::Lines64)),
+            b"lines32" => Ok(Word::Slice(Slice::Lines32)),
+            b"text" => Ok(Word::Slice(Slice::Text)),
+            b"named" => Ok(Word::Slice(Slice::Named)),
             b"of" => Ok(Word::Mode(Mode::Of)),
             b"only" => Ok(Word::Mode(Mode::Only)),
             b"at" => Ok(Word::Mode(Mode::At)),
@@ -49,169 +103,137 @@ impl TryFrom<&[u8]> for Word {
             b"whole" => Ok(Word::Whole),
             b"closed" => Ok(Word::Closed),
             b"nested" => Ok(Word::Nested),
-            _ => Err(UnknownWord),
+            _ => number(w).map(Word::Number).ok_or(UnknownWord),
         }
     }
 }
 
-// `begun` is how much of each slice is lent to the calls before the one under test, `lent` how much to that one. `words` are what a call is given,
-// 64 for each slice from 8 on; the last of them is 1 for a case that is `nested`. `slice`, `mode` and `index` say what the next number of the line stands for.
+fn number(w: &[u8]) -> Option<u64> {
+    std::str::from_utf8(w).ok()?.parse().ok()
+}
+
+// `begun` is how much of each slice is lent to the calls before the one under test, `lent` how much to that one. `words` are what a call is given.
+// `slice`, `mode` and `index` say what the next number of the line stands for.
 #[derive(Clone, Copy)]
 pub(crate) struct Case {
     pub call: Call,
     pub first: bool,
     pub whole: bool,
     pub closed: bool,
-    pub begun: [usize; 14],
-    pub lent: [usize; 14],
-    pub words: [u64; 384],
-    slice: usize,
+    nested: bool,
+    begun: [usize; 14],
+    lent: [usize; 14],
+    words: [u64; 384],
+    slice: Slice,
     mode: Mode,
     index: usize,
 }
 
-pub(crate) fn blank() -> Case {
-    let none = [0usize; 14];
-    let words = [0u64; 384];
-    Case {
+impl Case {
+    pub(crate) const BLANK: Case = Case {
         call: Call::Tree,
         first: false,
         whole: false,
         closed: false,
-        begun: none,
-        lent: none,
-        words,
-        slice: 0,
+        nested: false,
+        begun: [0; 14],
+        lent: [0; 14],
+        words: [0; 384],
+        slice: Slice::StringBytes,
         mode: Mode::Of,
         index: 0,
+    };
+
+    // The case of another call.
+    pub(crate) fn with_call(self, call: Call) -> Case {
+        Case { call, ..self }
     }
-}
 
-// A case of another call.
-pub(crate) fn with_call(mut c: Case, call: Call) -> Case {
-    c.call = call;
-    c
-}
-
-// With as much of the tables lent as another case begins with.
-pub(crate) fn with_tables_of(mut c: Case, other: Case) -> Case {
-    c.lent[0] = other.begun[0];
-    c.lent[1] = other.begun[1];
-    c.lent[2] = other.begun[2];
-    c.lent[3] = other.begun[3];
-    c.lent[4] = other.begun[4];
-    c.lent[5] = other.begun[5];
-    c
-}
-
-// Numbers of a line
-
-// Where a word of a slice stands; 384 where it has no place.
-fn place(slice: usize, index: usize) -> usize {
-    if slice < 8 {
-        return 384;
+    // With as much of the tables lent as another case begins with.
+    pub(crate) fn with_tables_of(mut self, other: Case) -> Case {
+        self.lent[..6].copy_from_slice(&other.begun[..6]);
+        self
     }
-    if slice < 14 {
-        if index < 64 {
-            return (slice - 8) * 64 + index;
+
+    // How much of a slice is lent.
+    pub(crate) fn lent(&self, slice: Slice) -> usize {
+        self.lent[slice as usize]
+    }
+
+    // Number i of a slice. After the first 64 every function row is an inlinee of depth 1 and zeros; where the case is `nested`, it lies inside the row
+    // before it, so its depth is how many rows come before it.
+    pub(crate) fn number(&self, slice: Slice, i: usize) -> u64 {
+        match slice.place(i) {
+            Some(at) => self.words[at],
+            None if slice == Slice::Functions32 && i % 8 == 0 => {
+                if self.nested { (i / 8) as u64 } else { 1 }
+            }
+            None => 0,
         }
     }
-    384
-}
 
-fn with_value(mut c: Case, v: u64) -> Case {
-    let at = place(c.slice, c.index);
-    if at < 384 {
-        c.words[at] = v;
-        c.index = std::num::wrapping_add_u64(c.index as u64, 1) as usize;
+    // The same as the other numbers that a call is given.
+
+    pub(crate) fn number32(&self, slice: Slice, i: usize) -> u32 {
+        (self.number(slice, i) % 4294967296) as u32
     }
-    c
-}
 
-fn with_lent(mut c: Case, n: usize) -> Case {
-    let slice = c.slice;
-    if slice < 14 {
-        c.lent[slice] = n;
-        if c.mode == Mode::Of {
-            c.begun[slice] = n;
+    pub(crate) fn byte(&self, slice: Slice, i: usize) -> u8 {
+        (self.number(slice, i) % 256) as u8
+    }
+
+    // A number of a line.
+    fn with_number(mut self, v: u64) -> Case {
+        match self.mode {
+            Mode::Of => {
+                self.lent[self.slice as usize] = v as usize;
+                self.begun[self.slice as usize] = v as usize;
+            }
+            Mode::Only => self.lent[self.slice as usize] = v as usize,
+            Mode::At => self.index = v as usize,
+            Mode::Is => {
+                if let Some(at) = self.slice.place(self.index) {
+                    self.words[at] = v;
+                    self.index = self.index.wrapping_add(1);
+                }
+            }
         }
+        self
     }
-    c
-}
 
-fn with_number(mut c: Case, v: u64) -> Case {
-    match c.mode {
-        Mode::Is => with_value(c, v),
-        Mode::At => {
-            c.index = v as usize;
-            c
+    fn with_word(mut self, word: Word) -> Case {
+        match word {
+            Word::Number(v) => return self.with_number(v),
+            Word::Slice(slice) => {
+                self.slice = slice;
+                self.index = 0;
+            }
+            Word::Mode(mode) => self.mode = mode,
+            Word::Call(call) => self.call = call,
+            Word::First => self.first = true,
+            Word::Whole => self.whole = true,
+            Word::Closed => self.closed = true,
+            Word::Nested => self.nested = true,
         }
-        Mode::Of | Mode::Only => with_lent(c, v as usize),
+        self
     }
-}
 
-fn with_digit(v: u64, d: u8) -> u64 {
-    if v > 1844674407370955161 || d < 48 {
-        return v;
-    }
-    std::num::wrapping_add_u64(v * 10, (d - 48) as u64)
-}
-
-fn number(w: &[u8]) -> u64 {
-    let mut v: u64 = 0;
-    for d in w {
-        v = with_digit(v, *d);
-    }
-    v
-}
-
-// Words of a line
-
-// The lent slices by number: 0 to 5 are the tables, 6 is scratch, 7 the output, and 8 to 13 are what a call is given.
-fn slice_of(w: &[u8]) -> Option<usize> {
-    b"string_bytes strings files functions call_locations ranges scratch out functions64 functions32 lines64 lines32 text named"
-        .split(|b| *b == b' ')
-        .position(|name| name == w)
-}
-
-// A word that is neither a slice nor one of these is printed, so that it is seen.
-fn with_name(rt: &impl Print, mut c: Case, w: &[u8]) -> Case {
-    if let Some(slice) = slice_of(w) {
-        c.slice = slice;
-        c.index = 0;
-        return c;
-    }
-    match Word::try_from(w) {
-        Ok(Word::Mode(mode)) => c.mode = mode,
-        Ok(Word::Call(call)) => c.call = call,
-        Ok(Word::First) => c.first = true,
-        Ok(Word::Whole) => c.whole = true,
-        Ok(Word::Closed) => c.closed = true,
-        Ok(Word::Nested) => c.words[383] = 1,
-        Err(UnknownWord) => {
-            let _ = print!(rt; "unknown word ");
-            let _ = rt.write_all(w);
-            let _ = println!(rt);
+    // The case changed by the words of a line, which are parted by spaces. An unknown word is printed, so that it is seen.
+    pub(crate) fn with_words(self, rt: &impl Print, s: &[u8]) -> Case {
+        let mut now = self;
+        for w in s.split(|b| *b == b' ') {
+            if w.is_empty() {
+                continue;
+            }
+            match Word::try_from(w) {
+                Ok(word) => now = now.with_word(word),
+                Err(UnknownWord) => {
+                    let _ = print!(rt; "unknown word ");
+                    let _ = rt.write_all(w);
+                    let _ = println!(rt);
+                }
+            }
         }
+        now
     }
-    c
-}
-
-fn with_word(rt: &impl Print, c: Case, w: &[u8]) -> Case {
-    if w.len() == 0 {
-        return c;
-    }
-    if w[0] >= b'0' && w[0] <= b'9' {
-        return with_number(c, number(w));
-    }
-    with_name(rt, c, w)
-}
-
-// A case changed by the words of a line, which are parted by spaces.
-pub(crate) fn with_words(rt: &impl Print, c: Case, s: &[u8]) -> Case {
-    let mut now = c;
-    for w in s.split(|b| *b == b' ') {
-        now = with_word(rt, now, w);
-    }
-    now
 }

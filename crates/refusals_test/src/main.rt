@@ -11,35 +11,32 @@ mod calls;
 mod case;
 mod left;
 
-use crate::calls::{Done, Tables, call};
-use crate::case::{Call, Case, blank, with_call, with_tables_of, with_words};
-use crate::left::{OTHER, is_as_said, unused};
+use crate::calls::{Arrays, Done, call};
+use crate::case::{Call, Case};
+use crate::left::{OTHER, OTHER_BYTE, is_as_said, unused};
 use errors::{Refusal, code_of};
 
 // Makes a call; `same` is whether it left all as it should.
 fn make(now: Done, c: Case, file: &[u8]) -> Done {
-    let mut done = call(c, now.converter, now.tables, file);
-    let same = is_as_said(c, now, done);
-    done.same = same;
+    let mut done = call(&c, now, file);
+    done.same = is_as_said(&c, &now, &done);
     done
 }
 
 // Tables that hold other content, and no converter yet.
 fn nothing_begun() -> Done {
-    let string_bytes = [165u8; 96];
-    let words = [OTHER; 96];
-    let tables = Tables {
-        string_bytes,
-        strings: words,
-        files: words,
-        functions: words,
-        call_locations: words,
-        ranges: words,
+    let arrays = Arrays {
+        string_bytes: [OTHER_BYTE; 96],
+        strings: [OTHER; 96],
+        files: [OTHER; 96],
+        functions: [OTHER; 96],
+        call_locations: [OTHER; 96],
+        ranges: [OTHER; 96],
     };
     Done {
         answer: Ok(()),
         converter: unused(false),
-        tables,
+        arrays,
         same: true,
     }
 }
@@ -51,30 +48,16 @@ fn first_tree(now: Done, c: Case, usual: Case, file: &[u8]) -> Done {
     if c.first {
         return now;
     }
-    let done = make(now, usual, file);
-    with_ok(done, now.same && done.answer.is_ok())
-}
-
-fn with_ok(mut done: Done, ok: bool) -> Done {
-    done.same = done.same && ok;
+    let mut done = make(now, usual, file);
+    done.same = done.same && now.same && done.answer.is_ok();
     done
-}
-
-fn with_open(mut now: Done, open: bool) -> Done {
-    let mut converter = now.converter;
-    converter.open = open;
-    now.converter = converter;
-    now
 }
 
 // Printed lines
 
 fn print_ok(rt: &impl Print, ok: bool) {
-    if ok {
-        let _ = print!(rt; " ok");
-        return;
-    }
-    let _ = print!(rt; " DIFFERS");
+    let how = if ok { "ok" } else { "DIFFERS" };
+    let _ = print!(rt; " {how}");
 }
 
 fn print_case(rt: &impl Print, title: &[u8], done: Done) {
@@ -100,55 +83,50 @@ fn next(rt: &impl Print, how: &str, now: Done, c: Case, file: &[u8]) {
 
 // A new beginning, the worked tree, and a write.
 fn begun_anew(rt: &impl Print, now: Done, base: Case, file: &[u8]) {
-    let now = make(now, with_call(base, Call::Begin), file);
+    let now = make(now, base.with_call(Call::Begin), file);
     let now = make(now, base, file);
-    next(rt, ", begun anew", now, with_call(base, Call::Write), file);
+    next(rt, ", begun anew", now, base.with_call(Call::Write), file);
 }
 
 // After 17, a tree, a symbol and a write; then anew. `usual` is the base with the tables of the case.
 fn afterwards(rt: &impl Print, now: Done, c: Case, usual: Case, base: Case, file: &[u8]) {
     if now.answer == Err(Refusal::TableFull) {
         next(rt, ", then", now, usual, file);
-        next(rt, ",", now, with_call(usual, Call::Symbol), file);
-        next(rt, ",", now, with_call(usual, Call::Write), file);
+        next(rt, ",", now, usual.with_call(Call::Symbol), file);
+        next(rt, ",", now, usual.with_call(Call::Write), file);
         begun_anew(rt, now, base, file);
         return;
     }
     if c.whole {
-        next(rt, ", written", now, with_call(usual, Call::Write), file);
+        next(rt, ", written", now, usual.with_call(Call::Write), file);
     }
 }
 
 // A case: the beginning, the tree before the call under test, the call, and what comes after it.
 fn run(rt: &impl Print, file: &[u8], title: &[u8], c: Case, base: Case) {
-    let usual = with_call(with_tables_of(base, c), Call::Tree);
-    let now = make(nothing_begun(), with_call(usual, Call::Begin), file);
-    let now = first_tree(now, c, usual, file);
-    let done = make(with_open(now, !c.closed), c, file);
-    print_case(rt, title, with_ok(done, now.same));
+    let usual = base.with_tables_of(c).with_call(Call::Tree);
+    let now = make(nothing_begun(), usual.with_call(Call::Begin), file);
+    let mut now = first_tree(now, c, usual, file);
+    now.converter.open = !c.closed;
+    let mut done = make(now, c, file);
+    done.same = done.same && now.same;
+    print_case(rt, title, done);
     afterwards(rt, done, c, usual, base, file);
     let _ = println!(rt);
 }
 
 // The lines of the data file
 
-fn is_comment(line: &[u8]) -> bool {
-    if line.len() == 0 {
-        return true;
-    }
-    line[0] == b'#'
-}
-
 // A line without a colon, or of a comment, says nothing. The line of the title `base` changes what all cases begin with; any other is a case.
 fn run_line(rt: &impl Print, file: &[u8], base: Case, line: &[u8]) -> Case {
-    if is_comment(line) {
+    if line.starts_with(b"#") {
         return base;
     }
     let Some(end) = line.iter().position(|b| *b == b':') else {
         return base;
     };
-    let title = &line[0..end];
-    let c = with_words(rt, base, &line[end + 1..]);
+    let title = &line[..end];
+    let c = base.with_words(rt, &line[end + 1..]);
     if title == b"base".as_slice() {
         return c;
     }
@@ -157,15 +135,9 @@ fn run_line(rt: &impl Print, file: &[u8], base: Case, line: &[u8]) -> Case {
 }
 
 fn run_lines(rt: &impl Print, file: &[u8], s: &[u8]) {
-    let mut base = blank();
-    let mut start: usize = 0;
-    let mut i: usize = 0;
-    while i < s.len() {
-        if s[i] == b'\n' {
-            base = run_line(rt, file, base, &s[start..i]);
-            start = i + 1;
-        }
-        i += 1;
+    let mut base = Case::BLANK;
+    for line in s.split(|b| *b == b'\n') {
+        base = run_line(rt, file, base, line);
     }
 }
 
