@@ -157,13 +157,15 @@ text_told s t = cond (eqb (get_or t 0 0) 0) none (some (take (get_or t 2 0) (dro
 -- ── Files and functions ────────────────────────────────────────────────────────────────────────────────────────────────
 
 -- "0 whether there is one", then its words
+abbrev pub row_answer_words : {A : Type 0} → (A → List ℕ) → Option A → List ℕ
+row_answer_words words none = 0 ∷ []
+row_answer_words words (some a) = 1 ∷ words a
+
 abbrev pub function_answer_words : Option Function → List ℕ
-function_answer_words none = 0 ∷ []
-function_answer_words (some f) = 1 ∷ function_words_lem f
+function_answer_words o = row_answer_words function_words_lem o
 
 abbrev pub file_answer_words : Option File → List ℕ
-file_answer_words none = 0 ∷ []
-file_answer_words (some f) = 1 ∷ file_words_lem f
+file_answer_words o = row_answer_words file_words_lem o
 
 unfoldable pub function_call : List ℕ → ℕ → List ℕ → Filled
 function_call s i t = answered function_answer_words (got_function s i) t

@@ -1,9 +1,12 @@
 // Rows and the two iterators of the reader over words. The exported functions of these names pass on what these answer.
 #![tactic(auto)]
 
-ghost use Rattle.std.specs.Prelude.{◌≡◌};
-ghost use Rattle.lookup.specs.Answers.{file_answer, function_answer, functions_answer, files_answer};
-ghost use Rattle.c_reading.specs.Reading.{filled, moved, answered, steps_to, function_answer_words, file_answer_words};
+ghost use Rattle.std.specs.Prelude.{◌≡◌, ℕ, List};
+ghost use Rattle.std.proofs.lemmas.List.Edits.{sets};
+ghost use Rattle.raw.specs.Rows.{file_words_lem, function_words_lem};
+ghost use Rattle.symcache.specs.Answers.{maybe_answer};
+ghost use Rattle.lookup.specs.Answers.{functions_answer, files_answer};
+ghost use Rattle.c_reading.specs.Reading.{filled, moved, answered, steps_to, row_answer_words};
 ghost use Rattle.c_reading.specs.Reading.{function_call, file_call, cursor_index, next_function_words, function_next, functions_call, next_file_words, file_next};
 ghost use Rattle.c_reading.specs.Reading.{files_call};
 
@@ -13,14 +16,40 @@ use raw::{File, Function};
 use slices::{put, word};
 use symcache::ErrorKind;
 
+// A row of a file, as words.
+trait Row: Copy {
+    ghost words: { Self → List ℕ };
+
+    // Its words, from word k on.
+    fn put(self, row: &mut [u32], k: u32)
+        ensures { row.new ≡ sets row.old k (words self) };
+}
+
+impl Row for Function {
+    ghost words = { function_words_lem };
+
+    fn put(self, row: &mut [u32], k: u32) {
+        put_function(row, k, self);
+    }
+}
+
+impl Row for File {
+    ghost words = { file_words_lem };
+
+    fn put(self, row: &mut [u32], k: u32) {
+        put_file(row, k, self);
+    }
+}
+
+// Whether there is a row, and its words.
 #[tactic(auto, unfolding(c_reading::specs::Reading::answered))]
-fn put_got_function(row: &mut [u32], function: Result<Option<Function>, ErrorKind>) -> u32
-    ensures { filled result row.new ≡ answered function_answer_words (function_answer function) row.old }
+fn put_got<T: Row>(row: &mut [u32], got: Result<Option<T>, ErrorKind>) -> u32
+    ensures { filled result row.new ≡ answered (row_answer_words T.words) (maybe_answer got) row.old }
 {
-    match function {
-        Ok(Some(f)) => {
+    match got {
+        Ok(Some(x)) => {
             put(row, 0, 1);
-            put_function(row, 1, f);
+            x.put(row, 1);
             0
         }
         Ok(None) => {
@@ -35,32 +64,14 @@ fn put_got_function(row: &mut [u32], function: Result<Option<Function>, ErrorKin
 pub fn get_function(bytes: &[u8], function_idx: u32, row: &mut [u32]) -> u32
     ensures { filled result row.new ≡ function_call bytes.now function_idx row.old }
 {
-    put_got_function(row, lookup::get_function(bytes, function_idx))
-}
-
-#[tactic(auto, unfolding(c_reading::specs::Reading::answered))]
-fn put_got_file(row: &mut [u32], file: Result<Option<File>, ErrorKind>) -> u32
-    ensures { filled result row.new ≡ answered file_answer_words (file_answer file) row.old }
-{
-    match file {
-        Ok(Some(f)) => {
-            put(row, 0, 1);
-            put_file(row, 1, f);
-            0
-        }
-        Ok(None) => {
-            put(row, 0, 0);
-            0
-        }
-        Err(kind) => kind.number(),
-    }
+    put_got(row, lookup::get_function(bytes, function_idx))
 }
 
 #[tactic(auto, unfolding(c_reading::specs::Reading::file_call))]
 pub fn get_file(bytes: &[u8], file_idx: u32, row: &mut [u32]) -> u32
     ensures { filled result row.new ≡ file_call bytes.now file_idx row.old }
 {
-    put_got_file(row, lookup::get_file(bytes, file_idx))
+    put_got(row, lookup::get_file(bytes, file_idx))
 }
 
 // The index from which on to look; a cursor of no words is at the end.

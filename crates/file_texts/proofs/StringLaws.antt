@@ -1,10 +1,13 @@
 -- Laws that the functions of src/ cite.
 use Prim.Native.Nat.{ℕ, ◌+◌, ◌*◌, ◌≤◌, ◌<◌}
-use mathlib.Core.Path.{◌≡◌, refl}
+use mathlib.Core.Path.{◌≡◌, refl, sym}
 use mathlib.Core.List.{List}
 use mathlib.Core.Option.{none, some}
 use borrow.Author.Tests.{lt-ltb, le-ltb}
 use Rattle.raw.specs.Rows.{function_at_lem}
+use Rattle.std.specs.Prelude.{Some}
+use lib.ListN.{length}
+use Rattle.text.specs.declared.strings.Text.{Text}
 use Rattle.text.specs.Texts.{read_text}
 use Rattle.text.proofs.TextLaws.{text-within}
 use Rattle.symcache.specs.declared.SymCache.{SymCache}
@@ -22,8 +25,11 @@ pub read-refuses : {A B : Type 0} (r : Refusal) (f : A → Answer B) → and_the
 unfolding and_then
 read-refuses r f = refl
 
+pub text-inside : (s : List ℕ) (at : ℕ) (t : Text) → Some t ≡ read_text s at → t.start + t.len ≤ length s
+text-inside s at t e = text-within s at t.start t.len (sym e)
+
 -- a file that was read has its texts in it, and a text that was read lies in its section
-pub ruleset read_cases = (read-gives, read-refuses, parsed-within, text-within)
+pub ruleset read_cases = (read-gives, read-refuses, parsed-within, text-inside)
 
 function-there : (s : List ℕ) (c : SymCache) (i : ℕ) → i < c.num_functions → function_in_lem s c i ≡ some (function_at_lem s (c.functions + 16 * i))
 unfolding function_in_lem

@@ -3,7 +3,6 @@ use Rattle.std.specs.Prelude.{ℕ, ◌+◌, List, [], take, drop}
 use Rattle.std.specs.Prelude as rust
 use Rattle.std.proofs.Math.Option.{Option, none, some}
 use Rattle.text.specs.declared.strings.Text.{Text}
-use Rattle.std.specs.Prelude as std
 use Rattle.text.specs.Texts.{read_text, text_part}
 use Rattle.symcache.specs.declared.SymCache.{SymCache}
 use Rattle.file_texts.specs.declared.Part.{Part}
@@ -22,9 +21,9 @@ abbrev pub string_answer : rust.Result (rust.Option Part) ErrorKind → Answer (
 string_answer r = maybe_answer r
 
 -- a part of the section that begins at `at`, as a part of the file
-unfoldable pub placed : ℕ → std.Option Text → Option Part
-placed at std.None = none
-placed at (std.Some t) = some (record { start = at + t.start; len = t.len })
+unfoldable pub placed : ℕ → rust.Option Text → Option Part
+placed at rust.None = none
+placed at (rust.Some t) = some (record { start = at + t.start; len = t.len })
 
 unfoldable pub got_string : List ℕ → ℕ → Answer (Option Part)
 got_string s offset = and_then (parsed s) (λ c. gives (placed c.strings (read_text (section_of s c) offset)))
@@ -41,9 +40,9 @@ unfoldable pub string_of : List ℕ → ℕ → List ℕ
 string_of s offset = or_else (and_then (parsed s) (λ c. gives (text_part (section_of s c) offset))) []
 
 -- "A function's name is a part of the string section or of the stand-in the caller lent"
-unfoldable pub text_or : List ℕ → List ℕ → std.Option Text → List ℕ
-text_or d t std.None = d
-text_or d t (std.Some p) = take p.len (drop p.start t)
+unfoldable pub text_or : List ℕ → List ℕ → rust.Option Text → List ℕ
+text_or d t rust.None = d
+text_or d t (rust.Some p) = take p.len (drop p.start t)
 
 unfoldable pub name_in : List ℕ → SymCache → List ℕ → ℕ → List ℕ
 name_in s c d i = elim (function_in_lem s c i) [ none ↦ d | some f ↦ text_or d (section_of s c) (read_text (section_of s c) f.name_offset) ]

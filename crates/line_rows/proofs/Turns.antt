@@ -1,10 +1,9 @@
 -- The turns of the two loops over line rows, over plain lists.
 use Prim.Native.Nat.{ℕ, zero, suc, ◌+◌, ◌≤◌, ◌<◌}
 use mathlib.Core.Path.{◌≡◌, refl, sym, ap, ◌∙◌}
-use mathlib.Core.Bool.{Bool, true, false, ◌&&◌, and-true}
+use mathlib.Core.Bool.{Bool, ◌&&◌, and-true}
 use mathlib.Core.List.{List, [], ◌∷◌}
 use Rattle.std.specs.List.{list_all}
-use native.Mathlib.Omega.{arith}
 use native.Mathlib.Numerals.{add-one}
 use lib.ListN.{length, get_or, drop, drop_of_length-le}
 use lib.Seq.{drop-cons}
@@ -12,7 +11,7 @@ use Rattle.refusals.specs.Refusals.{each, line_texts?}
 use Rattle.rows.specs.declared.LineRow.{LineRow}
 use borrow.Author.Tests.{eq-eqb, ne_eqb}
 use Rattle.refusals.proofs.Laws.{and-and}
-use Rattle.line_rows.specs.Lines.{no_line, words64, words32, lines_texts?, put_row, put_lines, unpacked_to}
+use Rattle.line_rows.specs.Lines.{no_line, lines_texts?, put_row, put_lines, unpacked_to}
 
 -- ── The texts of a list, as `all` goes through it ──
 

@@ -163,6 +163,7 @@ fn read_full<F: Read>(from: &mut F, to: &mut [u8]) -> usize
     ensures { result ≤ length to.new }
 {
     let mut done: usize = 0;
+    // no `for`: each turn goes on by as many bytes as a read gave
     while done < to.len() {
         match from.read(&mut to[done..]) {
             Ok(0) | Err(_) => break,

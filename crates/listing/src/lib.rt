@@ -29,7 +29,8 @@ impl Waiting {
     {
         match self {
             Waiting::Nothing => false,
-            Waiting::Bad(_) | Waiting::Frames { .. } => true,
+            Waiting::Bad(_) => true,
+            Waiting::Frames { .. } => true,
         }
     }
 }
@@ -183,7 +184,8 @@ fn print_frames(
 {
     let mut walk = walk;
     let mut at = at;
-    while has_room(out.len(), at) {
+    // no `for`: it goes on by what a step of the walk gives, as long as there is room
+    'frames: while has_room(out.len(), at) {
         let Some(Step { frame, next }) = next_step(file, walk) else {
             return no_more_frames(address, walk.steps, out, at);
         };
@@ -234,6 +236,7 @@ pub fn list(file: &[u8], listing: Listing, piece: &[u8], out: &mut [u8]) -> List
     let mut used: usize = 0;
     let waiting = listing.waiting;
     let mut printed = print(file, waiting, out, 0);
+    // no `for`: it goes on by as many bytes as a line took
     while used < piece.len() {
         if printed.waiting.waits() {
             break;

@@ -2,6 +2,8 @@
 #![tactic(auto)]
 
 ghost use Rattle.std.specs.Prelude.{◌≡◌, ◌+◌, ◌*◌, ◌-◌, ◌≤◌, ◌<◌, ◌^◌, cond, length, unwrap_or, IfSome};
+ghost use Rattle.std.specs.Prelude.{ltb};
+ghost use Rattle.std.proofs.Math.Option as maybe;
 ghost use Rattle.raw.specs.Rows.{max32};
 ghost use Rattle.symcache.specs.Answers.{maybe_of};
 ghost use Rattle.symcache.specs.Reader.{Within, location_in_lem, function_in_lem, file_in_lem};
@@ -91,15 +93,23 @@ fn location_in(s: &[u8], c: SymCache, i: u32) -> SourceLocation
     SourceLocation::read(s, c.source_locations + 16 * (i as usize))
 }
 
+// Row `i` of the `n` that stand from `at` on.
+fn row_in<T: Stored>(s: &[u8], at: usize, n: u32, i: u32) -> Option<T>
+    requires { at + T.SIZE * n < 2 ^ 64 }
+    ensures { maybe_of result ≡ cond (ltb i n) (maybe.some (T.stands s.now (at + T.SIZE * i))) maybe.none }
+{
+    if n <= i {
+        return None;
+    }
+    Some(T::read(s, at + T::SIZE * (i as usize)))
+}
+
 #[tactic(auto, unfolding(symcache::specs::Reader::file_in_lem))]
 fn file_in(s: &[u8], c: SymCache, i: u32) -> Option<File>
     requires { c.files + 24 * c.num_files < 2 ^ 64 }
     ensures { maybe_of result ≡ file_in_lem s.now c i }
 {
-    if i < c.num_files {
-        return Some(File::read(s, c.files + 24 * (i as usize)));
-    }
-    None
+    row_in(s, c.files, c.num_files, i)
 }
 
 #[tactic(auto, unfolding(symcache::specs::Reader::function_in_lem))]
@@ -107,10 +117,7 @@ fn function_in(s: &[u8], c: SymCache, i: u32) -> Option<Function>
     requires { c.functions + 16 * c.num_functions < 2 ^ 64 }
     ensures { maybe_of result ≡ function_in_lem s.now c i }
 {
-    if i < c.num_functions {
-        return Some(Function::read(s, c.functions + 16 * (i as usize)));
-    }
-    None
+    row_in(s, c.functions, c.num_functions, i)
 }
 
 // Looking up
@@ -251,7 +258,7 @@ impl SourceLocations {
     }
 }
 
-// Files and functions
+// Files and functions. Each has its own functions, as in the original: with `?` these are two lines, and one over both would need a trait of the tables.
 
 #[tactic(auto, using(crate::proofs::LookupLaws::read_cases), unfolding(crate::specs::Lookup::got_file, symcache::specs::Answers::and_then))]
 pub fn get_file(s: &[u8], file_idx: u32) -> Result<Option<File>, ErrorKind>

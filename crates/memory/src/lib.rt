@@ -79,14 +79,6 @@ pub struct Lengths {
     pub ranges: usize,
 }
 
-// Numbers of document 01
-
-// A table would need more rows or bytes after this call than its capacity.
-pub const SYMCACHE_TABLE_FULL: u32 = 17;
-
-// The converter is closed, or one of its counts is above the table's capacity.
-pub const SYMCACHE_CLOSED: u32 = 19;
-
 // Capacities
 
 impl Lent<'_> {

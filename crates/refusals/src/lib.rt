@@ -3,7 +3,7 @@
 
 ghost use Rattle.std.specs.Prelude.{◌≡◌, ◌/◌, ◌≤◌, List, ℕ, length};
 ghost use Rattle.errors.specs.Numbers.{code_of};
-ghost use Rattle.rows.specs.Columns.{columns, function_in_columns, line_in_columns};
+ghost use Rattle.rows.specs.Columns.{columns_of, function_in_columns, line_in_columns};
 ghost use Rattle.refusals.specs.Refusals.{
   each,
   total,
@@ -211,11 +211,7 @@ pub fn refusal(
     text: &[u8],
     scratch: usize,
 ) -> Result<(), Refusal>
-    ensures { let f64 = functions.entry.columns64.now in
-        let f32 = functions.entry.columns32.now in
-        let l64 = lines.entry.columns64.now in
-        let l32 = lines.entry.columns32.now in
-        code_of result ≡ tree_refusal (columns f64 f32 l64 l32 text.now) scratch }
+    ensures { code_of result ≡ tree_refusal (columns_of functions.entry lines.entry text.now) scratch }
 {
     if !line_lengths(lines) {
         return Err(Refusal::InvalidRows);

@@ -35,6 +35,7 @@ pub fn read_full<F: Read>(from: &mut F, to: &mut [u8]) -> usize
     ensures { IsPrefixLen result to.new }
 {
     let mut done = 0;
+    // no `for`: each turn goes on by as many bytes as a read gave
     while done < to.len() {
         let n = read_at(from, to, done);
         if n == 0 {

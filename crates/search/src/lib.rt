@@ -130,6 +130,7 @@ impl<'a> Starts<'a> {
     {
         let mut base: usize = 0;
         let mut size = self.n;
+        // no `for`: what is left is halved, and no index counted
         while 1024 < size {
             let half = size / 2;
             base += self.half_of(base, half, addr);
@@ -146,6 +147,7 @@ impl<'a> Starts<'a> {
         ensures { Index (search_in (start_at self.entry.bytes.now self.entry.at) addr self.entry.n 0 self.entry.n) self.entry.n result }
     {
         let Left { mut base, mut size } = self.halves(addr);
+        // no `for`, for the same reason
         while 8 < size {
             let quarter = size / 4;
             let low = self.quarters(base, quarter, addr);

@@ -28,6 +28,7 @@ pub struct Stored {
 }
 
 // How many bytes of texts there is room for.
+#[tactic(auto, unfolding(crate::specs::Strings::text_capacity_of))]
 pub fn text_capacity(text: &[u8]) -> u32
     ensures { result ≡ text_capacity_of (length text.now) }
 {
@@ -113,6 +114,7 @@ fn room(bytes: u32, size: usize, limit: u32) -> bool
 }
 
 // The answer where there is no room: the count of bytes is above its capacity if the text had none, else the count of texts.
+#[tactic(auto, unfolding(crate::specs::Strings::full_of, tables::specs::Table::over_of))]
 fn full(strings: &[u32], bytes: u32, count: u32, size: usize, limit: u32) -> Stored
     requires { limit ≤ max_bytes }
     ensures { result ≡ full_of bytes count size limit (capacity_of (length strings.now)) }
@@ -141,6 +143,7 @@ fn write(text: &mut [u8], at: usize, start: usize, t: &[u8])
 }
 
 // The number + 1 of the newest row in the bucket of t, which may be t's; 0 where there is none.
+#[tactic(auto, unfolding(crate::specs::Strings::newest_text))]
 pub fn newest(strings: &[u32], t: &[u8]) -> u32
     ensures { result ≡ newest_text strings.now t.now }
 {

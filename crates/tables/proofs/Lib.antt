@@ -1,4 +1,5 @@
 pub mod Found
+pub mod Kept
 pub mod Room
 pub mod Rows
 pub mod Walk

@@ -136,6 +136,7 @@ pub fn bucket(hash: u32, cap: u32) -> u32
     let all = u64::from(cap);
     let hash = u64::from(hash);
     let at = hash / 512 * all / 8388608 + hash % 512;
+    // Most places are below cap, and need no division.
     if at < all {
         return at as u32;
     }
@@ -279,6 +280,7 @@ pub fn lookup(t: &[u32], n: u32, row: Row, key: Key) -> Option<u32>
 }
 
 // The number of the row with the key of `row`, which is appended where there is none. With no room nothing is written, and the count is capacity + 1.
+#[tactic(auto, using(crate::proofs::Room::cap_most))]
 fn insert(t: &mut [u32], n: u32, row: Row, key: Key) -> Inserted
     ensures { left result t.new ≡ insert_of (width_of key) t.old n row }
 {

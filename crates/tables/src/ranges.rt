@@ -31,6 +31,7 @@ pub fn newest(t: &[u32], start: u32) -> u32
 }
 
 // The location at a start.
+#[tactic(auto, using(crate::proofs::Found::some_found, crate::proofs::Found::none_found), unfolding(crate::specs::Ranges::get_of))]
 pub fn get(t: &[u32], count: u32, start: u32) -> Option<SourceLocation>
     ensures { result ≡ get_of t.now count start }
 {
@@ -39,6 +40,7 @@ pub fn get(t: &[u32], count: u32, start: u32) -> Option<SourceLocation>
 }
 
 // The location at a start becomes loc. A count above the capacity changes nothing.
+#[tactic(auto, using(crate::proofs::Kept::count_kept), unfolding(crate::specs::Ranges::put_of, crate::specs::Ranges::put_at))]
 pub fn put(t: &mut [u32], count: u32, start: u32, loc: SourceLocation) -> Change
     ensures { left result t.new ≡ put_of t.old count (range_row_lem start loc) }
 {

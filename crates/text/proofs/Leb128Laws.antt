@@ -12,10 +12,10 @@ use lib.Dec.{ltb, leb, lit<}
 use lib.ListN.{length, drop, set, drop_of_length-le}
 use lib.Pow.{are_bytes}
 use lib.Seq.{drop_at, sets}
-use borrow.Author.Tests.{ltb-true, leb-true, lt-ltb, le-ltb, le-leb, lt-leb}
+use borrow.Author.Tests.{ltb-true, leb-true, lt-ltb, le-ltb, le-leb}
 use Rattle.slices.proofs.Cases.{lt-or_ge, and_left, and_right}
-use Rattle.text.specs.Leb128.{leb_value, well_formed, encoded_in, encoded, leb_prefix, leb_number, number, decoded, Accepted, written, wrote_leb}
-use Rattle.std.specs.Prelude.{Some, None}
+use Rattle.text.specs.Leb128.{leb_value, well_formed, encoded_in, encoded, leb_prefix, leb_number, number, decoded, Accepted}
+use Rattle.std.specs.Prelude.{None}
 use Rattle.std.proofs.lemmas.Option.{same_Some}
 use Rattle.text.specs.declared.leb128.Leb.{Leb}
 
@@ -117,21 +117,13 @@ length_last v h = rw (encoded-last v h)
 pub length_more : (v : ℕ) → 128 ≤ v → length (encoded v) ≡ 1 + length (encoded (v / 128))
 length_more v h = rw (encoded-more v h) (omega arith)
 
--- ---- the encoding as `put_leb128` and `write_leb128` store it
+-- ---- the encoding as `put_leb128` stores it
 
 pub put_last : (s : List ℕ) (i v : ℕ) → v < 128 → set s i v ≡ sets s i (encoded v)
 put_last s i v h = rw (encoded-last v h)
 
 pub put-more : (s : List ℕ) (i v : ℕ) → 128 ≤ v → sets (set s i (v % 128 + 128)) (i + 1) (encoded (v / 128)) ≡ sets s i (encoded v)
 put-more s i v h = rw (encoded-more v h, add-one i)
-
-pub wrote-all : (s t : List ℕ) (at v n : ℕ) → n ≡ length (encoded v) → t ≡ sets s at (encoded v) → at + n ≤ length s → written (Some n) t ≡ wrote_leb s at v
-unfolding wrote_leb
-wrote-all s t at v n e f h = rw (e, f, le-leb (at + length (encoded v)) (length s) (omega arith))
-
-pub wrote_none : (s : List ℕ) (at v n : ℕ) → n ≡ length (encoded v) → length s < at + n → written None s ≡ wrote_leb s at v
-unfolding wrote_leb
-wrote_none s at v n e h = rw (lt-leb (at + length (encoded v)) (length s) (omega arith))
 
 -- ---- decoding
 
@@ -212,3 +204,6 @@ decoded-encoded p q v h =
 pub decoded-past : (s : List ℕ) (at : ℕ) → length s ≤ at → None ≡ decoded s at
 unfolding decoded leb_number leb_prefix well_formed
 decoded-past s at h = rw (drop_of_length-le s h)
+
+-- what the answers of src/leb128.rt take
+pub ruleset stored = (put_last, put-more, length_last, length_more, encoded_ten)

@@ -120,3 +120,6 @@ part-absent s at e = rw (← e)
 pub part-present : (s : List ℕ) (at start len : ℕ) → part start len ≡ read_text s at → take (start + len - start) (drop start s) ≡ text_part s at
 unfolding text_part bytes_of
 part-present s at start len e = let k : start + len - start ≡ len = omega arith in rw (← e, k)
+
+-- what the answers of src/strings.rt take
+pub ruleset texts = (prefix_within, absent_prefix, absent-cut, absent-bytes, present, text-within, part-absent, part-present)

@@ -1,4 +1,4 @@
--- How the definitions of specs/Utf8.antt go on: one alternative more, one char more.
+-- How the definitions of specs/Utf8.antt go on: one char more.
 use Prim.Native.Nat.{ℕ, zero, suc, ◌<◌, ◌≤◌}
 use mathlib.Core.Path.{◌≡◌, refl, sym, ◌∙◌}
 use mathlib.Core.Bool.{Bool, true, false, cond, false≢true}
@@ -9,15 +9,6 @@ use Rattle.slices.proofs.Cases.{and_right}
 use Rattle.std.specs.Prelude.{Option, Some, None}
 use Rattle.std.proofs.lemmas.Option.{same_Some, none-some}
 use Rattle.text.specs.Utf8.{Range, Utf8Char, within, fits, char_len, chars, utf8}
-
--- The first alternative fits, and gives the length; or it does not, and the length is that by the others.
-pub hit : (r : List Range) (rs : List (List Range)) (s : List ℕ) {x : Bool} → x ≡ fits r s → x ≡ true → Some (length r) ≡ char_len (r ∷ rs) s
-unfolding char_len
-hit r rs s e t = rw (← e, t)
-
-pub miss : (r : List Range) (rs : List (List Range)) (s : List ℕ) {x : Bool} → x ≡ fits r s → x ≡ false → char_len rs s ≡ char_len (r ∷ rs) s
-unfolding char_len
-miss r rs s e t = rw (← e, t)
 
 -- An alternative that fits is no longer than the list.
 pub fits_le : (rs : List Range) (s : List ℕ) → fits rs s ≡ true → length rs ≤ length s

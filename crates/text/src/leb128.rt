@@ -11,6 +11,7 @@ pub struct Leb {
 }
 
 // The number of bytes of the shortest form of v.
+#[tactic(auto, using(crate::proofs::Leb128Laws::stored))]
 pub fn leb128_len(v: u64) -> usize
     ensures { result ≡ length (encoded v) }
 {
@@ -24,6 +25,7 @@ pub fn leb128_len(v: u64) -> usize
 }
 
 // The shortest form of v, from at on.
+#[tactic(auto, using(crate::proofs::Leb128Laws::stored))]
 fn put_leb128(out: &mut [u8], at: usize, v: u64)
     requires { at + length (encoded v) ≤ length out.old }
     ensures { out.new ≡ sets out.old at (encoded v) }
@@ -40,6 +42,7 @@ fn put_leb128(out: &mut [u8], at: usize, v: u64)
 }
 
 // Writes the shortest form of v from at on and answers its number of bytes; where it doesn't fit nothing is changed.
+#[tactic(auto, unfolding(crate::specs::Leb128::wrote_leb))]
 pub fn write_leb128(out: &mut [u8], at: usize, v: u64) -> Option<usize>
     ensures { written result out.new ≡ wrote_leb out.old at v }
 {

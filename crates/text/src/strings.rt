@@ -14,6 +14,7 @@ pub struct Text {
 
 // The text at an offset: none where the offset lies past the section, the length is cut, above ten bytes or above 64 bits,
 // the text is cut, or it is not UTF-8.
+#[tactic(auto, using(crate::proofs::TextLaws::texts))]
 pub fn read_text(section: &[u8], offset: u32) -> Option<Text>
     ensures { result ≡ read_text section.now offset }
 {
@@ -31,6 +32,7 @@ pub fn read_text(section: &[u8], offset: u32) -> Option<Text>
 }
 
 // The bytes of the text at an offset; none where it is absent.
+#[tactic(auto, using(crate::proofs::TextLaws::texts))]
 pub fn text_part<'a>(section: &'a [u8], offset: u32) -> &'a [u8]
     ensures { result.now ≡ text_part section.now offset }
 {

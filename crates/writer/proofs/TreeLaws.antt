@@ -1,6 +1,6 @@
 -- What the code of tree.rt does, step by step, as the definitions have it.
 use mathlib.Core.Path.{◌≡◌, refl, sym, ap, ◌∙◌}
-use mathlib.Core.Bool.{Bool, true, false, cond, true≢false, false≢true}
+use mathlib.Core.Bool.{Bool, true, false, cond, true≢false}
 use mathlib.Core.List.{List, [], ◌∷◌, ◌++◌, map}
 use Prim.Native.Nat.{ℕ, suc, ◌+◌, ◌*◌, ◌-◌, ◌/◌, ◌%◌, ◌≤◌, ◌<◌}
 use native.Mathlib.Omega.{arith}
@@ -8,6 +8,8 @@ use lib.Dec.{eqb, ltb}
 use lib.ListN.{length, get_or, take, drop}
 use lib.Seq.{sets, drop-drop}
 use borrow.Author.Tests.{eq-eqb, ne_eqb}
+use Rattle.std.proofs.Common.{subst, Option, Some, None}
+use Rattle.std.proofs.lemmas.Option.{none-some, same_Some}
 use Rattle.names.specs.Names.{undecorated}
 use Rattle.model.specs.Basics.{Span, sort}
 use Rattle.model.specs.Rows.{MAX, Text, LineRow, FunctionRow, SymbolRow, skipped, function_end}
@@ -40,12 +42,6 @@ size_none z b e = rw (eq-eqb z 0 e)
 pub size-some : (z : ℕ) (b : Bool) → (z ≡ 0 → ⊥) → b ≡ cond (eqb z 0) true b
 size-some z b e = rw (ne_eqb z 0 e)
 
-pub passed_test : (some b : Bool) {r : Bool} → some ≡ true → r ≡ b → r ≡ cond some b true
-passed_test some b e f = rw e f
-
-pub no_call : (some b : Bool) → some ≡ false → true ≡ cond some b true
-no_call some b e = rw e
-
 pub begun : (u : Bool) (lang : ℕ) (w : Words) {name name' : Text} {e e' : ℕ} {z : ℕ × Words} → name ≡ name' → e ≡ e'
     → z ≡ begin_named (cond u (undecorated name) name) e lang w → z ≡ begin_named (cond u (undecorated name') name') e' lang w
 begun u lang w {name} {name'} {e} {e'} {z} f g h = rw (f, g) at h
@@ -76,13 +72,26 @@ address_is p q e h = omega arith
 
 -- ── The call locations of a depth ──
 
-abbrev pub own_of : ℕ → Bool → ℕ → ℕ → ℕ → Own
-own_of top some first at len = record { top = top; some = some; call_locations = record { first = first; others = record { at = at; len = len } } }
+abbrev pub own_of : ℕ → ℕ → ℕ → ℕ → Own
+own_of top first at len = record { top = top; call_locations = Some (record { first = first; others = record { at = at; len = len } }) }
+
+abbrev pub own_none : ℕ → Own
+own_none top = record { top = top; call_locations = None }
 
 module _ (s : List ℕ) (base : ℕ) where
-  pub own_root : (d : ℕ) → d ≡ 0 → OwnCalls s base d (own_of 0 true 4294967295 0 0)
+  -- there is one: c is it
+  one : (d top a first at len : ℕ) → top ≡ top_of s d → calls_of s base d ≡ calls_of_lem s a (record { first = first; others = record { at = at; len = len } })
+      → at + len * 2 ≤ base + top * 2 → OwnCalls s base d (own_of top first at len)
+  one d top a first at len e f h = record {
+    top_is = e;
+    none = λ x. absurd (none-some _ (sym x));
+    first = λ c x. (a, f ∙ ap (calls_of_lem s a) (same_Some _ _ x));
+    below = λ c x. subst (λ (y : CallLocations). y.others.at + y.others.len * 2 ≤ base + top * 2) (same_Some _ _ x) h;
+  }
+
+  pub own_root : (d : ℕ) → d ≡ 0 → OwnCalls s base d (own_of 0 4294967295 0 0)
   unfolding top_of
-  own_root d e = rw e (record { top_is = refl; none = λ x. absurd (true≢false x); first = λ x. (0, calls-root s base 0); below = omega arith })
+  own_root d e = rw e (one 0 0 0 4294967295 0 0 refl (calls-root s base 0) (omega arith))
 
   below_one : (d : ℕ) → (d ≡ 0 → ⊥) → d ≡ suc (d - 1)
   below_one d h = omega arith
@@ -92,24 +101,18 @@ module _ (s : List ℕ) (base : ℕ) where
     unfolding top_of
     own-top = rw (below_one d h, e, f)
 
-    pub own-none : len ≡ 0 → OwnCalls s base d (own_of (start + len) false 0 0 0)
+    pub own-none : len ≡ 0 → OwnCalls s base d (own_none (start + len))
     own-none z = record {
       top_is = own-top;
       none = λ x. ap (calls_of s base) (below_one d h) ∙ calls-none s base (d - 1) (sym f ∙ z);
-      first = λ x. absurd (false≢true x);
-      below = omega arith;
+      first = λ c x. absurd (none-some c x);
+      below = λ c x. absurd (none-some c x);
     }
 
-    pub own-some : (current : ℕ) → (len ≡ 0 → ⊥) → current ≡ get_or s (base + start * 2 + 1) 0 → OwnCalls s base d (own_of (start + len) true current (base + start * 2 + 2) (len - 1))
-    own-some current z g = record {
-      top_is = own-top;
-      none = λ x. absurd (true≢false x);
-      first = λ x. (
-        get_or s (base + start * 2) 0,
-        ap (calls_of s base) (below_one d h) ∙ rw (g, e, f) (calls-some s base (d - 1) (omega (arith, f, z))),
-      );
-      below = omega (arith, z);
-    }
+    pub own-some : (current : ℕ) → (len ≡ 0 → ⊥) → current ≡ get_or s (base + start * 2 + 1) 0 → OwnCalls s base d (own_of (start + len) current (base + start * 2 + 2) (len - 1))
+    own-some current z g =
+        one d (start + len) (get_or s (base + start * 2) 0) current (base + start * 2 + 2) (len - 1) own-top
+        (ap (calls_of s base) (below_one d h) ∙ rw (g, e, f) (calls-some s base (d - 1) (omega (arith, f, z)))) (omega (arith, z))
 
 -- ── The inlinee ranges of a row ──
 
@@ -201,7 +204,7 @@ module _ (f64 f32 l64 l32 t : List ℕ) (base i first : ℕ) where
     pub own-ready : base + top_of s q.depth * 2 ≤ length s
     own-ready = rw e (omega (arith, ready.room))
 
-    module _ (own : Own) (is : OwnCalls s base q.depth own) (flag : Bool) (f : flag ≡ cond own.some (cond (eqb q.size 0) true (ltb MAX q.address)) true) where
+    module _ (own : Own) (is : OwnCalls s base q.depth own) (v : Option CallLocations) (f : v ≡ cond (cond (eqb q.size 0) true (ltb MAX q.address)) None own.call_locations) where
       is' : OwnCalls s base (function_in_columns f64 f32 i).depth own
       is' = rw e at is
 
@@ -209,29 +212,33 @@ module _ (f64 f32 l64 l32 t : List ℕ) (base i first : ℕ) where
       skip_is = tree_row-skipped k i first ∙ rw e refl
 
       -- "No call location made", or skipped
-      pub row-passed : (X : Setup) (w : Words) (s' : List ℕ) → flag ≡ true → s' ≡ set_calls s q.depth own.top 0
+      pub row-passed : (X : Setup) (w : Words) (s' : List ℕ) → v ≡ None → s' ≡ set_calls s q.depth own.top 0
           → RowLeft X k base i first (top_of s (function_in_columns f64 f32 i).depth) (calls_of s base (function_in_columns f64 f32 i).depth) s s' w w
       row-passed X w s' z y =
           rw (y, e, is'.top_is)
-          (passed_over base (function_in_columns f64 f32 i).depth (top_of s (function_in_columns f64 f32 i).depth) (length (row_spans k i first)) ready.low s _ w (omega (arith, ready.room)) (go own.some refl (sym f ∙ z)))
+          (passed_over base (function_in_columns f64 f32 i).depth (top_of s (function_in_columns f64 f32 i).depth) (length (row_spans k i first)) ready.low s _ w (omega (arith, ready.room))
+          (go (cond (eqb q.size 0) true (ltb MAX q.address)) refl (sym f ∙ z)))
         where
-          go : (b : Bool) → own.some ≡ b → cond b (cond (eqb q.size 0) true (ltb MAX q.address)) true ≡ true
+          go : (b : Bool) → cond (eqb q.size 0) true (ltb MAX q.address) ≡ b → cond b None own.call_locations ≡ None
               → row_m input (over_words X) (tree_row k i first) (row_spans k i first) (calls_of s base (function_in_columns f64 f32 i).depth) w ≡ record { state = w; calls = [] }
-          go true x g = row-skipped input (over_words X) (tree_row k i first) (row_spans k i first) w (calls_of s base (function_in_columns f64 f32 i).depth) (skip_is ∙ g)
-          go false x g = rw (is'.none x) (row-empty input (over_words X) (tree_row k i first) (row_spans k i first) w)
+          go true x g = row-skipped input (over_words X) (tree_row k i first) (row_spans k i first) w (calls_of s base (function_in_columns f64 f32 i).depth) (skip_is ∙ x)
+          go false x g = rw (is'.none g) (row-empty input (over_words X) (tree_row k i first) (row_spans k i first) w)
 
-      module _ (z : flag ≡ false) where
-        both : (b : Bool) → own.some ≡ b → cond b (cond (eqb q.size 0) true (ltb MAX q.address)) true ≡ false → (own.some ≡ true) × (skipped (tree_row k i first) ≡ false)
-        both true x g = (x, skip_is ∙ g)
-        both false x g = absurd (true≢false g)
+      module _ (c : CallLocations) (z : v ≡ Some c) where
+        both : (b : Bool) → cond (eqb q.size 0) true (ltb MAX q.address) ≡ b → cond b None own.call_locations ≡ Some c → (own.call_locations ≡ Some c) × (skipped (tree_row k i first) ≡ false)
+        both true x g = absurd (none-some c g)
+        both false x g = (g, skip_is ∙ x)
 
-        pub visit-ready : VisitReady k (length s) base (record { function = q; i = i; first_line = first }) own
-        visit-ready = record { is = e; ready = rw is'.top_is ready; below = is'.below; visited = (both own.some refl (sym f ∙ z)).1 }
+        there : (own.call_locations ≡ Some c) × (skipped (tree_row k i first) ≡ false)
+        there = both (cond (eqb q.size 0) true (ltb MAX q.address)) refl (sym f ∙ z)
 
-        pub row_visits : (X : Setup) (w w' : Words) (s' : List ℕ) → ((a : ℕ) → RowLeft X k base i first own.top (calls_of_lem s a own.call_locations) s s' w w')
+        pub visit-ready : VisitReady k (length s) base (record { function = q; i = i; first_line = first }) own.top c
+        visit-ready = record { is = e; ready = rw is'.top_is ready; below = is'.below c there.0; visited = there.1 }
+
+        pub row_visits : (X : Setup) (w w' : Words) (s' : List ℕ) → ((a : ℕ) → RowLeft X k base i first own.top (calls_of_lem s a c) s s' w w')
             → RowLeft X k base i first (top_of s (function_in_columns f64 f32 i).depth) (calls_of s base (function_in_columns f64 f32 i).depth) s s' w w'
         row_visits X w w' s' g =
-            let x = is'.first (both own.some refl (sym f ∙ z)).0 in
+            let x = is'.first c there.0 in
             rw (← is'.top_is, x.1) (g x.0)
 
 -- ── The rows ──

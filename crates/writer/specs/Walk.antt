@@ -1,5 +1,5 @@
 -- What the private functions of a tree call say of each other; the public contracts cite none of it.
-use Rattle.std.specs.Prelude.{◌≡◌, true, false, List, [], ◌∷◌, map, ℕ, ◌+◌, ◌*◌, ◌-◌, ◌≤◌, ◌<◌, length, take}
+use Rattle.std.specs.Prelude.{◌≡◌, false, Some, None, List, [], ◌∷◌, map, ℕ, ◌+◌, ◌*◌, ◌-◌, ◌≤◌, ◌<◌, length, take}
 use Rattle.model.specs.Basics.{Span, sort}
 use Rattle.model.specs.Rows.{skipped}
 use Rattle.model.specs.Machine.{Ref, CursorM, loop_m, row_m, convert_m, start_m}
@@ -49,12 +49,12 @@ ref a w = record { addr = a; ref = w }
 abbrev pub calls_of_lem : List ℕ → ℕ → CallLocations → List (Ref ℕ)
 calls_of_lem s a c = ref a c.first ∷ refs_at s c.others.at c.others.len
 
--- what `own_calls` answers of those of depth d: the pair after the last of them, whether there is one, and if so all of them
+-- what `own_calls` answers of those of depth d: the pair after the last of them, and all of them if there is one
 pub record OwnCalls (s : List ℕ) (base d : ℕ) (own : Own) : Type 0 where
   pub top_is : own.top ≡ top_of s d
-  pub none : own.some ≡ false → calls_of s base d ≡ []
-  pub first : own.some ≡ true → (a : ℕ) × (calls_of s base d ≡ calls_of_lem s a own.call_locations)
-  pub below : own.call_locations.others.at + own.call_locations.others.len * 2 ≤ base + own.top * 2
+  pub none : own.call_locations ≡ None → calls_of s base d ≡ []
+  pub first : (c : CallLocations) → own.call_locations ≡ Some c → (a : ℕ) × (calls_of s base d ≡ calls_of_lem s a c)
+  pub below : (c : CallLocations) → own.call_locations ≡ Some c → c.others.at + c.others.len * 2 ≤ base + own.top * 2
 
 -- ── A row ──
 
@@ -90,10 +90,10 @@ pub record InProgress (k : Columns) (s : List ℕ) (base : ℕ) (r : InProgressF
   pub is : r.function ≡ function_struct k r.i
   pub ready : RowReady k (length s) base r.i r.first_line (top_of s (function_struct k r.i).depth)
 
-pub record VisitReady (k : Columns) (size base : ℕ) (r : InProgressFunction) (own : Own) : Type 0 where
+pub record VisitReady (k : Columns) (size base : ℕ) (r : InProgressFunction) (top : ℕ) (own : CallLocations) : Type 0 where
   pub is : r.function ≡ function_struct k r.i
-  pub ready : RowReady k size base r.i r.first_line own.top
-  pub below : own.call_locations.others.at + own.call_locations.others.len * 2 ≤ base + own.top * 2
+  pub ready : RowReady k size base r.i r.first_line top
+  pub below : own.others.at + own.others.len * 2 ≤ base + top * 2
   pub visited : skipped (tree_row k r.i r.first_line) ≡ false
 
 -- what a row leaves, where `cs` are its call locations

@@ -43,8 +43,7 @@ fn find_call_location(
     let at = others.at;
     let len = others.len;
     let mut current_call_location = iter.current_call_location;
-    let mut next_call_location = iter.next_call_location;
-    while next_call_location < len {
+    for next_call_location in iter.next_call_location..len {
         let k = at + next_call_location * 2;
         if line_range_start < word(s, k) {
             return CallLocationIter {
@@ -53,11 +52,10 @@ fn find_call_location(
             };
         }
         current_call_location = word(s, k + 1);
-        next_call_location += 1;
     }
     CallLocationIter {
         current_call_location,
-        next_call_location,
+        next_call_location: len,
     }
 }
 

@@ -1,5 +1,5 @@
 // A tree call: `process_symbolic_functions`.
-ghost use Rattle.std.specs.Prelude.{◌≡◌, Bool, true, cond, [], ℕ, ◌+◌, ◌*◌, ◌%◌, ◌≤◌, eqb, ltb, length};
+ghost use Rattle.std.specs.Prelude.{◌≡◌, Bool, true, None, cond, [], ℕ, ◌+◌, ◌*◌, ◌%◌, ◌≤◌, eqb, ltb, length};
 ghost use Rattle.names.specs.Names.{undecorated};
 ghost use Rattle.model.specs.Rows.{MAX};
 ghost use Rattle.model.specs.Rows.{FunctionRow as ModelRow};
@@ -95,9 +95,8 @@ fn close_function(tables: &mut Tables, q: FunctionRow, function_idx: u32)
 struct Own {
     // The pairs in use end here.
     top: usize,
-    // Whether there is one.
-    some: bool,
-    call_locations: CallLocations,
+    // If there is one.
+    call_locations: Option<CallLocations>,
 }
 
 // Those of depth 0 are no pairs but a value.
@@ -105,15 +104,13 @@ fn own_calls(s: &[u32], base: usize, depth: u32) -> Own
     requires { base + top_of s.now depth * 2 ≤ length s.now }
     ensures { OwnCalls s.now base depth result }
 {
-    let none = Pairs { at: 0, len: 0 };
     if depth == 0 {
         return Own {
             top: 0,
-            some: true,
-            call_locations: CallLocations {
+            call_locations: Some(CallLocations {
                 first: u32::MAX,
-                others: none,
-            },
+                others: Pairs { at: 0, len: 0 },
+            }),
         };
     }
     let c = calls_at(s, depth - 1);
@@ -123,11 +120,7 @@ fn own_calls(s: &[u32], base: usize, depth: u32) -> Own
     if len == 0 {
         return Own {
             top,
-            some: false,
-            call_locations: CallLocations {
-                first: 0,
-                others: none,
-            },
+            call_locations: None,
         };
     }
     let at = base + start * 2;
@@ -138,8 +131,7 @@ fn own_calls(s: &[u32], base: usize, depth: u32) -> Own
     };
     Own {
         top,
-        some: true,
-        call_locations: CallLocations { first, others },
+        call_locations: Some(CallLocations { first, others }),
     }
 }
 
@@ -181,17 +173,18 @@ fn visit_row(
     text: &[u8],
     base: usize,
     row: InProgressFunction,
-    own: Own,
+    top: usize,
+    own: CallLocations,
 )
-    requires { VisitReady (columns_of functions lines text.now) (length s.old) base row own }
+    requires { VisitReady (columns_of functions lines text.now) (length s.old) base row top own }
     ensures same { SameTables tables.old tables.new }
     ensures left { (Y : Bool) (a : ℕ) →
         let k = columns_of functions.entry lines.entry text.now in
-        let calls = calls_of_lem s.old a own.call_locations in
-        RowLeft (switches undecorate Y) k base row.i row.first_line own.top calls s.old s.new (words_of tables.old) (words_of tables.new) }
+        let calls = calls_of_lem s.old a own in
+        RowLeft (switches undecorate Y) k base row.i row.first_line top calls s.old s.new (words_of tables.old) (words_of tables.new) }
 {
     let function = row.function;
-    let at = base + own.top * 2;
+    let at = base + top * 2;
     let len = sorted_ranges(
         s,
         at,
@@ -211,21 +204,18 @@ fn visit_row(
         function,
         row.first_line,
         function_idx,
-        own.call_locations,
+        own,
         inlinee_ranges,
     );
     close_function(tables, function, function_idx);
-    set_calls(s, function.depth, own.top, callee_call_locations);
+    set_calls(s, function.depth, top, callee_call_locations);
 }
 
-// Whether a row is passed over: it is skipped, or no call location was made for it.
-fn is_passed_over(q: FunctionRow, some: bool) -> bool
-    ensures { result ≡ cond some (cond (eqb q.size 0) true (ltb MAX q.address)) true }
+// The call locations of a row that is visited: of a row that is skipped, or that no call location was made for, there are none.
+fn to_visit(q: FunctionRow, own: Option<CallLocations>) -> Option<CallLocations>
+    ensures { result ≡ cond (cond (eqb q.size 0) true (ltb MAX q.address)) None own }
 {
-    if some {
-        return is_skipped(q);
-    }
-    true
+    if is_skipped(q) { None } else { own }
 }
 
 // A function row; `base` is the word at which the pairs begin.
@@ -247,13 +237,21 @@ fn process_row(
 {
     let function = row.function;
     let own = own_calls(s, base, function.depth);
-    if is_passed_over(function, own.some) {
-        set_calls(s, function.depth, own.top, 0);
-        return;
+    match to_visit(function, own.call_locations) {
+        Some(call_locations) => visit_row(
+            tables,
+            undecorate,
+            s,
+            functions,
+            lines,
+            text,
+            base,
+            row,
+            own.top,
+            call_locations,
+        ),
+        None => set_calls(s, function.depth, own.top, 0),
     }
-    visit_row(
-        tables, undecorate, s, functions, lines, text, base, row, own,
-    );
 }
 
 // All function rows, in preorder, after a look ahead.

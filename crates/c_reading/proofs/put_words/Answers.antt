@@ -1,5 +1,5 @@
 use Rattle.std.proofs.Common.{◌∙◌, arith}
-use Rattle.slices.proofs.Bytes.{sets-turn}
+use Rattle.c_reading.proofs.StoreLaws.{sets-turn}
 use Rattle.c_reading.proofs.put_words.Goals as goal
 
 pub loop-i-preserved : goal.loop-i-preserved

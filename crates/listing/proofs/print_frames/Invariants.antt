@@ -6,8 +6,8 @@ use Rattle.listing.specs.declared.Waiting.TheVariants as waiting
 use Rattle.listing.specs.Pieces.{print_of}
 use Rattle.listing.proofs.print_frames.Given as goal
 
-abbrev pub invariant-loop-frame : goal.invariant-loop-frame
-invariant-loop-frame l = (length l.out ≡ length l.initial.out) × (print_of l.file (waiting.Frames l.address l.walk) l.out l.at ≡ print_of l.file (waiting.Frames l.address l.initial.walk) l.initial.out l.at-2)
+abbrev pub invariant-frames : goal.invariant-frames
+invariant-frames l = (length l.out ≡ length l.initial.out) × (print_of l.file (waiting.Frames l.address l.walk) l.out l.at ≡ print_of l.file (waiting.Frames l.address l.initial.walk) l.initial.out l.at-2)
 
-abbrev pub decreases-loop-frame : goal.decreases-loop-frame
-decreases-loop-frame l = length l.out - l.at
+abbrev pub decreases-frames : goal.decreases-frames
+decreases-frames l = length l.out - l.at

@@ -25,7 +25,7 @@ returns-then-depth-eq0 c =
     elim c.then-depth-eq0.branch [
       | then-depth-eq0-via-then-depth-eq0 w ↦ depths-zero _ _ c.loop-i.i c.loop-i.invariant.0 (omega (arith, c.loop-i-test.true)) (sym e ∙ w.if-depth-eq0.true)
       | then-depth-eq0-via-else-depth-eq0+then-most-depth w ↦
-        depths-high _ _ c.loop-i.i c.loop-i.most c.loop-i.invariant.0 (omega (arith, c.loop-i-test.true)) c.loop-i.invariant.2 (rw e at w.if-most-depth.true)
+          depths-high _ _ c.loop-i.i c.loop-i.most c.loop-i.invariant.0 (omega (arith, c.loop-i-test.true)) c.loop-i.invariant.2 (rw e at w.if-most-depth.true)
     ]
 
 pub loop-i-preserved : goal.loop-i-preserved

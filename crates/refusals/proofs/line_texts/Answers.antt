@@ -12,20 +12,20 @@ returns-then-optional-2 c =
     let t = c.args.text.now in
     let l = c.args.l in
     let two : c.if-readable.value ≡ readable? t l.name && readable? t l.directory =
-        elim c.if-readable.branch [
-          | then-readable w ↦ joined-then c.readable.ensures w.readable-then-readable.ensures w.if-readable.true w.value-is
-          | else-readable w ↦ joined-else (readable? t l.directory) c.readable.ensures w.if-readable.false w.value-is
-        ] in
+    elim c.if-readable.branch [
+      | then-readable w ↦ joined-then c.readable.ensures w.readable-then-readable.ensures w.if-readable.true w.value-is
+      | else-readable w ↦ joined-else (readable? t l.directory) c.readable.ensures w.if-readable.false w.value-is
+    ] in
     let three : c.if-readable-2.value ≡ (readable? t l.name && readable? t l.directory) && optional? t l.srcsrv_name =
-        elim c.if-readable-2.branch [
-          | then-readable-2 w ↦ joined-then two w.optional.ensures w.if-readable-2.true w.value-is
-          | else-readable-2 w ↦ joined-else (optional? t l.srcsrv_name) two w.if-readable-2.false w.value-is
-        ] in
+    elim c.if-readable-2.branch [
+      | then-readable-2 w ↦ joined-then two w.optional.ensures w.if-readable-2.true w.value-is
+      | else-readable-2 w ↦ joined-else (optional? t l.srcsrv_name) two w.if-readable-2.false w.value-is
+    ] in
     let four : c.if-optional.value ≡ ((readable? t l.name && readable? t l.directory) && optional? t l.srcsrv_name) && optional? t l.srcsrv_dir =
-        elim c.if-optional.branch [
-          | then-optional w ↦ joined-then three w.optional-then-optional.ensures w.if-optional.true w.value-is
-          | else-optional w ↦ joined-else (optional? t l.srcsrv_dir) three w.if-optional.false w.value-is
-        ] in
+    elim c.if-optional.branch [
+      | then-optional w ↦ joined-then three w.optional-then-optional.ensures w.if-optional.true w.value-is
+      | else-optional w ↦ joined-else (optional? t l.srcsrv_dir) three w.if-optional.false w.value-is
+    ] in
     joined-then four c.optional-then-optional-2.ensures c.if-optional-2.true refl ∙ and_five (readable? t l.name) (readable? t l.directory) (optional? t l.srcsrv_name) (optional? t l.srcsrv_dir) (optional? t l.revision)
 
 pub returns-else-optional-2 : goal.returns-else-optional-2
@@ -34,18 +34,18 @@ returns-else-optional-2 c =
     let t = c.args.text.now in
     let l = c.args.l in
     let two : c.if-readable.value ≡ readable? t l.name && readable? t l.directory =
-        elim c.if-readable.branch [
-          | then-readable w ↦ joined-then c.readable.ensures w.readable-then-readable.ensures w.if-readable.true w.value-is
-          | else-readable w ↦ joined-else (readable? t l.directory) c.readable.ensures w.if-readable.false w.value-is
-        ] in
+    elim c.if-readable.branch [
+      | then-readable w ↦ joined-then c.readable.ensures w.readable-then-readable.ensures w.if-readable.true w.value-is
+      | else-readable w ↦ joined-else (readable? t l.directory) c.readable.ensures w.if-readable.false w.value-is
+    ] in
     let three : c.if-readable-2.value ≡ (readable? t l.name && readable? t l.directory) && optional? t l.srcsrv_name =
-        elim c.if-readable-2.branch [
-          | then-readable-2 w ↦ joined-then two w.optional.ensures w.if-readable-2.true w.value-is
-          | else-readable-2 w ↦ joined-else (optional? t l.srcsrv_name) two w.if-readable-2.false w.value-is
-        ] in
+    elim c.if-readable-2.branch [
+      | then-readable-2 w ↦ joined-then two w.optional.ensures w.if-readable-2.true w.value-is
+      | else-readable-2 w ↦ joined-else (optional? t l.srcsrv_name) two w.if-readable-2.false w.value-is
+    ] in
     let four : c.if-optional.value ≡ ((readable? t l.name && readable? t l.directory) && optional? t l.srcsrv_name) && optional? t l.srcsrv_dir =
-        elim c.if-optional.branch [
-          | then-optional w ↦ joined-then three w.optional-then-optional.ensures w.if-optional.true w.value-is
-          | else-optional w ↦ joined-else (optional? t l.srcsrv_dir) three w.if-optional.false w.value-is
-        ] in
+    elim c.if-optional.branch [
+      | then-optional w ↦ joined-then three w.optional-then-optional.ensures w.if-optional.true w.value-is
+      | else-optional w ↦ joined-else (optional? t l.srcsrv_dir) three w.if-optional.false w.value-is
+    ] in
     joined-else (optional? t l.revision) four c.if-optional-2.false refl ∙ and_five (readable? t l.name) (readable? t l.directory) (optional? t l.srcsrv_name) (optional? t l.srcsrv_dir) (optional? t l.revision)

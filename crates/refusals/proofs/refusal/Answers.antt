@@ -1,8 +1,5 @@
 -- `refusals::refusal` meets its contract: the line rows' lengths, then the tests of `refusal_with`.
-use mathlib.Core.Path.{sym, ap, ◌∙◌}
-use mathlib.Core.Bool.{Bool}
-use Prim.Native.Nat.{ℕ, ◌/◌}
-use lib.ListN.{length}
+use mathlib.Core.Path.{sym, ◌∙◌}
 use Rattle.rows.specs.Columns.{columns}
 use Rattle.refusals.specs.Refusals.{refusal_with}
 use Rattle.refusals.proofs.Laws.{refusal-columns, refusal-lengths}

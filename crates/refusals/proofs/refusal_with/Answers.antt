@@ -20,9 +20,9 @@ returns-then-not-functions_texts c =
     let a = c.args in
     elim c.then-not-functions_texts.branch [
       | then-not-functions_texts-via-then-not-functions_texts w ↦
-        with_14_functions a.functions.columns64.now a.functions.columns32.now a.lines a.line_texts a.text.now a.scratch (sym c.shaped.ensures ∙ c.if-not-shaped.false) (sym c.shallow.ensures ∙ c.if-not-shallow.false) (sym c.functions_texts.ensures ∙ w.if-not-functions_texts.true)
+          with_14_functions a.functions.columns64.now a.functions.columns32.now a.lines a.line_texts a.text.now a.scratch (sym c.shaped.ensures ∙ c.if-not-shaped.false) (sym c.shallow.ensures ∙ c.if-not-shallow.false) (sym c.functions_texts.ensures ∙ w.if-not-functions_texts.true)
       | then-not-functions_texts-via-else-not-functions_texts+then-not-line_texts w ↦
-        with_14_lines a.functions.columns64.now a.functions.columns32.now a.lines a.line_texts a.text.now a.scratch (sym c.shaped.ensures ∙ c.if-not-shaped.false) (sym c.shallow.ensures ∙ c.if-not-shallow.false) (sym c.functions_texts.ensures ∙ w.if-not-functions_texts.false) w.if-not-line_texts.true
+          with_14_lines a.functions.columns64.now a.functions.columns32.now a.lines a.line_texts a.text.now a.scratch (sym c.shaped.ensures ∙ c.if-not-shaped.false) (sym c.shallow.ensures ∙ c.if-not-shallow.false) (sym c.functions_texts.ensures ∙ w.if-not-functions_texts.false) w.if-not-line_texts.true
     ]
 
 pub returns-then-not-ends : goal.returns-then-not-ends

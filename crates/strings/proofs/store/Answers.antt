@@ -62,36 +62,11 @@ module _ (text strings : List ℕ) (bytes count : ℕ) (t : List ℕ) {cap limit
 pub overflow_add-size : goal.overflow_add-size
 overflow_add-size c = omega (arith, c.leb128_len-prefix.ensures, encoded_ten (length c.args.t.now) (omega arith))
 
-pub overflow_add-start : goal.overflow_add-start
-overflow_add-start c =
-    let i = (let a = c.args in
-    inside a.text.now a.strings.now a.bytes a.count a.t.now c.capacity-cap.ensures c.text_capacity-limit.ensures c.leb128_len-prefix.ensures c.fits.ensures c.if-fits.true) in omega arith
-
 pub write-requires : goal.write-requires
 write-requires c =
     let i = (let a = c.args in
     inside a.text.now a.strings.now a.bytes a.count a.t.now c.capacity-cap.ensures c.text_capacity-limit.ensures c.leb128_len-prefix.ensures c.fits.ensures c.if-fits.true) in
     (ap (λ (n : ℕ). c.args.bytes + n) c.leb128_len-prefix.ensures, omega arith)
-
-pub overflow_cast-start : goal.overflow_cast-start
-overflow_cast-start c =
-    let i = (let a = c.args in
-    inside a.text.now a.strings.now a.bytes a.count a.t.now c.capacity-cap.ensures c.text_capacity-limit.ensures c.leb128_len-prefix.ensures c.fits.ensures c.if-fits.true) in omega arith
-
-pub overflow_cast-t : goal.overflow_cast-t
-overflow_cast-t c =
-    let i = (let a = c.args in
-    inside a.text.now a.strings.now a.bytes a.count a.t.now c.capacity-cap.ensures c.text_capacity-limit.ensures c.leb128_len-prefix.ensures c.fits.ensures c.if-fits.true) in omega arith
-
-pub overflow_add-result : goal.overflow_add-result
-overflow_add-result c =
-    let i = (let a = c.args in
-    inside a.text.now a.strings.now a.bytes a.count a.t.now c.capacity-cap.ensures c.text_capacity-limit.ensures c.leb128_len-prefix.ensures c.fits.ensures c.if-fits.true) in omega arith
-
-pub overflow_cast-result : goal.overflow_cast-result
-overflow_cast-result c =
-    let i = (let a = c.args in
-    inside a.text.now a.strings.now a.bytes a.count a.t.now c.capacity-cap.ensures c.text_capacity-limit.ensures c.leb128_len-prefix.ensures c.fits.ensures c.if-fits.true) in omega arith
 
 pub returns-then-fits : goal.returns-then-fits
 returns-then-fits c =

@@ -1,5 +1,4 @@
 -- `put_len` meets its contract: by what writing answered.
-use mathlib.Core.Path.{◌∙◌}
 use Rattle.c_words.specs.Record.{len_words}
 use Rattle.c_words.proofs.RecordLaws.{len-refused}
 use Rattle.c_words.proofs.file.put_len.Goals as goal

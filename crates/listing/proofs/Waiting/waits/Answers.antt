@@ -1,5 +1,4 @@
 use Rattle.std.proofs.Common.{rules}
-use mathlib.Core.Logic.{⊎_elim}
 use Rattle.listing.specs.Pieces.{waits?}
 use Rattle.listing.proofs.Waiting.waits.Goals as goal
 
@@ -9,4 +8,8 @@ returns-in-Nothing c = search rules
 
 pub returns-in-Bad : goal.returns-in-Bad
 unfolding waits?
-returns-in-Bad c = ⊎_elim (λ p. rw p.1) (λ p. rw p.2) c.in-Bad.is
+returns-in-Bad c = search rules
+
+pub returns-in-Frames : goal.returns-in-Frames
+unfolding waits?
+returns-in-Frames c = search rules

@@ -19,6 +19,6 @@ returns-else-name-clause-converted c =
     let X = switches b a.undecorate in
     let w = words_of a.tables.now in
     elim c.else-name.branch [
-      else-name-via-then-name+else-address-le-MAX v ↦ symbol-above X a.text.now a.address a.size a.name w v.if-name.true v.if-address-le-MAX.false
-    | else-name-via-else-name v ↦ symbol-unnamed X a.text.now a.address a.size a.name w v.if-name.false
+      | else-name-via-then-name+else-address-le-MAX v ↦ symbol-above X a.text.now a.address a.size a.name w v.if-name.true v.if-address-le-MAX.false
+      | else-name-via-else-name v ↦ symbol-unnamed X a.text.now a.address a.size a.name w v.if-name.false
     ]

@@ -1,7 +1,7 @@
 use mathlib.Core.Path.{◌∙◌}
 use Prim.Native.Nat.{◌-◌}
 use native.Mathlib.Omega.{arith}
-use Rattle.text.proofs.Leb128Reading.{decoded-rest, read_first, read-cut, read_fits, read-last, read_more, tenth_fits, tenth_last, tenth_wide}
+use Rattle.text.proofs.Leb128Reading.{decoded-rest, read_first, read-cut, read_fits, read-last, read_more, tenth_last, tenth_wide}
 use Rattle.text.proofs.Leb128Laws.{decoded-past}
 use Rattle.text.proofs.leb128.read_leb128.Goals as goal
 
@@ -49,12 +49,6 @@ pub returns-then-tenth-gt1 : goal.returns-then-tenth-gt1
 returns-then-tenth-gt1 c =
     tenth_wide c.from-tenth.result c.loop-i.invariant (omega arith) c.in_ok-get-2.ensures.lookup.3.0 (c.from-tenth.ensures ∙ c.in_ok-get-2.ensures.lookup.4 (omega arith) 0) c.if-tenth-gt1.true (omega arith)
     ∙ decoded-rest c.args.s.now c.args.at c.in_ok-rest.ensures.lookup.0.2
-
-pub overflow_mul-result-2 : goal.overflow_mul-result-2
-overflow_mul-result-2 c = omega (arith, tenth_fits c.from-tenth.result c.loop-i.invariant (omega arith) (omega arith))
-
-pub overflow_add-result-2 : goal.overflow_add-result-2
-overflow_add-result-2 c = omega (arith, tenth_fits c.from-tenth.result c.loop-i.invariant (omega arith) (omega arith))
 
 pub returns : goal.returns
 returns c =

@@ -1,11 +1,8 @@
 -- `read_text` meets its contract: each answer by its law of proofs/TextLaws.antt. Assumes nothing.
-use mathlib.Core.Path.{sym, ◌∙◌}
+use mathlib.Core.Path.{sym}
 use native.Mathlib.Omega.{arith}
-use Rattle.text.proofs.TextLaws.{prefix_within, absent_prefix, absent-cut, absent-bytes, present}
+use Rattle.text.proofs.TextLaws.{prefix_within, absent-cut}
 use Rattle.text.proofs.strings.read_text.Goals as goal
-
-pub returns-in_err-prefix : goal.returns-in_err-prefix
-returns-in_err-prefix c = c.from_residual.ensures ∙ absent_prefix c.args.section.now c.args.offset c.in_err-prefix.ensures
 
 pub overflow_add-start : goal.overflow_add-start
 overflow_add-start c =
@@ -31,13 +28,3 @@ pub slice_bounds-is_utf8-end : goal.slice_bounds-is_utf8-end
 slice_bounds-is_utf8-end c =
     let p = c.in_ok-prefix.prefix in
     omega (arith, prefix_within c.args.section.now c.args.offset p.value p.len (sym c.in_ok-prefix.ensures))
-
-pub returns-then-not-is_utf8 : goal.returns-then-not-is_utf8
-returns-then-not-is_utf8 c =
-    let p = c.in_ok-prefix.prefix in
-    absent-bytes c.args.section.now c.args.offset p.value p.len c.in_ok-prefix.ensures c.if-section-start.false c.is_utf8.ensures c.if-not-is_utf8.true
-
-pub returns : goal.returns
-returns c =
-    let p = c.in_ok-prefix.prefix in
-    present c.args.section.now c.args.offset p.value p.len c.in_ok-prefix.ensures c.if-section-start.false c.is_utf8.ensures c.if-not-is_utf8.false

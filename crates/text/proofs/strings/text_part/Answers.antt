@@ -1,7 +1,7 @@
 -- `text_part` meets its contract. Assumes nothing.
 use mathlib.Core.Path.{sym}
 use native.Mathlib.Omega.{arith}
-use Rattle.text.proofs.TextLaws.{text-within, part-absent, part-present}
+use Rattle.text.proofs.TextLaws.{text-within}
 use Rattle.text.proofs.strings.text_part.Goals as goal
 
 pub overflow_add-result : goal.overflow_add-result
@@ -13,11 +13,3 @@ pub slice_bounds-result-end : goal.slice_bounds-result-end
 slice_bounds-result-end c =
     let t = c.in-Some.text in
     text-within c.args.section.now c.args.offset t.start t.len (sym c.in-Some.ensures)
-
-pub returns-in-Some : goal.returns-in-Some
-returns-in-Some c =
-    let t = c.in-Some.text in
-    part-present c.args.section.now c.args.offset t.start t.len c.in-Some.ensures
-
-pub returns-in-None : goal.returns-in-None
-returns-in-None c = part-absent c.args.section.now c.args.offset c.in-None.ensures

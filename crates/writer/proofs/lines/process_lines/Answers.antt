@@ -64,22 +64,22 @@ loop-next_line-preserved c =
     let j = c.if-line_range_end-current_address in
     let i = m.invariant.1 (switches true true) in
     let same : SameTables m.tables j.tables = elim j.branch [
-      then-line_range_end-current_address w ↦ rw w.tables-is (same_refl m.tables)
-    | else-line_range_end-current_address+then-inline_len-next_inline w ↦ rw w.tables-is w.insert_range.ensures.same
-    | else-line_range_end-current_address+else-inline_len-next_inline+then-line_range_end-inline_start w ↦ rw w.tables-is w.insert_self_range.ensures.same
+      | then-line_range_end-current_address w ↦ rw w.tables-is (same_refl m.tables)
+      | else-line_range_end-current_address+then-inline_len-next_inline w ↦ rw w.tables-is w.insert_range.ensures.same
+      | else-line_range_end-current_address+else-inline_len-next_inline+then-line_range_end-inline_start w ↦ rw w.tables-is w.insert_self_range.ensures.same
     ] in
     let stopped : (X : Setup) → Stopped input (over_words X) r.at r.len located.result b.end l.s l.next_inline b.start (words_of located.new.tables) m.s m.next_inline j.current_address (words_of j.tables) = λ X. elim j.branch [
-      then-line_range_end-current_address w ↦ rw (w.tables-is, w.current_address-is)
-        (line-ends input (over_words X) r.at r.len located.result b.end l.s l.next_inline b.start (words_of located.new.tables)
-        m.s m.next_inline m.current_address (words_of m.tables) (m.invariant.1 X) w.if-line_range_end-current_address.true)
-    | else-line_range_end-current_address+then-inline_len-next_inline w ↦ rw (w.tables-is, w.current_address-is)
-        (no_range_left input (over_words X) r.at r.len located.result b.end l.s l.next_inline b.start (words_of located.new.tables)
-        m.s m.next_inline m.current_address (words_of m.tables) (m.invariant.1 X) w.if-line_range_end-current_address.false w.if-inline_len-next_inline.true
-        (words_of w.insert_range.new.tables) w.insert_range.ensures.put)
-    | else-line_range_end-current_address+else-inline_len-next_inline+then-line_range_end-inline_start w ↦ rw (w.tables-is, w.current_address-is)
-        (range_after input (over_words X) r.at r.len located.result b.end l.s l.next_inline b.start (words_of located.new.tables)
-        m.s m.next_inline m.current_address (words_of m.tables) (m.invariant.1 X) w.if-line_range_end-current_address.false w.if-inline_len-next_inline.false
-        w.word-inline_start.result w.word-inline_start.ensures (words_of w.insert_self_range.new.tables) w.insert_self_range.ensures.put w.if-line_range_end-inline_start.true)
+      | then-line_range_end-current_address w ↦ rw (w.tables-is, w.current_address-is)
+          (line-ends input (over_words X) r.at r.len located.result b.end l.s l.next_inline b.start (words_of located.new.tables)
+          m.s m.next_inline m.current_address (words_of m.tables) (m.invariant.1 X) w.if-line_range_end-current_address.true)
+      | else-line_range_end-current_address+then-inline_len-next_inline w ↦ rw (w.tables-is, w.current_address-is)
+          (no_range_left input (over_words X) r.at r.len located.result b.end l.s l.next_inline b.start (words_of located.new.tables)
+          m.s m.next_inline m.current_address (words_of m.tables) (m.invariant.1 X) w.if-line_range_end-current_address.false w.if-inline_len-next_inline.true
+          (words_of w.insert_range.new.tables) w.insert_range.ensures.put)
+      | else-line_range_end-current_address+else-inline_len-next_inline+then-line_range_end-inline_start w ↦ rw (w.tables-is, w.current_address-is)
+          (range_after input (over_words X) r.at r.len located.result b.end l.s l.next_inline b.start (words_of located.new.tables)
+          m.s m.next_inline m.current_address (words_of m.tables) (m.invariant.1 X) w.if-line_range_end-current_address.false w.if-inline_len-next_inline.false
+          w.word-inline_start.result w.word-inline_start.ensures (words_of w.insert_self_range.new.tables) w.insert_self_range.ensures.put w.if-line_range_end-inline_start.true)
     ] in (
       same_trans a.tables.now l.tables j.tables l.invariant.0
           (same_trans l.tables located.new.tables j.tables located.ensures.same (same_trans located.new.tables m.tables j.tables m.invariant.0 same)),

@@ -1,4 +1,5 @@
 use mathlib.Core.List.{[]}
+use Prim.Native.Nat.{◌<◌, ◌/◌}
 use native.Mathlib.Omega.{arith}
 use Prim.Native.Nat.{◌<◌}
 use Rattle.rows.specs.Columns.{columns_of, function_rows}

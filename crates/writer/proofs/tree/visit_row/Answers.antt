@@ -15,13 +15,13 @@ use Rattle.writer.proofs.tree.visit_row.Goals as goal
 pub sorted_ranges-len-requires : goal.sorted_ranges-len-requires
 sorted_ranges-len-requires c =
     let a = c.args in
-    gather_ready a.functions.columns64.now a.functions.columns32.now a.lines.columns64.now a.lines.columns32.now a.text.now a.base a.row.i a.row.first_line (length a.s.now) a.own.top c.requires.ready a.row.function c.requires.is
+    gather_ready a.functions.columns64.now a.functions.columns32.now a.lines.columns64.now a.lines.columns32.now a.text.now a.base a.row.i a.row.first_line (length a.s.now) a.top c.requires.ready a.row.function c.requires.is
 
 pub process_lines-callee_call_locations-requires : goal.process_lines-callee_call_locations-requires
 process_lines-callee_call_locations-requires c =
     let a = c.args in
-    lines-ready a.functions.columns64.now a.functions.columns32.now a.lines.columns64.now a.lines.columns32.now a.text.now a.base a.row.i a.row.first_line (length a.s.now) a.own.top c.requires.ready a.row.function c.requires.is
-    a.own.call_locations c.sorted_ranges-len.result c.requires.below a.s.now c.sorted_ranges-len.new.s c.sorted_ranges-len.auto.s c.sorted_ranges-len.ensures
+    lines-ready a.functions.columns64.now a.functions.columns32.now a.lines.columns64.now a.lines.columns32.now a.text.now a.base a.row.i a.row.first_line (length a.s.now) a.top c.requires.ready a.row.function c.requires.is
+    a.own c.sorted_ranges-len.result c.requires.below a.s.now c.sorted_ranges-len.new.s c.sorted_ranges-len.auto.s c.sorted_ranges-len.ensures
 
 pub returns-clause-left : goal.returns-clause-left
 returns-clause-left c =
@@ -37,8 +37,8 @@ returns-clause-left c =
     let lines = c.process_lines-callee_call_locations in
     λ Y n.
     let X = switches a.undecorate Y in
-    row_walked a.functions.columns64.now a.functions.columns32.now a.lines.columns64.now a.lines.columns32.now a.text.now a.base i first (length a.s.now) a.own.top c.requires.ready q c.requires.is
-    a.own.call_locations c.sorted_ranges-len.result c.requires.below X c.begin_row-function_idx.result lines.result a.s.now c.sorted_ranges-len.new.s lines.new.s c.set_calls.new.s
+    row_walked a.functions.columns64.now a.functions.columns32.now a.lines.columns64.now a.lines.columns32.now a.text.now a.base i first (length a.s.now) a.top c.requires.ready q c.requires.is
+    a.own c.sorted_ranges-len.result c.requires.below X c.begin_row-function_idx.result lines.result a.s.now c.sorted_ranges-len.new.s lines.new.s c.set_calls.new.s
     (words_of a.tables.now) (words_of c.begin_row-function_idx.new.tables) (words_of lines.new.tables) (words_of c.close_function.new.tables)
     c.requires.visited c.sorted_ranges-len.ensures (lines.auto.s ∙ c.sorted_ranges-len.auto.s) c.begin_row-function_idx.ensures.begun
     (lines.ensures.left X a.functions.columns64.now a.functions.columns32.now i c.requires.is)
