@@ -2,7 +2,7 @@
 #![tactic(auto)]
 
 use lookup::{Files, Frame, Functions, NextFile, NextFunction, SourceLocations, Step};
-use raw::{File, Function, Header, SourceLocation};
+use raw::{File, Function, Header, SourceLocation, Stored};
 use replay::{add, add_bytes, low, number, place, word};
 use std::fs;
 use std::io::Read;
@@ -22,12 +22,8 @@ fn add_four(sum: u32, a: u32, b: u32, c: u32, d: u32) -> u32 {
 
 // A text: its length and 1, then its bytes.
 fn add_text(sum: u32, text: &[u8]) -> u32 {
-    let sum = add(sum, add_one(low(text.len())));
+    let sum = add(sum, low(text.len()).wrapping_add(1));
     add_bytes(sum, text)
-}
-
-fn add_one(n: u32) -> u32 {
-    std::num::wrapping_add_u32(n, 1)
 }
 
 // A text that may be absent.
@@ -51,11 +47,9 @@ fn add_error(sum: u32, kind: ErrorKind) -> u32 {
 }
 
 fn add_header(sum: u32, h: Header) -> u32 {
-    let debug_id = h.debug_id;
-    let reserved = h.reserved;
-    let sum = add_bytes(sum, &debug_id);
-    let sum = add_two(sum, h.arch, h.variable_header as u32);
-    add_bytes(sum, &reserved)
+    let sum = add_bytes(sum, &h.debug_id);
+    let sum = add_two(sum, h.arch, u32::from(h.variable_header));
+    add_bytes(sum, &h.reserved)
 }
 
 fn add_file_row(sum: u32, f: File) -> u32 {
@@ -147,14 +141,6 @@ fn add_parsed(sum: u32, s: &[u8]) -> u32 {
 
 // Functions and files
 
-fn functions_number(s: &[u8]) -> u32 {
-    let functions = Functions { function_idx: 0 };
-    match functions.next(s) {
-        Ok(_) => 0,
-        Err(kind) => kind.number(),
-    }
-}
-
 fn add_name(sum: u32, s: &[u8], function_idx: u32) -> u32 {
     add_text(sum, file_texts::function_name(s, b"?", function_idx))
 }
@@ -188,20 +174,9 @@ fn add_each_function(sum: u32, s: &[u8]) -> u32 {
 }
 
 fn add_functions(sum: u32, s: &[u8]) -> u32 {
-    let number = functions_number(s);
-    let sum = add(sum, number);
-    if number != 0 {
-        return sum;
-    }
-    let sum = add_each_function(sum, s);
-    add(sum, 0)
-}
-
-fn files_number(s: &[u8]) -> u32 {
-    let files = Files { file_idx: 0 };
-    match files.next(s) {
-        Ok(_) => 0,
-        Err(kind) => kind.number(),
+    match (Functions { function_idx: 0 }).next(s) {
+        Ok(_) => add(add_each_function(add(sum, 0), s), 0),
+        Err(kind) => add(sum, kind.number()),
     }
 }
 
@@ -234,22 +209,19 @@ fn add_each_file(sum: u32, s: &[u8]) -> u32 {
 }
 
 fn add_files(sum: u32, s: &[u8]) -> u32 {
-    let number = files_number(s);
-    let sum = add(sum, number);
-    if number != 0 {
-        return sum;
+    match (Files { file_idx: 0 }).next(s) {
+        Ok(_) => add(add_each_file(add(sum, 0), s), 0),
+        Err(kind) => add(sum, kind.number()),
     }
-    let sum = add_each_file(sum, s);
-    add(sum, 0)
 }
 
 // Lookups
 
 fn add_frame_file(sum: u32, s: &[u8], file: Option<File>) -> u32 {
-    let Some(f) = file else {
-        return add(sum, 0);
-    };
-    add_file(sum, s, f)
+    match file {
+        Some(f) => add_file(sum, s, f),
+        None => add(sum, 0),
+    }
 }
 
 fn add_frame(sum: u32, s: &[u8], frame: Frame) -> u32 {
