@@ -6,7 +6,8 @@ ghost use Rattle.std.specs.Prelude.{◌≡◌, get_or};
 ghost use Rattle.lookup.specs.Answers.{lookup_answer, step_answer};
 ghost use Rattle.c_reading.specs.Stored.{stored};
 ghost use Rattle.c_reading.specs.Reading.{filled, moved, answered, steps_to, count_at, cache_of};
-ghost use Rattle.c_reading.specs.Reading.{find_call, walk_words, walk_of, walk_call, lookup_call, head_words, frame_words, framed_words, framed_next, next_call};
+ghost use Rattle.c_reading.specs.Reading.{find_call, walk_words, walk_of, walk_call, lookup_call};
+ghost use Rattle.c_reading.specs.Reading.{head_words, frame_words, framed_words, framed_next, next_call};
 
 use c_reading::put_file;
 use lookup::{Frame, SourceLocations, Step};

@@ -7,7 +7,8 @@ ghost use Rattle.raw.specs.Rows.{file_words_lem, function_words_lem};
 ghost use Rattle.symcache.specs.Answers.{maybe_answer};
 ghost use Rattle.lookup.specs.Answers.{functions_answer, files_answer};
 ghost use Rattle.c_reading.specs.Reading.{filled, moved, answered, steps_to, row_answer_words};
-ghost use Rattle.c_reading.specs.Reading.{function_call, file_call, cursor_index, next_function_words, function_next, functions_call, next_file_words, file_next};
+ghost use Rattle.c_reading.specs.Reading.{function_call, file_call, cursor_index, next_function_words, function_next, functions_call};
+ghost use Rattle.c_reading.specs.Reading.{next_file_words, file_next};
 ghost use Rattle.c_reading.specs.Reading.{files_call};
 
 use c_reading::{put_file, put_function};

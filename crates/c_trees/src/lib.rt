@@ -83,7 +83,8 @@ pub fn lines_refusal(
     texts: bool,
     text: &[u8],
 ) -> Result<(), Refusal>
-    ensures { let usable = usable_by (converter_of «record».now) tables.string_bytes tables.strings tables.files tables.functions tables.call_locations tables.ranges in
+    ensures { let usable = usable_by (converter_of «record».now) tables.string_bytes tables.strings tables.files
+        tables.functions tables.call_locations tables.ranges in
         code_of result
         ≡ number_of usable scratch unpacked64 unpacked32 functions.entry.columns64.now functions.entry.columns32.now lines texts text.now }
 {

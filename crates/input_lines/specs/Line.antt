@@ -1,5 +1,30 @@
 -- A line of the lister's input (document 01, "Lister"), as a list of bytes without its 0A.
-use Rattle.std.specs.Prelude.{ℕ, Option, Some, None, Result, ◌+◌, ◌-◌, ◌*◌, ◌%◌, Bool, true, false, cond, not, ◌&&◌, ◌||◌, List, [], ◌∷◌, ◌++◌, length, ◌==◌, nat_le, nat_lt}
+use Rattle.std.specs.Prelude.{
+  ℕ,
+  Option,
+  Some,
+  None,
+  Result,
+  ◌+◌,
+  ◌-◌,
+  ◌*◌,
+  ◌%◌,
+  Bool,
+  true,
+  false,
+  cond,
+  not,
+  ◌&&◌,
+  ◌||◌,
+  List,
+  [],
+  ◌∷◌,
+  ◌++◌,
+  length,
+  ◌==◌,
+  nat_le,
+  nat_lt,
+}
 use Rattle.input_lines.specs.declared.LineState.{LineState}
 use Rattle.input_lines.specs.declared.BadLine.{BadLine}
 

@@ -7,7 +7,8 @@ ghost use Rattle.listing.specs.declared.Waiting.TheVariants as waiting;
 ghost use Rattle.listing.specs.declared.Refused.TheVariants as refused;
 ghost use Rattle.symcache.specs.Answers.{maybe_of};
 ghost use Rattle.lookup.specs.Lookup.{stepped};
-ghost use Rattle.listing.specs.Pieces.{frame_in, listing_start, refused_of, begin_answer, begun_of, waits?, waiting_for, frame_line, printed_out, print_of, bad_printed, no_more};
+ghost use Rattle.listing.specs.Pieces.{frame_in, listing_start, refused_of, begin_answer, begun_of, waits?, waiting_for};
+ghost use Rattle.listing.specs.Pieces.{frame_line, printed_out, print_of, bad_printed, no_more};
 ghost use Rattle.listing.specs.Pieces.{listed_out, list_of, end_of};
 
 use input_lines::{BadLine, Input};

@@ -1,6 +1,32 @@
 -- What `undecorate_win_symbol` of writer.rs gives, branch by branch, as a function of the name's bytes (document 01, "Names").
 -- A character that the Rust tests for is written as its ASCII byte.
-use Rattle.std.specs.Prelude.{Option, None, Some, unwrap_or, ℕ, zero, suc, ◌+◌, ◌*◌, ◌-◌, List, [], ◌∷◌, Bool, true, false, cond, ◌&&◌, ◌||◌, length, take, drop, ltb, leb, eqb}
+use Rattle.std.specs.Prelude.{
+  Option,
+  None,
+  Some,
+  unwrap_or,
+  ℕ,
+  zero,
+  suc,
+  ◌+◌,
+  ◌*◌,
+  ◌-◌,
+  List,
+  [],
+  ◌∷◌,
+  Bool,
+  true,
+  false,
+  cond,
+  ◌&&◌,
+  ◌||◌,
+  length,
+  take,
+  drop,
+  ltb,
+  leb,
+  eqb,
+}
 use Rattle.std.specs.Option.{option_map}
 
 -- `starts_with(p)`: the first bytes of a name are p.

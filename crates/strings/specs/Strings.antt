@@ -87,7 +87,8 @@ text_stored offset bytes count = record { offset = offset; bytes = bytes; count 
 
 -- with no room nothing is written: the count of bytes is above its capacity if the text had no room, else the count of texts
 unfoldable pub full_of : ℕ → ℕ → ℕ → ℕ → ℕ → Stored
-full_of bytes count size limit cap = cond (leb (bytes + size) limit) (text_stored bytes bytes (over_of count cap)) (text_stored bytes (over_of bytes limit) count)
+full_of bytes count size limit cap =
+    cond (leb (bytes + size) limit) (text_stored bytes bytes (over_of count cap)) (text_stored bytes (over_of bytes limit) count)
 
 -- a new text, at the end of the section and of the index, where both have room
 unfoldable pub store_of : List ℕ → List ℕ → ℕ → ℕ → List ℕ → StringsLeft

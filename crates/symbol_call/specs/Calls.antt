@@ -38,5 +38,7 @@ finished c s w =
 unfoldable pub symbol_of : Converter → Memory → List ℕ → ℕ → ℕ → OptionalPart → Called
 symbol_of c m t address size name =
     cond (usable? c m)
-    (cond (optional? t name) (finished c [] (convert_symbol_m input (over_words (setup c)) (symbol_row_lem t address size name) (words_of_lem c m))) (called 14 c m []))
+    (cond (optional? t name)
+    (finished c [] (convert_symbol_m input (over_words (setup c)) (symbol_row_lem t address size name) (words_of_lem c m)))
+    (called 14 c m []))
     (called 19 c m [])
