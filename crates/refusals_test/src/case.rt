@@ -108,8 +108,24 @@ impl TryFrom<&[u8]> for Word {
     }
 }
 
+// A number with one digit more. Beyond 64 bits it stays, and so it does at a byte below a digit.
+fn with_digit(v: u64, d: u8) -> u64 {
+    if v > u64::MAX / 10 || d < b'0' {
+        return v;
+    }
+    (v * 10).wrapping_add(u64::from(d - b'0'))
+}
+
+// A word that begins with a digit is a number.
 fn number(w: &[u8]) -> Option<u64> {
-    std::str::from_utf8(w).ok()?.parse().ok()
+    if !w.first()?.is_ascii_digit() {
+        return None;
+    }
+    let mut v = 0;
+    for d in w {
+        v = with_digit(v, *d);
+    }
+    Some(v)
 }
 
 // `begun` is how much of each slice is lent to the calls before the one under test, `lent` how much to that one. `words` are what a call is given.
