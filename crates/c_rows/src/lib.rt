@@ -1,15 +1,12 @@
 // Rows and the two iterators of the reader over words. The exported functions of these names pass on what these answer.
 #![tactic(auto)]
 
-ghost use Rattle.std.specs.Prelude.{◌≡◌, ℕ, List};
+ghost use Rattle.std.specs.Prelude.{◌≡◌, ℕ, List, [], ◌∷◌};
 ghost use Rattle.std.proofs.lemmas.List.Edits.{sets};
 ghost use Rattle.raw.specs.Rows.{file_words_lem, function_words_lem};
 ghost use Rattle.symcache.specs.Answers.{maybe_answer};
-ghost use Rattle.lookup.specs.Answers.{functions_answer, files_answer};
 ghost use Rattle.c_reading.specs.Reading.{filled, moved, answered, steps_to, row_answer_words};
-ghost use Rattle.c_reading.specs.Reading.{function_call, file_call, cursor_index, next_function_words, function_next, functions_call};
-ghost use Rattle.c_reading.specs.Reading.{next_file_words, file_next};
-ghost use Rattle.c_reading.specs.Reading.{files_call};
+ghost use Rattle.c_reading.specs.Reading.{function_call, file_call, cursor_index, function_next, functions_call, file_next, files_call};
 
 use c_reading::{put_file, put_function};
 use lookup::{Files, Functions, NextFile, NextFunction};
@@ -17,28 +14,71 @@ use raw::{File, Function};
 use slices::{put, word};
 use symcache::ErrorKind;
 
-// A row of a file, as words.
+// What is handed out as words after the word that says whether there is one.
 trait Row: Copy {
     ghost words: { Self → List ℕ };
 
-    // Its words, from word k on.
-    fn put(self, row: &mut [u32], k: u32)
-        ensures { row.new ≡ sets row.old k (words self) };
+    // Its words, from word 1 on.
+    fn put(self, row: &mut [u32])
+        ensures { row.new ≡ sets row.old 1 (words self) };
 }
 
 impl Row for Function {
     ghost words = { function_words_lem };
 
-    fn put(self, row: &mut [u32], k: u32) {
-        put_function(row, k, self);
+    fn put(self, row: &mut [u32]) {
+        put_function(row, 1, self);
     }
 }
 
 impl Row for File {
     ghost words = { file_words_lem };
 
-    fn put(self, row: &mut [u32], k: u32) {
-        put_file(row, k, self);
+    fn put(self, row: &mut [u32]) {
+        put_file(row, 1, self);
+    }
+}
+
+impl Row for NextFunction {
+    ghost words = { λ x. x.index ∷ function_words_lem x.function };
+
+    fn put(self, row: &mut [u32]) {
+        put(row, 1, self.index);
+        put_function(row, 2, self.function);
+    }
+}
+
+impl Row for NextFile {
+    ghost words = { λ x. x.index ∷ file_words_lem x.file };
+
+    fn put(self, row: &mut [u32]) {
+        put(row, 1, self.index);
+        put_file(row, 2, self.file);
+    }
+}
+
+// A row with the place where the reading goes on.
+trait Step: Row {
+    ghost goes_on: { Self → List ℕ };
+
+    // The index from which on to look.
+    fn cursor(self) -> u32
+        ensures { goes_on self ≡ result ∷ [] };
+}
+
+impl Step for NextFunction {
+    ghost goes_on = { function_next };
+
+    fn cursor(self) -> u32 {
+        self.next.function_idx
+    }
+}
+
+impl Step for NextFile {
+    ghost goes_on = { file_next };
+
+    fn cursor(self) -> u32 {
+        self.next.file_idx
     }
 }
 
@@ -50,7 +90,7 @@ fn put_got<T: Row>(row: &mut [u32], got: Result<Option<T>, ErrorKind>) -> u32
     match got {
         Ok(Some(x)) => {
             put(row, 0, 1);
-            x.put(row, 1);
+            x.put(row);
             0
         }
         Ok(None) => {
@@ -59,6 +99,18 @@ fn put_got<T: Row>(row: &mut [u32], got: Result<Option<T>, ErrorKind>) -> u32
         }
         Err(kind) => kind.number(),
     }
+}
+
+// The same of a step, and where the reading goes on.
+#[tactic(auto, unfolding(c_reading::specs::Reading::answered, c_reading::specs::Reading::steps_to))]
+fn put_step<T: Step>(cursor: &mut [u32], row: &mut [u32], step: Result<Option<T>, ErrorKind>) -> u32
+    ensures { moved result cursor.new row.new
+        ≡ steps_to T.goes_on (λ x. 1 ∷ T.words x) (maybe_answer step) cursor.old row.old }
+{
+    if let Ok(Some(x)) = step {
+        put(cursor, 0, x.cursor());
+    }
+    put_got(row, step)
 }
 
 #[tactic(auto, unfolding(c_reading::specs::Reading::function_call))]
@@ -86,39 +138,6 @@ fn index_of(cursor: &[u32]) -> u32
     word(cursor, 0)
 }
 
-#[tactic(auto, unfolding(c_reading::specs::Reading::steps_to))]
-fn put_function_step(
-    cursor: &mut [u32],
-    row: &mut [u32],
-    step: Result<Option<NextFunction>, ErrorKind>,
-) -> u32
-    ensures { moved result cursor.new row.new
-        ≡ steps_to function_next next_function_words (functions_answer step) cursor.old row.old }
-{
-    match step {
-        Ok(
-            Some(
-                NextFunction {
-                    index,
-                    function,
-                    next,
-                },
-            ),
-        ) => {
-            put(cursor, 0, next.function_idx);
-            put(row, 0, 1);
-            put(row, 1, index);
-            put_function(row, 2, function);
-            0
-        }
-        Ok(None) => {
-            put(row, 0, 0);
-            0
-        }
-        Err(kind) => kind.number(),
-    }
-}
-
 // The next function that has an entry, from the cursor on.
 #[tactic(auto, unfolding(c_reading::specs::Reading::functions_call))]
 pub fn functions_next(bytes: &[u8], cursor: &mut [u32], row: &mut [u32]) -> u32
@@ -127,32 +146,7 @@ pub fn functions_next(bytes: &[u8], cursor: &mut [u32], row: &mut [u32]) -> u32
     let functions = Functions {
         function_idx: index_of(cursor),
     };
-    put_function_step(cursor, row, functions.next(bytes))
-}
-
-#[tactic(auto, unfolding(c_reading::specs::Reading::steps_to))]
-fn put_file_step(
-    cursor: &mut [u32],
-    row: &mut [u32],
-    step: Result<Option<NextFile>, ErrorKind>,
-) -> u32
-    ensures { moved result cursor.new row.new
-        ≡ steps_to file_next next_file_words (files_answer step) cursor.old row.old }
-{
-    match step {
-        Ok(Some(NextFile { index, file, next })) => {
-            put(cursor, 0, next.file_idx);
-            put(row, 0, 1);
-            put(row, 1, index);
-            put_file(row, 2, file);
-            0
-        }
-        Ok(None) => {
-            put(row, 0, 0);
-            0
-        }
-        Err(kind) => kind.number(),
-    }
+    put_step(cursor, row, functions.next(bytes))
 }
 
 // The next file, from the cursor on.
@@ -163,5 +157,5 @@ pub fn files_next(bytes: &[u8], cursor: &mut [u32], row: &mut [u32]) -> u32
     let files = Files {
         file_idx: index_of(cursor),
     };
-    put_file_step(cursor, row, files.next(bytes))
+    put_step(cursor, row, files.next(bytes))
 }

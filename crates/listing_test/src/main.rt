@@ -8,7 +8,6 @@ use input_lines::Input;
 use listing::Listing;
 use replay::{place, word};
 use std::fs;
-use std::io::Read;
 
 // A file, an input, and what is to be printed of it.
 #[derive(Clone, Copy)]
@@ -162,28 +161,10 @@ fn replay_case(rt: &impl Print, s: &[u8]) {
     tally.print(rt);
 }
 
-// Replays the next record, and answers whether there was one.
-fn replay_next<F: Read>(rt: &impl Print, from: &mut F) -> bool {
-    let mut record = [0u8; 65536];
-    let Some(n) = replay::read_record(from, &mut record) else {
-        return false;
-    };
-    replay_case(rt, &record[..n]);
-    true
-}
-
-// Nothing says that the container ends, so the records are counted.
-fn replay_all<F: Read>(rt: &impl Print, from: &mut F) {
-    for _ in 0..u32::MAX {
-        if !replay_next(rt, from) {
-            break;
-        }
-    }
-}
-
 fn main(rt: HostRuntime) {
     let Ok(mut from) = fs::open(&rt, "listing.cases") else {
         return;
     };
-    replay_all(&rt, &mut from);
+    let mut record = [0u8; 65536];
+    replay::each_record(&mut from, &mut record, |case| replay_case(&rt, case));
 }

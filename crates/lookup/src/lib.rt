@@ -47,7 +47,7 @@ pub struct Functions {
     pub function_idx: u32,
 }
 
-// A function, its index, and the functions after it.
+// A function, its index, and the functions after it. (Not one struct with `NextFile`: generic in the row and what comes after, it would share no method.)
 #[derive(Clone, Copy)]
 pub struct NextFunction {
     pub index: u32,

@@ -1,7 +1,9 @@
 -- A count of at most a slice's length is the length of the part that it counts; the checksum of what is still to come; digits.
-use Rattle.std.proofs.Common.{◌≡◌, ℕ, ◌+◌, ◌<◌, ◌≤◌, List, length, get_or, drop, sym, add-one, length-take-le, drop-cons, le-ltb, lt-ltb}
+use Rattle.std.proofs.Common.{◌≡◌, ℕ, ◌+◌, ◌<◌, ◌≤◌, List, length, get_or, drop, sym, add-one, length-append, length-take-le, drop-cons, le-ltb, lt-ltb}
 use lib.Seq.{drop-length}
-use Rattle.replay.specs.Counts.{IsPrefixLen}
+use Rattle.std.specs.Prelude.{◌++◌, ◌∷◌, []}
+use Rattle.std.proofs.lemmas.Fn.{FoldsTo-push}
+use Rattle.replay.specs.Counts.{IsPrefixLen, Visited}
 use Rattle.replay.specs.Sums.{sum_with, sum_with_all, sum_digit}
 
 pub counts : (n : ℕ) (t : List ℕ) → n ≤ length t → IsPrefixLen n t
@@ -21,3 +23,7 @@ low_digit d h = rw (lt-ltb d 10 h)
 
 pub high_digit : (d : ℕ) → 10 ≤ d → 55 + d ≡ sum_digit d
 high_digit d h = rw (le-ltb d 10 h)
+
+-- a record more was visited
+pub visited : {P A : Type 0} (R : P → A → P → Type 0) (p : P) (n : ℕ) (q : P) (x : A) (u : P) → Visited R p n q → R q x u → Visited R p (n + 1) u
+visited R p n q x u (xs, calls, e) r = (xs ++ (x ∷ []), FoldsTo-push R p xs q x u calls r, rw (length-append xs (x ∷ []), e))

@@ -2,7 +2,7 @@
 #![tactic(auto)]
 
 ghost use Rattle.std.specs.Prelude.{◌≡◌, ◌+◌, ◌*◌, ◌%◌, ◌≤◌, length, IfSome};
-ghost use Rattle.replay.specs.Counts.{IsPrefixLen};
+ghost use Rattle.replay.specs.Counts.{IsPrefixLen, Visited};
 ghost use Rattle.slices.specs.Bytes.{le_at};
 ghost use Rattle.replay.specs.Sums.{sum_with, sum_with_all, sum_digit, sum_line};
 
@@ -63,6 +63,21 @@ pub fn read_record<F: Read>(from: &mut F, to: &mut [u8]) -> Option<usize>
     }
     let n = word(&length, 0);
     Some(read_body(from, to, n))
+}
+
+// Gives the records of a container to `visit`, one after the other, each in `to`, and answers how many there were. Nothing says that a container ends, so
+// they are counted.
+pub fn each_record<R: Read, F: FnMut(&[u8])>(from: &mut R, to: &mut [u8], mut visit: F) -> u32
+    requires callable { F.IsAlwaysCallable visit }
+    ensures { (last : F) × Visited (λ p x q. F.step p x tt q) visit result last }
+{
+    for count in 0..u32::MAX {
+        let Some(n) = read_record(from, to) else {
+            return count;
+        };
+        visit(&to[..n]);
+    }
+    u32::MAX
 }
 
 // Numbers

@@ -5,7 +5,6 @@ use lookup::{Files, Frame, Functions, NextFile, NextFunction, SourceLocations, S
 use raw::{File, Function, Header, SourceLocation, Stored};
 use replay::{add, add_bytes, low, number, place, word};
 use std::fs;
-use std::io::Read;
 use symcache::{ErrorKind, SymCache};
 
 // Words
@@ -297,28 +296,10 @@ fn replay_case(rt: &impl Print, record: &[u8]) {
     let _ = rt.write_all(&line);
 }
 
-// Replays the next record, and answers whether there was one.
-fn replay_next<F: Read>(rt: &impl Print, from: &mut F) -> bool {
-    let mut record = [0u8; 16384];
-    let Some(n) = replay::read_record(from, &mut record) else {
-        return false;
-    };
-    replay_case(rt, &record[..n]);
-    true
-}
-
-// Nothing says that the container ends, so the records are counted.
-fn replay_all<F: Read>(rt: &impl Print, from: &mut F) {
-    for _ in 0..u32::MAX {
-        if !replay_next(rt, from) {
-            break;
-        }
-    }
-}
-
 fn main(rt: HostRuntime) {
     let Ok(mut from) = fs::open(&rt, "reader.cases") else {
         return;
     };
-    replay_all(&rt, &mut from);
+    let mut record = [0u8; 16384];
+    replay::each_record(&mut from, &mut record, |case| replay_case(&rt, case));
 }

@@ -7,7 +7,6 @@ use raw::{Header, Stored};
 use replay::{add, add_bytes, low, number, place, word};
 use rows::{FunctionRows, LineRows, OptionalPart, TextPart};
 use std::fs;
-use std::io::Read;
 
 // What a record says.
 #[derive(Clone, Copy)]
@@ -159,17 +158,6 @@ impl Replay<'_> {
             }
         }
     }
-
-    // Nothing says that the container ends, so the records are counted.
-    fn replay_all<F: Read>(&mut self, rt: &impl Print, from: &mut F) {
-        let mut record = [0u8; 16384];
-        for _ in 0..u32::MAX {
-            let Some(n) = replay::read_record(from, &mut record) else {
-                break;
-            };
-            self.step(rt, &record[..n]);
-        }
-    }
 }
 
 fn main(rt: HostRuntime) {
@@ -197,5 +185,6 @@ fn main(rt: HostRuntime) {
         tables,
         sum: replay::START,
     };
-    replay.replay_all(&rt, &mut from);
+    let mut record = [0u8; 16384];
+    replay::each_record(&mut from, &mut record, |call| replay.step(&rt, call));
 }
