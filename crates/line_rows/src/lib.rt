@@ -86,6 +86,7 @@ pub fn unpack(
 }
 
 // What the call is refused with before a word is unpacked: closed, else what its rows are refused with, else too little memory to unpack them into.
+#[tactic(auto, unfolding(crate::specs::Numbers::number_of))]
 pub fn refusal(
     usable: bool,
     scratch: usize,

@@ -25,6 +25,7 @@ fn contains(s: &[u8]) -> bool
 fn rfind(s: &[u8], pat: &[u8]) -> Option<usize>
     ensures { result ≡ rfind pat.now s.now (length s.now) }
 {
+    // not `(0..n).rev().find(..)`: no plainer, the same test in a closure
     for i in (0..s.len()).rev() {
         if s[i..].starts_with(pat) {
             return Some(i);

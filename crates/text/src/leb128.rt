@@ -17,6 +17,7 @@ pub fn leb128_len(v: u64) -> usize
 {
     let mut rest = v;
     let mut n = 1;
+    // no `for`: how many there are only the division shows
     while 128 <= rest {
         rest /= 128;
         n += 1;

@@ -84,6 +84,7 @@ pub fn is_utf8(s: &[u8]) -> bool
     ensures { result ≡ utf8 s.now }
 {
     let mut rest = s;
+    // no `for`: it goes on by as many bytes as a character or a run of eights took
     while !rest.is_empty() {
         let Some(n) = run_len(rest) else {
             return false;
