@@ -69,18 +69,25 @@ pub struct NextFile {
     pub next: Files,
 }
 
+// What the search reads of a cache.
+fn tables_of(cache: SymCache) -> search::Tables
+    ensures { result ≡ record { source_locations = cache.source_locations; num_source_locations = cache.num_source_locations;
+        ranges = cache.ranges; num_ranges = cache.num_ranges } }
+{
+    search::Tables {
+        source_locations: cache.source_locations,
+        num_source_locations: cache.num_source_locations,
+        ranges: cache.ranges,
+        num_ranges: cache.num_ranges,
+    }
+}
+
 // The index of the source location that an address belongs to. `cache` is what `open` gave for these bytes.
 pub fn find(s: &[u8], cache: SymCache, addr: u64) -> Option<u32>
     ensures found { unwrap_or result max32 ≡ found_at s.now cache addr }
     ensures inside { IfSome result (λ i. (i < cache.num_source_locations) × (cache.source_locations + 16 * cache.num_source_locations ≤ length s.now)) }
 {
-    let tables = search::Tables {
-        source_locations: cache.source_locations,
-        num_source_locations: cache.num_source_locations,
-        ranges: cache.ranges,
-        num_ranges: cache.num_ranges,
-    };
-    tables.find(s, addr)
+    tables_of(cache).find(s, addr)
 }
 
 // The rows of a file that was read
@@ -147,7 +154,8 @@ fn unless(i: u32, none: bool) -> u32
 pub fn walk(s: &[u8], cache: SymCache, addr: u64) -> SourceLocations
     ensures { result ≡ walk_at_lem s.now cache addr }
 {
-    let Some(i) = find(s, cache, addr) else {
+    // not by `find`, which is to stay so small that a caller with a cache of words reads four of them
+    let Some(i) = tables_of(cache).find(s, addr) else {
         return walk_from(u32::MAX);
     };
     let location = location_in(s, cache, i);
