@@ -4,6 +4,7 @@ use Rattle.std.proofs.Math.Seq.{take-suc}
 use Rattle.std.proofs.lemmas.List.{get_or-drop, length-drop}
 use Rattle.slices.specs.Bytes.{bytes_at}
 use Rattle.slices.proofs.Bytes.{bytes_at_more}
+use Rattle.raw.specs.Cuts.{version_info-cut, header-cut, file-cut, function-cut, location-cut, range_cut}
 
 pub taken : (n : ℕ) (s : List ℕ) (at : ℕ) → at + n ≤ length s → take n (drop at s) ≡ bytes_at n s at
 unfolding bytes_at
@@ -14,3 +15,6 @@ taken (suc n) s at h =
 
 pub taken_range : (n : ℕ) (s : List ℕ) (at : ℕ) → at + n ≤ length s → take (at + n - at) (drop at s) ≡ bytes_at n s at
 taken_range n s at h = let e : at + n - at ≡ n = omega arith in rw e (taken n s at h)
+
+-- what each row says of bytes cut out
+pub ruleset cuts = (version_info-cut, header-cut, file-cut, function-cut, location-cut, range_cut)

@@ -10,7 +10,7 @@ use lib.Dec.{leb}
 use Rattle.std.specs.Int.{w32, from_le_bytes, to_le_bytes}
 use borrow.Author.Tests.{leb-true, leb-false, le-leb, lt-leb}
 use lib.ListN.{length, get_or, set, take, drop, length-append, take-append-drop}
-use lib.Seq.{sets, sets-eq, get_or-append_seam, length-take-le, take_at, take-suc-set, take-length, set_out, length-sets}
+use lib.Seq.{sets, sets-eq, get_or-append_seam, length-take-le, take_at, take-suc, take-suc-set, take-length, set_out, length-sets}
 use Rattle.slices.specs.Bytes.{le, le_at, bytes_at, word_bytes, Words32, Stands, table_bytes}
 
 -- lengths
@@ -148,6 +148,12 @@ sets_join (v ∷ vs) ws s at n e = sets_join vs ws (set s at v) (suc at) n (omeg
 -- a run begun at the front of zeros is what its length takes of them
 pub take-sets : (bs z : List ℕ) (n : ℕ) → length bs ≡ n → n ≤ length z → take n (sets z 0 bs) ≡ bs
 take-sets bs z n e h = rw (sets-eq bs z 0 (omega arith)) (take_at bs (drop (0 + length bs) z) n e)
+
+-- one more of them
+pub copied_more : (s : List ℕ) (at : ℕ) (t u : List ℕ) (i : ℕ) → i < length t → u ≡ sets s at (take i t) → set u (at + i) (get_or t i 0) ≡ sets s at (take (i + 1) t)
+copied_more s at t u i h e =
+    rw (add-one i, take-suc t i 0 h, e)
+    (sets_join (take i t) (get_or t i 0 ∷ []) s at (at + i) (rw (length-take-le i t (let k : i ≤ length t = omega arith in k))))
 
 -- what lies past the end is not stored
 pub sets-beyond : (vs s : List ℕ) (at : ℕ) → length s ≤ at → sets s at vs ≡ s
