@@ -1,7 +1,6 @@
 -- `process_symbolic_function_lines` meets its contract: what its calls give, with a name for each.
-use Rattle.std.proofs.Common.{◌≡◌, refl, ap, ◌∙◌, Result, Err, rules}
+use Rattle.std.proofs.Common.{◌≡◌, refl, ◌∙◌, Result, Err, rules}
 use Rattle.errors.specs.declared.Refusal.{Refusal}
-use Rattle.errors.specs.Numbers.{code_of}
 use Rattle.errors.proofs.Laws.{number-not_0}
 use Rattle.memory.specs.Memory.{memory_of}
 use Rattle.c_trees.proofs.LinesLaws.{unpacked_refused, lines-made}
