@@ -33,6 +33,7 @@ pub fn begin(
     tables: &mut Tables,
 ) -> Result<(), Refusal>
     ensures same { SameTables tables.old tables.new }
+    ensures state { tables.new.state ≡ tables.old.state }
     ensures left { call_left (code_of result) «record».new (memory_of tables.new) []
         ≡ begin_call «record».old debug_id.now arch undecorate_functions undecorate_symbols (memory_of tables.old) }
 {

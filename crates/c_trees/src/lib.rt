@@ -13,7 +13,7 @@ ghost use Rattle.c_words.specs.Writing.{call_left, tree_call, symbol_call, lines
 ghost use Rattle.c_trees.specs.Unpacked.{unpacked_call};
 
 use c_words::record::{load, store_answer};
-use errors::Refusal;
+use errors::{Refusal, code_of};
 use memory::{Lengths, Tables, is_usable};
 use rows::{FunctionRows, LineRow, LineRows, OptionalPart};
 use slices::zero;
@@ -28,6 +28,7 @@ pub fn process_symbolic_function(
     text: &[u8],
 ) -> Result<(), Refusal>
     ensures same { SameTables tables.old tables.new }
+    ensures state { tables.new.state ≡ tables.old.state }
     ensures left { call_left (code_of result) «record».new (memory_of tables.new) scratch.new
         ≡ tree_call «record».old (memory_of tables.old) scratch.old (columns_of functions.entry lines.entry text.now) }
 {
@@ -40,7 +41,7 @@ pub fn process_symbolic_function(
         lines,
         text,
     );
-    store_answer(record, answer, converter);
+    store_answer(record, code_of(answer), converter);
     answer
 }
 
@@ -54,6 +55,7 @@ pub fn process_symbolic_symbol(
     name: OptionalPart,
 ) -> Result<(), Refusal>
     ensures same { SameTables tables.old tables.new }
+    ensures state { tables.new.state ≡ tables.old.state }
     ensures left { call_left (code_of result) «record».new (memory_of tables.new) []
         ≡ symbol_call «record».old (memory_of tables.old) text.now address size name }
 {
@@ -66,7 +68,7 @@ pub fn process_symbolic_symbol(
         size,
         name,
     );
-    store_answer(record, answer, converter);
+    store_answer(record, code_of(answer), converter);
     answer
 }
 
@@ -100,9 +102,8 @@ pub fn lines_refusal(
     )
 }
 
-// The tree over the rows that were unpacked, unless it is refused; they are zeroed after it. Too little scratch memory where less was lent than they ask for.
-pub fn process_unpacked(
-    refused: Result<(), Refusal>,
+// The tree over the rows that were unpacked; they are zeroed after it. Too little scratch memory where less was lent than they ask for.
+fn convert_unpacked(
     lines: usize,
     record: &mut [u32],
     tables: &mut Tables,
@@ -113,11 +114,11 @@ pub fn process_unpacked(
     text: &[u8],
 ) -> Result<(), Refusal>
     ensures same { SameTables tables.old tables.new }
+    ensures state { tables.new.state ≡ tables.old.state }
     ensures left { lines_left_lem (call_left (code_of result) «record».new (memory_of tables.new) scratch.new) unpacked64.new unpacked32.new
-        ≡ unpacked_call (code_of refused) lines «record».old (memory_of tables.old) scratch.old unpacked64.old unpacked32.old
+        ≡ unpacked_call 0 lines «record».old (memory_of tables.old) scratch.old unpacked64.old unpacked32.old
         functions.entry.columns64.now functions.entry.columns32.now text.now }
 {
-    refused?;
     if lines > unpacked64.len() / 3 {
         return Err(Refusal::ScratchTooSmall);
     }
@@ -134,6 +135,39 @@ pub fn process_unpacked(
     answer
 }
 
+// The same, unless it is refused: then the number is passed on, whatever it is.
+pub fn process_unpacked(
+    refused: u32,
+    lines: usize,
+    record: &mut [u32],
+    tables: &mut Tables,
+    scratch: &mut [u32],
+    unpacked64: &mut [u64],
+    unpacked32: &mut [u32],
+    functions: FunctionRows,
+    text: &[u8],
+) -> u32
+    ensures same { SameTables tables.old tables.new }
+    ensures state { tables.new.state ≡ tables.old.state }
+    ensures left { lines_left_lem (call_left result «record».new (memory_of tables.new) scratch.new) unpacked64.new unpacked32.new
+        ≡ unpacked_call refused lines «record».old (memory_of tables.old) scratch.old unpacked64.old unpacked32.old
+        functions.entry.columns64.now functions.entry.columns32.now text.now }
+{
+    if refused != 0 {
+        return refused;
+    }
+    code_of(convert_unpacked(
+        lines,
+        record,
+        tables,
+        scratch,
+        unpacked64,
+        unpacked32,
+        functions,
+        text,
+    ))
+}
+
 // A tree whose line rows are one list. They are unpacked into memory that is lent for them, if the call isn't refused before that.
 pub fn process_symbolic_function_lines(
     record: &mut [u32],
@@ -146,6 +180,7 @@ pub fn process_symbolic_function_lines(
     text: &[u8],
 ) -> Result<(), Refusal>
     ensures same { SameTables tables.old tables.new }
+    ensures state { tables.new.state ≡ tables.old.state }
     ensures left { lines_left_lem (call_left (code_of result) «record».new (memory_of tables.new) scratch.new) unpacked64.new unpacked32.new
         ≡ lines_call «record».old (memory_of tables.old) scratch.old unpacked64.old unpacked32.old
         (line_columns functions.entry.columns64.now functions.entry.columns32.now lines.now text.now) }
@@ -161,9 +196,9 @@ pub fn process_symbolic_function_lines(
         line_rows::lines_texts(lines, text),
         text,
     );
-    line_rows::unpack(refused, lines, unpacked64, unpacked32);
-    process_unpacked(
-        refused,
+    line_rows::unpack(code_of(refused), lines, unpacked64, unpacked32);
+    refused?;
+    convert_unpacked(
         lines.len(),
         record,
         tables,

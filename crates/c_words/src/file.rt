@@ -1,21 +1,21 @@
 // The written file, and its length as a word.
 ghost use Rattle.std.specs.Prelude.{◌≡◌};
 ghost use Rattle.errors.specs.Numbers.{code_of};
-ghost use Rattle.serialize.specs.File.{len_of};
 ghost use Rattle.memory.specs.Memory.{memory_in};
 ghost use Rattle.c_words.specs.Record.{len_words};
 ghost use Rattle.c_words.specs.Writing.{left_file, serialize_call};
 
 use crate::record::load;
-use errors::Refusal;
+use errors::{Refusal, code_of};
 use memory::Lent;
 use slices::put;
 
 // The length of a file that was written.
-pub fn put_len(len: &mut [u64], written: Result<usize, Refusal>)
-    ensures { len.new ≡ len_words (code_of written) (len_of written) len.old }
+#[tactic(auto, unfolding(crate::specs::Record::len_words))]
+pub fn put_len(len: &mut [u64], code: u32, n: usize)
+    ensures { len.new ≡ len_words code n len.old }
 {
-    if let Ok(n) = written {
+    if code == 0 {
         put(len, 0, n as u64);
     }
 }
@@ -30,6 +30,8 @@ pub fn serialize(
     ensures { left_file (code_of result) out.new len.new ≡ serialize_call «record».now (memory_in lent.entry) out.old len.old }
 {
     let written = serialize::serialize(load(record), lent, out);
-    put_len(len, written);
+    let code = code_of(written);
+    let n = written.unwrap_or(0);
+    put_len(len, code, n);
     written
 }

@@ -3,7 +3,6 @@
 ghost use Rattle.std.specs.Prelude.{◌≡◌, ◌*◌, get_or, set};
 ghost use Rattle.std.proofs.lemmas.List.Edits.{sets};
 ghost use Rattle.slices.specs.Bytes.{le, le_at};
-ghost use Rattle.errors.specs.Numbers.{code_of};
 ghost use Rattle.c_reading.specs.Stored.{stored};
 ghost use Rattle.c_words.specs.Record.{
   id_of,
@@ -19,7 +18,6 @@ ghost use Rattle.c_words.specs.Record.{
 };
 ghost use Rattle.c_words.specs.Writing.{clamped_call};
 
-use errors::Refusal;
 use memory::{Converter, State};
 use slices::{flag, is_set, load_u32, put, store_u32, word};
 
@@ -158,16 +156,16 @@ pub fn store(record: &mut [u32], c: Converter)
     put(record, 19, flag(c.open));
 }
 
-// Accepted calls store it, and those that a full table closed; no other refusal does.
-pub fn store_answer(record: &mut [u32], answer: Result<(), Refusal>, c: Converter)
-    ensures { «record».new ≡ kept (code_of answer) c «record».old }
+// Accepted calls and 17, a full table, store it; no other refusal does.
+#[tactic(auto, unfolding(crate::specs::Record::kept))]
+pub fn store_answer(record: &mut [u32], code: u32, c: Converter)
+    ensures { «record».new ≡ kept code c «record».old }
 {
-    match answer {
-        Ok(()) => store(record, c),
-        Err(refusal) => {
-            if refusal == Refusal::TableFull {
-                store(record, c);
-            }
-        }
+    if code == 0 {
+        store(record, c);
+        return;
+    }
+    if code == 17 {
+        store(record, c);
     }
 }

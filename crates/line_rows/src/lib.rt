@@ -68,18 +68,13 @@ fn put_line(unpacked64: &mut [u64], unpacked32: &mut [u32], j: usize, row: LineR
 }
 
 // All rows into the memory that is lent for them; nothing where the call is refused.
-pub fn unpack(
-    refused: Result<(), Refusal>,
-    lines: &[LineRow],
-    unpacked64: &mut [u64],
-    unpacked32: &mut [u32],
-)
-    ensures { (unpacked64.new ≡ unpacked_to (code_of refused) 3 words64 lines.now unpacked64.old)
-        × (unpacked32.new ≡ unpacked_to (code_of refused) 14 words32 lines.now unpacked32.old) }
+pub fn unpack(refused: u32, lines: &[LineRow], unpacked64: &mut [u64], unpacked32: &mut [u32])
+    ensures { (unpacked64.new ≡ unpacked_to refused 3 words64 lines.now unpacked64.old)
+        × (unpacked32.new ≡ unpacked_to refused 14 words32 lines.now unpacked32.old) }
 {
-    let Ok(()) = refused else {
+    if refused != 0 {
         return;
-    };
+    }
     for j in 0..lines.len() {
         put_line(&mut *unpacked64, &mut *unpacked32, j, lines[j]);
     }

@@ -1,5 +1,5 @@
-// What the converter keeps between calls: its record, which goes in and comes back by value, and the lent tables.
-// Which tables there are stands here: `State`, `Lengths`, `lent`, `zero_tables`, and `Memory` of specs/.
+// What the converter keeps between calls: its record, and the lent tables with how much of each is in use.
+// Which tables there are stands here: `State`, `Tables`, `Lent`, `Lengths`, `Lent::lengths`, `Tables::lengths`, `Tables::zero`, and `Memory` of specs/.
 #![tactic(auto)]
 
 ghost use Rattle.std.specs.Prelude.{◌≡◌, leb};
@@ -242,7 +242,7 @@ impl Converter {
     }
 }
 
-// A new converter: nothing is in use, and the lent tables are zero.
+// A new converter: its record has nothing in use, and the lent tables are zero. `tables.state` stays.
 #[tactic(auto, unfolding(crate::specs::Record::begin_of))]
 pub fn begin(
     debug_id: [u8; 32],
@@ -252,6 +252,7 @@ pub fn begin(
     tables: &mut Tables,
 ) -> Converter
     ensures same { SameTables tables.old tables.new }
+    ensures state { tables.new.state ≡ tables.old.state }
     ensures begun { (result, memory_of tables.new) ≡ begin_of debug_id arch undecorate_functions undecorate_symbols (memory_of tables.old) }
 {
     tables.zero();

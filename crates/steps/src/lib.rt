@@ -87,13 +87,20 @@ pub fn insert_range(tables: &mut Tables, start: u32, l: SourceLocation)
 }
 
 // Whether a start is vacant or holds the empty mapping.
-pub fn is_free(tables: &Tables, start: u32) -> bool
-    ensures { result ≡ free (get_of tables.now.ranges.now tables.now.state.ranges start) }
+pub fn is_free(ranges: &[u32], count: u32, start: u32) -> bool
+    ensures { result ≡ free (get_of ranges.now count start) }
 {
-    match tables::ranges::get(tables.ranges, tables.state.ranges, start) {
+    match tables::ranges::get(ranges, count, start) {
         Some(l) => l.is_no_source_location(),
         None => true,
     }
+}
+
+// The same of the lent tables, where so many ranges are in use.
+pub(crate) fn is_free_in(tables: &Tables, count: u32, start: u32) -> bool
+    ensures { result ≡ free (get_of tables.now.ranges.now count start) }
+{
+    is_free(tables.ranges, count, start)
 }
 
 // A location at a start that is vacant or holds the empty mapping: `insert_source_location`.
@@ -103,7 +110,8 @@ pub fn insert_source_location(tables: &mut Tables, start: u32, l: SourceLocation
         let before = words_of tables.old in
         words_of tables.new ≡ unless_held input (over_words X) start (put_range start l before) before }
 {
-    if is_free(tables, start) {
+    let count = tables.state.ranges;
+    if is_free_in(tables, count, start) {
         insert_range(tables, start, l);
     }
 }

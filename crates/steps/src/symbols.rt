@@ -7,7 +7,7 @@ ghost use Rattle.memory.specs.Memory.{SameTables, words_of};
 ghost use Rattle.steps.specs.Steps.{over_words};
 ghost use Rattle.steps.specs.Symbols.{switches, symbol_row_lem, symbol_put, end_put, named_row};
 
-use crate::{insert_end, insert_function, insert_range, insert_string, is_free, shown_name};
+use crate::{insert_end, insert_function, insert_range, insert_string, is_free_in, shown_name};
 use memory::Tables;
 use rows::OptionalPart;
 
@@ -19,7 +19,8 @@ fn insert_symbol(tables: &mut Tables, name_offset: u32, address: u32)
     ensures same { SameTables tables.old tables.new }
     ensures put { (X : Setup) → words_of tables.new ≡ symbol_put X name_offset address (words_of tables.old) }
 {
-    if is_free(tables, address) {
+    let count = tables.state.ranges;
+    if is_free_in(tables, count, address) {
         let function_idx = insert_function(tables, name_offset, address, u32::MAX);
         let location = raw::SourceLocation {
             file_idx: u32::MAX,

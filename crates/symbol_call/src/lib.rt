@@ -12,9 +12,10 @@ use memory::{Converter, State, Tables, fits, is_usable};
 use rows::OptionalPart;
 use steps::symbols::process_symbol;
 
-// Accepted, or 17: all tables zero, and closed.
+// Accepted, or 17: all tables zero, and closed. `tables.state` says what is in use of the tables, and stays.
 pub fn finish(converter: &mut Converter, tables: &mut Tables) -> Result<(), Refusal>
     ensures same { SameTables tables.old tables.new }
+    ensures state { tables.new.state ≡ tables.old.state }
     ensures left { (s : List ℕ) →
         called (code_of result) converter.new (memory_of tables.new) (zeros s) ≡ finished converter.old s (words_of tables.old) }
 {
@@ -27,7 +28,7 @@ pub fn finish(converter: &mut Converter, tables: &mut Tables) -> Result<(), Refu
     Err(Refusal::TableFull)
 }
 
-// A symbol. What is in use of the tables is what the record says.
+// A symbol. What is in use of the tables is what the record says; `tables.state` counts the steps, and is put back as it was.
 pub fn process_symbolic_symbol(
     converter: &mut Converter,
     tables: &mut Tables,
@@ -37,6 +38,7 @@ pub fn process_symbolic_symbol(
     name: OptionalPart,
 ) -> Result<(), Refusal>
     ensures same { SameTables tables.old tables.new }
+    ensures state { tables.new.state ≡ tables.old.state }
     ensures left { called (code_of result) converter.new (memory_of tables.new) []
         ≡ symbol_of converter.old (memory_of tables.old) text.now address size name }
 {
@@ -46,6 +48,7 @@ pub fn process_symbolic_symbol(
     if !refusals::optional(text, name) {
         return Err(Refusal::InvalidText);
     }
+    let held = tables.state;
     tables.state = converter.state;
     process_symbol(
         tables,
@@ -55,5 +58,7 @@ pub fn process_symbolic_symbol(
         size,
         name,
     );
-    finish(converter, tables)
+    let answer = finish(converter, tables);
+    tables.state = held;
+    answer
 }

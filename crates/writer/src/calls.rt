@@ -13,7 +13,8 @@ use rows::{FunctionRows, LineRows};
 use slices::zero;
 use symbol_call::finish;
 
-// A tree: function rows in preorder, their line rows, and one lent text. What is in use of the tables is what the record says.
+// A tree: function rows in preorder, their line rows, and one lent text. What is in use of the tables is what the record says; `tables.state` counts
+// the steps, and is put back as it was.
 pub fn process_symbolic_function(
     converter: &mut Converter,
     tables: &mut Tables,
@@ -23,6 +24,7 @@ pub fn process_symbolic_function(
     text: &[u8],
 ) -> Result<(), Refusal>
     ensures same { SameTables tables.old tables.new }
+    ensures state { tables.new.state ≡ tables.old.state }
     ensures left { called (code_of result) converter.new (memory_of tables.new) scratch.new
         ≡ tree_of converter.old (memory_of tables.old) scratch.old (columns_of functions.entry lines.entry text.now) }
 {
@@ -30,6 +32,7 @@ pub fn process_symbolic_function(
         return Err(Refusal::Closed);
     }
     refusals::refusal(functions, lines, text, scratch.len())?;
+    let held = tables.state;
     tables.state = converter.state;
     process_rows(
         tables,
@@ -41,5 +44,7 @@ pub fn process_symbolic_function(
     );
     zero(scratch);
     *converter = converter.with_clamped(lines.clamped());
-    finish(converter, tables)
+    let answer = finish(converter, tables);
+    tables.state = held;
+    answer
 }

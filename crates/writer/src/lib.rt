@@ -1,4 +1,4 @@
-// The converter: writer.rs, `SymCacheConverter`, over lent tables. Its record goes in and comes back by value.
+// The converter: writer.rs, `SymCacheConverter`, over lent tables. Its record is lent too, and changed in place.
 #![tactic(auto)]
 
 mod ahead;

@@ -10,4 +10,4 @@ returns-clause-left c =
     let a = c.args in
     let call = c.process_symbolic_function-answer in
     tree_law a.«record».now (memory_of a.tables.now) a.scratch.now (columns_of a.functions a.lines a.text.now) (code_of call.result) call.new.converter
-    (memory_of call.new.tables) call.new.scratch c.load-converter.ensures call.ensures.left c.store_answer.ensures
+    (memory_of call.new.tables) call.new.scratch c.load-converter.ensures call.ensures.left (rw c.code_of.ensures at c.store_answer.ensures)

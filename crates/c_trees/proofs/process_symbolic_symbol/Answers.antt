@@ -9,4 +9,4 @@ returns-clause-left c =
     let a = c.args in
     let call = c.process_symbolic_symbol-answer in
     symbol_law a.«record».now (memory_of a.tables.now) a.text.now a.address a.size a.name (code_of call.result) call.new.converter (memory_of call.new.tables)
-    c.load-converter.ensures call.ensures.left c.store_answer.ensures
+    c.load-converter.ensures call.ensures.left (rw c.code_of.ensures at c.store_answer.ensures)

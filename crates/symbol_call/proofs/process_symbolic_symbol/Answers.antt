@@ -19,4 +19,4 @@ pub returns-clause-left : goal.returns-clause-left
 returns-clause-left c =
     let a = c.args in
     symbol-taken a.converter.now (memory_of a.tables.now) a.text.now a.address a.size a.name c.lengths.ensures c.is_usable.ensures
-    c.if-not-is_usable.false c.optional.ensures c.if-not-optional.false (c.process_symbol.ensures.converted a.converter.now.undecorate_functions) (c.finish.ensures.left [])
+    c.if-not-is_usable.false c.optional.ensures c.if-not-optional.false (c.process_symbol.ensures.converted a.converter.now.undecorate_functions) (c.finish-answer.ensures.left [])

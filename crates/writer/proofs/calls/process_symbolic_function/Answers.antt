@@ -28,4 +28,4 @@ returns-clause-left c =
     let a = c.args in
     tree-taken a.converter.now (memory_of a.tables.now) a.scratch.now (columns_of a.functions a.lines a.text.now) c.lengths.ensures c.is_usable.ensures c.if-not-is_usable.false
     c.in_ok-refusal.ensures refl (c.process_rows.ensures.converted a.converter.now.undecorate_symbols) c.process_rows.new.s c.process_rows.auto.s c.zero.ensures
-    c.clamped.ensures c.with_clamped.ensures (c.finish.ensures.left a.scratch.now)
+    c.clamped.ensures c.with_clamped.ensures (c.finish-answer.ensures.left a.scratch.now)
