@@ -5,12 +5,13 @@ ghost use Rattle.tables.specs.Table.{left};
 ghost use Rattle.tables.specs.Ranges.{range_row_lem};
 ghost use Rattle.journal.specs.Undo.{set_entry, note_of, note_was, put_noted_of, put_marked_of, journaled, undo_entry, undo_at, undone_ranges, undone};
 
-use crate::undo::{By, take_off};
+use crate::undo::{By, take_off_by};
 use raw::SourceLocation;
 use slices::word;
+use tables::Row;
+use tables::keys::Key;
 use tables::kinds::RangeRow;
 use tables::ranges::{Change, Was};
-use tables::{Key, Row};
 
 // The words of an entry, and the second of them.
 const ENTRY: usize = 8;
@@ -67,7 +68,7 @@ fn put_noted(
         start,
         location: loc,
     });
-    let i = tables::lookup(t, count, row, Key::First).unwrap_or(count);
+    let i = tables::find(t, count, row, Key::First).unwrap_or(count);
     let old = tables::row_at(t, i);
     let change = tables::ranges::put(t, count, start, loc);
     let was = change.was;
@@ -138,7 +139,7 @@ fn undo_entry(t: &mut [u32], i: u32, v: u32, old: Row)
     ensures { t.new ≡ undo_entry t.old i v old }
 {
     match v {
-        ADDED => take_off(t, i, By::Key(Key::First)),
+        ADDED => take_off_by(t, i, By::Key(Key::First)),
         CHANGED => tables::set_row(t, i, old),
         _ => {}
     }

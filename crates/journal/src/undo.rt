@@ -3,8 +3,12 @@ ghost use Rattle.std.specs.Prelude.{◌≡◌};
 ghost use Rattle.journal.specs.Undo.{width_by, row_hash_of, undo_of, off_of, undone_to, cut_to};
 
 use slices::put;
+use tables::Row;
+use tables::keys::Key;
 use tables::kinds::IndexedText;
-use tables::{Key, Row};
+
+// The width of the index of texts: its rows are found by their hash.
+const TEXT: u32 = 4;
 
 // What the rows of a table are found by: their key, as those of ranges and of index sets, or the text that they stand for.
 #[derive(Clone, Copy, PartialEq, Eq)]
@@ -13,12 +17,32 @@ pub enum By {
     Text,
 }
 
-// Of `count` rows the newest are taken off until `to` are left.
-pub fn undo_rows(t: &mut [u32], count: u32, to: u32, by: By)
+impl By {
+    // What rows are found by at a width: 6 for an index set, 1 for ranges, 4 for the index of texts. Any other is as 6.
+    pub fn of(width: u32) -> By
+        ensures { row_hash_of (width_by result) ≡ row_hash_of width }
+    {
+        if width == TEXT {
+            By::Text
+        } else {
+            By::Key(Key::by(width))
+        }
+    }
+}
+
+// Of `count` rows the newest are taken off until `to` are left. The width is 6 for an index set, 1 for ranges, 4 for the index of texts.
+pub fn undo_rows(t: &mut [u32], count: u32, to: u32, width: u32)
+    ensures { t.new ≡ undone_to width to t.old count }
+{
+    undo_rows_by(t, count, to, By::of(width));
+}
+
+// The same, by what the rows are found by.
+pub fn undo_rows_by(t: &mut [u32], count: u32, to: u32, by: By)
     ensures { t.new ≡ undone_to (width_by by) to t.old count }
 {
     for n in (to..count).rev() {
-        take_off(t, n, by);
+        take_off_by(t, n, by);
     }
 }
 
@@ -35,7 +59,7 @@ pub fn undo_strings(
         × (strings.new ≡ undone_to 4 to_count strings.old count) }
 {
     cut(text, to_bytes, bytes);
-    undo_rows(strings, count, to_count, By::Text);
+    undo_rows_by(strings, count, to_count, By::Text);
 }
 
 // The bytes from `to` to n become 0.
@@ -49,9 +73,16 @@ fn cut(text: &mut [u8], to: u32, n: u32)
     }
 }
 
-// Row n is taken off, where there is room for one.
+// Row n is taken off, where there is room for one. The width is as for `undo_rows`.
+pub fn take_off(t: &mut [u32], n: u32, width: u32)
+    ensures { t.new ≡ off_of width t.old n }
+{
+    take_off_by(t, n, By::of(width));
+}
+
+// The same, by what the rows are found by.
 #[tactic(auto, unfolding(crate::specs::Undo::off_of))]
-pub fn take_off(t: &mut [u32], n: u32, by: By)
+pub fn take_off_by(t: &mut [u32], n: u32, by: By)
     ensures { t.new ≡ off_of (width_by by) t.old n }
 {
     let cap = tables::capacity(t);

@@ -1,12 +1,13 @@
 -- Laws of `walk`: where it ends, and what one turn of the loop does.
 use Prim.Native.Nat.{ℕ, zero, suc, ◌-◌, ◌<◌, ◌≤◌}
-use mathlib.Core.Path.{◌≡◌, refl, sym, ◌∙◌}
+use mathlib.Core.Path.{◌≡◌, refl, sym, ap, ◌∙◌}
 use mathlib.Core.List.{List}
 use mathlib.Core.Bool.{Bool, true, false, cond}
 use native.Mathlib.Omega.{arith}
 use lib.Dec.{eqb}
 use borrow.Author.Tests.{eq-eqb, ne_eqb, eqb-true, eqb-false}
-use Rattle.tables.specs.Table.{walk, link_at, hit_at, key_of, newest_of, lookup_of}
+use lib.ListN.{length}
+use Rattle.tables.specs.Table.{walk, capacity_of, row_at, link_at, head_at, bucket_of, key_of, same_row, hash_of, hit_at, newest_of, lookup_of}
 use Rattle.tables.specs.declared.Row.{Row}
 
 le_step : {l i : ℕ} → (l ≡ suc i → ⊥) → l ≤ suc i → l ≤ i
@@ -71,3 +72,14 @@ module _ (link : ℕ → ℕ) (hit : ℕ → Bool) (d : ℕ) where
 pub lookup_most : (w : ℕ) (t : List ℕ) (n : ℕ) (q : Row) → lookup_of w t n q ≤ n
 unfolding lookup_of
 lookup_most w t n q = walk_most (link_at t) (hit_at t w (key_of w q)) n n (newest_of w t q) (let p : n ≤ n = omega arith in p)
+
+-- a row is looked for by what of it is compared, and by nothing else of a width
+abbrev looked : (Row → Row) → List ℕ → ℕ → Row → ℕ
+looked f t n q = walk (link_at t) (λ i. same_row (f (row_at t i)) (f q)) n n (head_at (capacity_of (length t)) t (bucket_of (hash_of (f q)) (capacity_of (length t))))
+
+looked-is : (w : ℕ) (t : List ℕ) (n : ℕ) (q : Row) → lookup_of w t n q ≡ looked (key_of w) t n q
+unfolding lookup_of hit_at newest_of
+looked-is w t n q = refl
+
+pub lookup_same : (w v : ℕ) → key_of w ≡ key_of v → (t : List ℕ) (n : ℕ) (q : Row) → lookup_of w t n q ≡ lookup_of v t n q
+lookup_same w v e t n q = looked-is w t n q ∙ ap (λ (f : Row → Row). looked f t n q) e ∙ sym (looked-is v t n q)

@@ -5,8 +5,8 @@ use Rattle.std.specs.Prelude.{ℕ, zero, suc, ◌+◌, ◌*◌, ◌/◌, ◌%◌
 use Rattle.std.specs.Prelude.{Option, Some, None}
 use Rattle.std.proofs.lemmas.List.Edits.{sets}
 use Rattle.tables.specs.declared.Row.{Row}
-use Rattle.tables.specs.declared.Key.{Key}
-use Rattle.tables.specs.declared.Key.TheVariants.{First, Whole}
+use Rattle.tables.specs.declared.keys.Key.{Key}
+use Rattle.tables.specs.declared.keys.Key.TheVariants.{First, Whole}
 use Rattle.tables.specs.declared.Inserted.{Inserted}
 
 -- ── Rows ───────────────────────────────────────────────────────────────────────────────────────────────────────────────

@@ -2,7 +2,8 @@
 ghost use Rattle.std.specs.Prelude.{◌≡◌};
 ghost use Rattle.tables.specs.Table.{newest_of, insert_of, left};
 
-use crate::{Inserted, Key, Row};
+use crate::keys::Key;
+use crate::{Inserted, Row};
 
 // The number of the row equal to `row`, which is appended where there is none.
 pub fn insert_full(t: &mut [u32], count: u32, row: Row) -> Inserted

@@ -11,9 +11,11 @@ ghost use Rattle.std.proofs.lemmas.List.Edits.{sets};
 ghost use Rattle.tables.specs.Table.{max_rows, capacity_of, words_at, row_words, row_of, row_at, set_row, link_at, head_at, head_of, append_of};
 ghost use Rattle.tables.specs.Table.{over_of, push_of, bucket_of, walk, width_of, key_of, hash_of, hit_at, found_of, newest_of, lookup_of, insert_of, left};
 
+use keys::Key;
 use slices::{put, word};
 
 pub mod index_set;
+pub mod keys;
 pub mod kinds;
 pub mod ranges;
 
@@ -27,12 +29,8 @@ pub const ROW: usize = 7;
 
 pub const LINK: usize = 6;
 
-// What of a row is compared: its first word alone, or all of it.
-#[derive(Clone, Copy, PartialEq, Eq)]
-pub enum Key {
-    First,
-    Whole,
-}
+// The width at which the first word of a row alone is compared; at any other all of it is.
+pub const FIRST: u32 = 1;
 
 // The six words of a row.
 #[derive(Clone, Copy, Default, PartialEq, Eq)]
@@ -187,20 +185,11 @@ pub fn push(t: &mut [u32], n: u32, row: Row, hash: u32) -> u32
     over(t, n)
 }
 
-impl Key {
-    // The words of a row that are compared, and 0 in place of the others.
-    #[tactic(auto, unfolding(crate::specs::Table::key_of))]
-    pub fn of(self, row: Row) -> Row
-        ensures { result ≡ key_of (width_of self) row }
-    {
-        match self {
-            Key::First => Row {
-                a: row.a,
-                ..Row::default()
-            },
-            Key::Whole => row,
-        }
-    }
+// What of a row is compared: its first word alone where the width is that, else all of it.
+pub fn key(row: Row, width: u32) -> Row
+    ensures { result ≡ key_of width row }
+{
+    Key::by(width).of(row)
 }
 
 // The words by factors that no power of two divides, modulo a prime. Of the first word its block of 4,096 counts there, and its place in the block is added by
@@ -272,11 +261,18 @@ fn newest(t: &[u32], row: Row, key: Key) -> u32
 
 // The number of the row with the key of `row` among the first n.
 #[tactic(auto, unfolding(crate::specs::Table::lookup_of))]
-pub fn lookup(t: &[u32], n: u32, row: Row, key: Key) -> Option<u32>
+pub fn find(t: &[u32], n: u32, row: Row, key: Key) -> Option<u32>
     ensures { result ≡ found_of n (lookup_of (width_of key) t.now n row) }
 {
     let words = key.of(row);
     follow(t, n, newest(t, row, key), &Keyed { key, words })
+}
+
+// The same by a width; n where there is none.
+pub fn lookup(t: &[u32], n: u32, row: Row, width: u32) -> u32
+    ensures { result ≡ lookup_of width t.now n row }
+{
+    find(t, n, row, Key::by(width)).unwrap_or(n)
 }
 
 // The number of the row with the key of `row`, which is appended where there is none. With no room nothing is written, and the count is capacity + 1.

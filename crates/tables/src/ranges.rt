@@ -3,8 +3,9 @@ ghost use Rattle.std.specs.Prelude.{◌≡◌};
 ghost use Rattle.tables.specs.Table.{newest_of, left};
 ghost use Rattle.tables.specs.Ranges.{start_row_lem, get_of, put_of, replace_of, range_row_lem};
 
+use crate::Row;
+use crate::keys::Key;
 use crate::kinds::{RangeRow, start_row};
-use crate::{Key, Row};
 use raw::SourceLocation;
 
 // What a start held before it was put.
@@ -35,7 +36,7 @@ pub fn newest(t: &[u32], start: u32) -> u32
 pub fn get(t: &[u32], count: u32, start: u32) -> Option<SourceLocation>
     ensures { result ≡ get_of t.now count start }
 {
-    let i = crate::lookup(t, count, start_row(start), Key::First)?;
+    let i = crate::find(t, count, start_row(start), Key::First)?;
     Some(RangeRow::from(crate::row_at(t, i)).location)
 }
 

@@ -22,4 +22,4 @@ pub returns : goal.returns
 returns c =
     let a = c.args in
     law a.t.now a.count a.journal.now a.entries (range_row_lem a.start a.loc) {x = left c.put-change.result c.put-change.new.t} {y = left c.note_was-noted.result c.note_was-noted.new.journal}
-    c.from-row.ensures (c.unwrap_or-i.ensures ∙ ap (λ x. unwrap_or x a.count) c.lookup.ensures ∙ or_found a.count (lookup_of 1 a.t.now a.count c.from-row.result) (lookup_most 1 a.t.now a.count c.from-row.result)) c.row_at-old.ensures c.put-change.ensures c.note_was-noted.ensures
+    c.from-row.ensures (c.unwrap_or-i.ensures ∙ ap (λ x. unwrap_or x a.count) c.find.ensures ∙ or_found a.count (lookup_of 1 a.t.now a.count c.from-row.result) (lookup_most 1 a.t.now a.count c.from-row.result)) c.row_at-old.ensures c.put-change.ensures c.note_was-noted.ensures
