@@ -6,7 +6,7 @@ ghost use Rattle.std.specs.Prelude.{◌≤◌, length};
 
 use input_lines::Input;
 use listing::Listing;
-use replay::{place, word};
+use replay::{Visit, place, word};
 use std::fs;
 
 // A file, an input, and what is to be printed of it.
@@ -161,10 +161,24 @@ fn replay_case(rt: &impl Print, s: &[u8]) {
     tally.print(rt);
 }
 
+// The cases of the data file, a line for each.
+#[derive(Drop)]
+struct Cases<'a, R> {
+    rt: &'a R,
+}
+
+impl<R: Print> Visit for Cases<'_, R> {
+    ghost visits = { λ _ _ _. Unit {0} };
+
+    fn visit(&mut self, record: &[u8]) {
+        replay_case(self.rt, record);
+    }
+}
+
 fn main(rt: HostRuntime) {
     let Ok(mut from) = fs::open(&rt, "listing.cases") else {
         return;
     };
     let mut record = [0u8; 65536];
-    replay::each_record(&mut from, &mut record, |case| replay_case(&rt, case));
+    replay::each_record(&mut from, &mut record, &mut Cases { rt: &rt });
 }

@@ -1,11 +1,12 @@
--- How long each printed line is, and that its bytes are what is stored in a line of line feeds, field by field.
+-- How long each printed line is, that nothing changes where it has no room, and that its bytes are what is stored in a line of line feeds, field by field.
 use Prim.Native.Nat.{ℕ, ◌+◌}
 use mathlib.Core.Path.{◌≡◌, refl}
 use mathlib.Core.List.{List, [], ◌∷◌, ◌++◌}
 use native.Mathlib.Omega.{arith}
 use lib.ListN.{length, length-append, replicate}
 use lib.Seq.{sets}
-use Rattle.printed_lines.specs.Printed.{hex_field, spaced, frame_line_lem, no_frame_line, bad_line}
+use Rattle.std.specs.Prelude.{false, leb}
+use Rattle.printed_lines.specs.Printed.{hex_field, spaced, frame_line_lem, no_frame_line, bad_line, wrote_line, put_line}
 use Rattle.printed_lines.proofs.Runs.{Filled, blank, next, hex_length, spaced-length}
 
 -- ---- lengths
@@ -20,6 +21,11 @@ no_frame-length a = simp (length-append, hex_length, spaced-length)
 pub bad-length : (n : ℕ) → length (bad_line n) ≡ 11
 unfolding bad_line
 bad-length n = simp (length-append, spaced-length)
+
+-- ---- room
+pub no-room : (s line : List ℕ) (at n : ℕ) → length line ≡ n → leb (at + n) (length s) ≡ false → wrote_line at s ≡ put_line s at line
+unfolding put_line
+no-room s line at n e h = rw (e, h)
 
 -- ---- bytes
 field : {vs s s' : List ℕ} {n : ℕ} (v at m : ℕ) → Filled vs s n → at ≡ length vs → n ≡ 9 + m → s' ≡ sets s at (spaced v) → Filled (vs ++ spaced v) s' m

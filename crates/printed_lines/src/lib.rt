@@ -36,7 +36,7 @@ fn put_spaced(out: &mut [u8], at: usize, value: u32)
 }
 
 // Each of the following prints a line to `out` from `at` on and answers the place after it. Where the line has no
-// room, nothing changes and the answer is `at`.
+// room, nothing changes and the answer is `at`; the four below test that before they make the line.
 
 // A line of any bytes.
 fn put_line(out: &mut [u8], at: usize, line: &[u8]) -> usize
@@ -62,6 +62,9 @@ pub fn frame_line(
 ) -> usize
     ensures { wrote_line result out.new ≡ put_line out.old at (frame_line_lem address number location function line file) }
 {
+    if !inside(out, at, 62) {
+        return at;
+    }
     let mut bytes = [b'\n'; 62];
     put_hex(&mut bytes, 0, address, 16);
     put_spaced(&mut bytes, 16, number);
@@ -76,6 +79,9 @@ pub fn frame_line(
 pub fn no_frame_line(out: &mut [u8], at: usize, address: u64) -> usize
     ensures { wrote_line result out.new ≡ put_line out.old at (no_frame_line address) }
 {
+    if !inside(out, at, 26) {
+        return at;
+    }
     let mut bytes = [b'\n'; 26];
     put_hex(&mut bytes, 0, address, 16);
     put_spaced(&mut bytes, 16, u32::MAX);
@@ -86,6 +92,9 @@ pub fn no_frame_line(out: &mut [u8], at: usize, address: u64) -> usize
 pub fn bad_line(out: &mut [u8], at: usize, number: u32) -> usize
     ensures { wrote_line result out.new ≡ put_line out.old at (bad_line number) }
 {
+    if !inside(out, at, 11) {
+        return at;
+    }
     let mut bytes = [b'\n'; 11];
     bytes[0] = b'?';
     put_spaced(&mut bytes, 1, number);
@@ -96,6 +105,9 @@ pub fn bad_line(out: &mut [u8], at: usize, number: u32) -> usize
 pub fn refused_line(out: &mut [u8], at: usize, number: u32) -> usize
     ensures { wrote_line result out.new ≡ put_line out.old at (refused_line number) }
 {
+    if !inside(out, at, 11) {
+        return at;
+    }
     let mut bytes = *b"REFUSED 00\n";
     bytes[8] += (number / 10 % 10) as u8;
     bytes[9] += (number % 10) as u8;

@@ -128,6 +128,9 @@ fn number(w: &[u8]) -> Option<u64> {
     Some(v)
 }
 
+// The last word of a case, the one of `named` at 63: it isn't 0 for a case that is `nested`.
+const NESTED: usize = 383;
+
 // `begun` is how much of each slice is lent to the calls before the one under test, `lent` how much to that one. `words` are what a call is given.
 // `slice`, `mode` and `index` say what the next number of the line stands for.
 #[derive(Clone, Copy)]
@@ -136,7 +139,6 @@ pub(crate) struct Case {
     pub first: bool,
     pub whole: bool,
     pub closed: bool,
-    nested: bool,
     begun: [usize; 14],
     lent: [usize; 14],
     words: [u64; 384],
@@ -151,7 +153,6 @@ impl Case {
         first: false,
         whole: false,
         closed: false,
-        nested: false,
         begun: [0; 14],
         lent: [0; 14],
         words: [0; 384],
@@ -182,7 +183,7 @@ impl Case {
         match slice.place(i) {
             Some(at) => self.words[at],
             None if slice == Slice::Functions32 && i % 8 == 0 => {
-                if self.nested { (i / 8) as u64 } else { 1 }
+                if self.words[NESTED] != 0 { (i / 8) as u64 } else { 1 }
             }
             None => 0,
         }
@@ -229,7 +230,7 @@ impl Case {
             Word::First => self.first = true,
             Word::Whole => self.whole = true,
             Word::Closed => self.closed = true,
-            Word::Nested => self.nested = true,
+            Word::Nested => self.words[NESTED] = 1,
         }
         self
     }

@@ -134,10 +134,13 @@ fn run_line(rt: &impl Print, file: &[u8], base: Case, line: &[u8]) -> Case {
     base
 }
 
+// Each line ends with 0A. What comes after the last 0A is no line.
 fn run_lines(rt: &impl Print, file: &[u8], s: &[u8]) {
     let mut base = Case::BLANK;
-    for line in s.split(|b| *b == b'\n') {
-        base = run_line(rt, file, base, line);
+    for line in s.split_inclusive(|b| *b == b'\n') {
+        if let Some(line) = line.strip_suffix(b"\n") {
+            base = run_line(rt, file, base, line);
+        }
     }
 }
 

@@ -1,7 +1,7 @@
 // What the programs share that replay stored cases: reading a data file, numbers in its bytes, and the checksum of a case (oracle/FORMAT.md).
 #![tactic(auto)]
 
-ghost use Rattle.std.specs.Prelude.{◌≡◌, ◌+◌, ◌*◌, ◌%◌, ◌≤◌, length, IfSome};
+ghost use Rattle.std.specs.Prelude.{◌≡◌, ℕ, ◌+◌, ◌*◌, ◌%◌, ◌≤◌, List, length, IfSome};
 ghost use Rattle.replay.specs.Counts.{IsPrefixLen, Visited};
 ghost use Rattle.slices.specs.Bytes.{le_at};
 ghost use Rattle.replay.specs.Sums.{sum_with, sum_with_all, sum_digit, sum_line};
@@ -65,17 +65,25 @@ pub fn read_record<F: Read>(from: &mut F, to: &mut [u8]) -> Option<usize>
     Some(read_body(from, to, n))
 }
 
-// Gives the records of a container to `visit`, one after the other, each in `to`, and answers how many there were. Nothing says that a container ends, so
+// What is done with each record of a container.
+pub trait Visit {
+    // from the state before a record to the state after it
+    ghost visits: { Self → List ℕ → Self → Type 0 };
+
+    fn visit(&mut self, record: &[u8])
+        ensures { visits self.old record.now self.new };
+}
+
+// Gives the records of a container to `visitor`, one after the other, each in `to`, and answers how many there were. Nothing says that a container ends, so
 // they are counted.
-pub fn each_record<R: Read, F: FnMut(&[u8])>(from: &mut R, to: &mut [u8], mut visit: F) -> u32
-    requires callable { F.IsAlwaysCallable visit }
-    ensures { (last : F) × Visited (λ p x q. F.step p x tt q) visit result last }
+pub fn each_record<R: Read, V: Visit>(from: &mut R, to: &mut [u8], visitor: &mut V) -> u32
+    ensures { Visited V.visits visitor.old result visitor.new }
 {
     for count in 0..u32::MAX {
         let Some(n) = read_record(from, to) else {
             return count;
         };
-        visit(&to[..n]);
+        visitor.visit(&to[..n]);
     }
     u32::MAX
 }

@@ -3,7 +3,7 @@
 
 use lookup::{Files, Frame, Functions, NextFile, NextFunction, SourceLocations, Step};
 use raw::{File, Function, Header, SourceLocation, Stored};
-use replay::{add, add_bytes, low, number, place, word};
+use replay::{Visit, add, add_bytes, low, number, place, word};
 use std::fs;
 use symcache::{ErrorKind, SymCache};
 
@@ -296,10 +296,24 @@ fn replay_case(rt: &impl Print, record: &[u8]) {
     let _ = rt.write_all(&line);
 }
 
+// The cases of the data file, a line for each.
+#[derive(Drop)]
+struct Cases<'a, R> {
+    rt: &'a R,
+}
+
+impl<R: Print> Visit for Cases<'_, R> {
+    ghost visits = { λ _ _ _. Unit {0} };
+
+    fn visit(&mut self, record: &[u8]) {
+        replay_case(self.rt, record);
+    }
+}
+
 fn main(rt: HostRuntime) {
     let Ok(mut from) = fs::open(&rt, "reader.cases") else {
         return;
     };
     let mut record = [0u8; 16384];
-    replay::each_record(&mut from, &mut record, |case| replay_case(&rt, case));
+    replay::each_record(&mut from, &mut record, &mut Cases { rt: &rt });
 }

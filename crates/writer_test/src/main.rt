@@ -4,7 +4,7 @@
 use errors::{Refusal, code_of};
 use memory::{Converter, State, Tables};
 use raw::{Header, Stored};
-use replay::{add, add_bytes, low, number, place, word};
+use replay::{Visit, add, add_bytes, low, number, place, word};
 use rows::{FunctionRows, LineRows, OptionalPart, TextPart};
 use std::fs;
 
@@ -160,6 +160,21 @@ impl Replay<'_> {
     }
 }
 
+// The records of the data file, and where the lines are printed.
+#[derive(Drop)]
+struct Records<'a, R> {
+    rt: &'a R,
+    replay: Replay<'a>,
+}
+
+impl<R: Print> Visit for Records<'_, R> {
+    ghost visits = { λ _ _ _. Unit {0} };
+
+    fn visit(&mut self, record: &[u8]) {
+        self.replay.step(self.rt, record);
+    }
+}
+
 fn main(rt: HostRuntime) {
     let Ok(mut from) = fs::open(&rt, "converter.cases") else {
         return;
@@ -180,11 +195,11 @@ fn main(rt: HostRuntime) {
         ranges: &mut ranges,
     };
     let converter = memory::begin([0; 32], 0, false, false, &mut tables);
-    let mut replay = Replay {
+    let replay = Replay {
         converter,
         tables,
         sum: replay::START,
     };
     let mut record = [0u8; 16384];
-    replay::each_record(&mut from, &mut record, |call| replay.step(&rt, call));
+    replay::each_record(&mut from, &mut record, &mut Records { rt: &rt, replay });
 }
