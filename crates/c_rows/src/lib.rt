@@ -138,7 +138,7 @@ fn index_of(cursor: &[u32]) -> u32
     word(cursor, 0)
 }
 
-// The next function that has an entry, from the cursor on. (This and `files_next` stay two, since C calls each by its name.)
+// The next function that has an entry, from the cursor on. (This and `files_next` stay two, as the exported functions that call them.)
 #[tactic(auto, unfolding(c_reading::specs::Reading::functions_call))]
 pub fn functions_next(bytes: &[u8], cursor: &mut [u32], row: &mut [u32]) -> u32
     ensures { moved result cursor.new row.new ≡ functions_call bytes.now cursor.old row.old }

@@ -58,7 +58,7 @@ struct Left {
 }
 
 impl<'a> Starts<'a> {
-    // The start of range `i`: as `raw::range_at` reads it, with no test, for the search.
+    // The start of range `i`: as `raw::Range` is read, with no test, for the search.
     fn get(self, i: usize) -> u32
         requires { i < self.n }
         ensures { result ≡ start_at self.entry.bytes.now self.entry.at i }
