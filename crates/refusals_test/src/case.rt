@@ -183,7 +183,11 @@ impl Case {
         match slice.place(i) {
             Some(at) => self.words[at],
             None if slice == Slice::Functions32 && i % 8 == 0 => {
-                if self.words[NESTED] != 0 { (i / 8) as u64 } else { 1 }
+                if self.words[NESTED] != 0 {
+                    (i / 8) as u64
+                } else {
+                    1
+                }
             }
             None => 0,
         }
