@@ -157,14 +157,7 @@ pub fn process_unpacked(
         return refused;
     }
     code_of(convert_unpacked(
-        lines,
-        record,
-        tables,
-        scratch,
-        unpacked64,
-        unpacked32,
-        functions,
-        text,
+        lines, record, tables, scratch, unpacked64, unpacked32, functions, text,
     ))
 }
 
