@@ -71,8 +71,12 @@ pub struct NextFile {
 
 // What the search reads of a cache.
 fn tables_of(cache: SymCache) -> search::Tables
-    ensures { result ≡ record { source_locations = cache.source_locations; num_source_locations = cache.num_source_locations;
-        ranges = cache.ranges; num_ranges = cache.num_ranges } }
+    ensures { result ≡ record {
+      source_locations = cache.source_locations;
+      num_source_locations = cache.num_source_locations;
+      ranges = cache.ranges;
+      num_ranges = cache.num_ranges;
+    } }
 {
     search::Tables {
         source_locations: cache.source_locations,
