@@ -135,8 +135,34 @@ fn convert_unpacked(
     answer
 }
 
-// The same, unless it is refused: then the number is passed on, whatever it is.
+// The tree over the rows that were unpacked, unless it is refused.
 pub fn process_unpacked(
+    refused: Result<(), Refusal>,
+    lines: usize,
+    record: &mut [u32],
+    tables: &mut Tables,
+    scratch: &mut [u32],
+    unpacked64: &mut [u64],
+    unpacked32: &mut [u32],
+    functions: FunctionRows,
+    text: &[u8],
+) -> Result<(), Refusal>
+    ensures same { SameTables tables.old tables.new }
+    ensures state { tables.new.state ≡ tables.old.state }
+    ensures left { lines_left_lem (call_left (code_of result) «record».new (memory_of tables.new) scratch.new) unpacked64.new unpacked32.new
+        ≡ unpacked_call (code_of refused) lines «record».old (memory_of tables.old) scratch.old unpacked64.old unpacked32.old
+        functions.entry.columns64.now functions.entry.columns32.now text.now }
+{
+    match refused {
+        Ok(()) => convert_unpacked(
+            lines, record, tables, scratch, unpacked64, unpacked32, functions, text,
+        ),
+        Err(refusal) => Err(refusal),
+    }
+}
+
+// The same with numbers: what it is refused with is passed on, whatever it is.
+pub fn process_unpacked_by_code(
     refused: u32,
     lines: usize,
     record: &mut [u32],
@@ -202,3 +228,6 @@ pub fn process_symbolic_function_lines(
         text,
     )
 }
+
+#[cfg(test)]
+mod tests;

@@ -180,5 +180,5 @@ fn main(rt: HostRuntime) {
         return;
     };
     let mut record = [0u8; 65536];
-    replay::each_record(&mut from, &mut record, &mut Cases { rt: &rt });
+    replay::visit_records(&mut from, &mut record, &mut Cases { rt: &rt });
 }

@@ -76,7 +76,7 @@ pub trait Visit {
 
 // Gives the records of a container to `visitor`, one after the other, each in `to`, and answers how many there were. Nothing says that a container ends, so
 // they are counted.
-pub fn each_record<R: Read, V: Visit>(from: &mut R, to: &mut [u8], visitor: &mut V) -> u32
+pub fn visit_records<R: Read, V: Visit>(from: &mut R, to: &mut [u8], visitor: &mut V) -> u32
     ensures { Visited V.visits visitor.old result visitor.new }
 {
     for count in 0..u32::MAX {
@@ -84,6 +84,20 @@ pub fn each_record<R: Read, V: Visit>(from: &mut R, to: &mut [u8], visitor: &mut
             return count;
         };
         visitor.visit(&to[..n]);
+    }
+    u32::MAX
+}
+
+// The same with a closure in place of a `Visit`. It is called as often as there are records, so the caller has to know that it may be called.
+pub fn each_record<R: Read, F: FnMut(&[u8])>(from: &mut R, to: &mut [u8], mut visit: F) -> u32
+    requires callable { F.IsAlwaysCallable visit }
+    ensures { (last : F) × Visited (λ p x q. F.step p x tt q) visit result last }
+{
+    for calls in 0..u32::MAX {
+        let Some(n) = read_record(from, to) else {
+            return calls;
+        };
+        visit(&to[..n]);
     }
     u32::MAX
 }
@@ -165,3 +179,6 @@ pub fn sum_line(sum: u32) -> [u8; 9]
         10,
     ]
 }
+
+#[cfg(test)]
+mod tests;

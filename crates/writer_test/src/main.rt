@@ -201,5 +201,5 @@ fn main(rt: HostRuntime) {
         sum: replay::START,
     };
     let mut record = [0u8; 16384];
-    replay::each_record(&mut from, &mut record, &mut Records { rt: &rt, replay });
+    replay::visit_records(&mut from, &mut record, &mut Records { rt: &rt, replay });
 }

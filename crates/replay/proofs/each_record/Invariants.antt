@@ -2,5 +2,5 @@
 use Rattle.replay.specs.Counts.{Visited}
 use Rattle.replay.proofs.each_record.Given as goal
 
-abbrev pub invariant-loop-count : goal.invariant-loop-count
-invariant-loop-count g l = Visited g.V.Visit.visits l.initial.visitor l.count l.visitor
+abbrev pub invariant-loop-calls : goal.invariant-loop-calls
+invariant-loop-calls g l = goal.F-IsAlwaysCallable g l.visit × Visited (λ p x q. goal.F-step g p x tt q) l.fn.visit l.calls l.visit
