@@ -1,5 +1,5 @@
 -- Two numbers of 32 bits in eight bytes, little-endian.
-use Rattle.std.specs.Prelude.{ℕ, ◌+◌, ◌≤◌, ◌≡◌, List, [], ◌∷◌}
+use Rattle.std.specs.Prelude.{ℕ, ◌+◌, ◌≡◌, List, [], ◌∷◌}
 use Rattle.std.proofs.Common.{arith}
 use Rattle.slices.specs.Bytes.{le_at, bytes_at, word_bytes}
 use Rattle.slices.proofs.Bytes.{le_at-cut}
